@@ -1,0 +1,2 @@
+pub mod Table719
+pub mod Symbols

@@ -1,0 +1,3 @@
+pub mod CellTable
+pub mod Refusals
+pub mod Buffers

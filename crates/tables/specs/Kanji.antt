@@ -1,0 +1,99 @@
+-- What the two-byte sets read at a row and a cell, over a lent table of JIS X 0208. Rows and cells are counted from 1.
+use Prim.Native.Nat.{ℕ, _+_, _*_, _-_}
+use mathlib.Core.Bool.{Bool, true, false, cond, _&&_, _||_}
+use mathlib.Core.List.{List, [], _∷_}
+use mathlib.Core.Path.{_≡_, refl}
+use lib.Dec.{eqb, leb}
+use lib.ListN.{getD}
+use Rattle.addsym.specs.Symbols.{symbol}
+use Rattle.tables.specs.declared.Assignment.{Assignment}
+use Rattle.tables.specs.declared.Cell.{Cell}
+use Rattle.tables.specs.declared.Cell.the-variants.{Char, Undefined}
+use Rattle.tables.specs.declared.Place.{Place}
+use Rattle.tables.specs.declared.Place.the-variants.{At, Nowhere}
+
+-- a character, or 0 for a cell or a code that has none, as the code answers it
+unfoldable pub cellOf : ℕ → Cell
+cellOf c = cond (eqb c 0) Undefined (Char c)
+
+-- `NON_SPACING`: the seven combining marks (Table E-1)
+abbrev pub nonSpacing : List Assignment
+nonSpacing =
+    record { row = 1; cell = 13; character = 0x301 } ∷ record { row = 1; cell = 14; character = 0x300 }
+    ∷ record { row = 1; cell = 15; character = 0x308 } ∷ record { row = 1; cell = 16; character = 0x302 }
+    ∷ record { row = 1; cell = 17; character = 0x305 } ∷ record { row = 1; cell = 18; character = 0x332 }
+    ∷ record { row = 2; cell = 94; character = 0x20DD } ∷ []
+
+-- `KANJI_OVERRIDES`: the seven cells that the lent table does not decide (Annex E.1)
+abbrev pub kanjiOverrides : List Assignment
+kanjiOverrides =
+    record { row = 1; cell = 29; character = 0x2014 } ∷ record { row = 1; cell = 33; character = 0x301C }
+    ∷ record { row = 1; cell = 34; character = 0x2016 } ∷ record { row = 1; cell = 61; character = 0x2212 }
+    ∷ record { row = 1; cell = 81; character = 0xA2 } ∷ record { row = 1; cell = 82; character = 0xA3 }
+    ∷ record { row = 2; cell = 44; character = 0xAC } ∷ []
+
+-- the character that a list assigns to a cell, and x where it assigns none
+unfoldable pub assigned : List Assignment → ℕ → ℕ → ℕ → ℕ
+assigned [] row cell x = x
+assigned (a ∷ more) row cell x = cond (eqb (a .row) row && eqb (a .cell) cell) (a .character) (assigned more row cell x)
+
+-- `is_non_spacing`: "a mark is any of the seven characters"
+unfoldable pub isMark : List Assignment → ℕ → Bool
+isMark [] c = false
+isMark (a ∷ more) c = cond (eqb (a .character) c) true (isMark more c)
+
+-- the first cell of a list with a character, for the coding of a mark (`candidates` of encode.rs)
+unfoldable pub cellWith : List Assignment → ℕ → Place
+cellWith [] c = Nowhere
+cellWith (a ∷ more) c = cond (eqb (a .character) c) (At (a .row) (a .cell)) (cellWith more c)
+
+-- "row by row": the place of a cell in the lent table
+abbrev pub place : ℕ → ℕ → ℕ
+place row cell = (row - 1) * 94 + (cell - 1)
+
+-- a row and a cell from 1 to 94
+abbrev pub onGrid : ℕ → ℕ → Bool
+onGrid row cell = leb 1 row && leb row 94 && leb 1 cell && leb cell 94
+
+-- the lent table's number at a cell; 0 for an empty cell, past the table's end and off the grid
+unfoldable pub tableAt : List ℕ → ℕ → ℕ → ℕ
+tableAt t row cell = cond (onGrid row cell) (getD t (place row cell) 0) 0
+
+-- `jis_x0208`: "the seven overrides are then applied"
+unfoldable pub jisX0208At : List ℕ → ℕ → ℕ → ℕ
+unfolding tableAt assigned
+jisX0208At t row cell = assigned kanjiOverrides row cell (tableAt t row cell)
+
+-- "the row 90 gaps (45 to 63, 66 to 84)", which the Kanji set leaves undefined
+abbrev pub gap : ℕ → ℕ → Bool
+gap row cell = eqb row 90 && ((leb 45 cell && leb cell 63) || (leb 66 cell && leb cell 84))
+
+-- rows 90 to 94 of the Kanji set
+unfoldable pub kanjiSymbol : ℕ → ℕ → ℕ
+unfolding symbol
+kanjiSymbol row cell = cond (gap row cell) 0 (symbol row cell)
+
+-- `kanji` at a cell where the lent table has x: "the marks first, then the row 90 gaps, then rows 90 to 94 from addsym,
+-- then JIS X 0208"
+unfoldable pub kanjiOf : ℕ → ℕ → ℕ → ℕ
+unfolding assigned kanjiSymbol
+kanjiOf row cell x =
+    assigned nonSpacing row cell
+    (elim (leb 90 row && leb row 94) [
+      | true ↦ kanjiSymbol row cell
+      | false ↦ assigned kanjiOverrides row cell x
+    ])
+
+-- `kanji`: the character of the Kanji set at a cell, 0 where it has none
+unfoldable pub kanjiAt : List ℕ → ℕ → ℕ → ℕ
+unfolding tableAt kanjiOf
+kanjiAt t row cell = kanjiOf row cell (tableAt t row cell)
+
+-- Worked: the table's number, a mark over it, an override over it, a symbol of row 92, a gap of row 90, an empty cell
+-- past the table's end, off the grid; JIS X 0208 has an override and no mark.
+worked :
+    kanjiAt (0x3000 ∷ []) 1 1 ∷ kanjiAt [] 1 13 ∷ kanjiAt [] 1 29 ∷ kanjiAt [] 92 7 ∷ kanjiAt [] 90 66 ∷ kanjiAt [] 16 1 ∷ kanjiAt [] 1 95
+    ∷ jisX0208At [] 1 29 ∷ jisX0208At [] 1 13 ∷ []
+    ≡ 0x3000 ∷ 0x301 ∷ 0x2014 ∷ 0x5E74 ∷ 0 ∷ 0 ∷ 0 ∷ 0x2014 ∷ 0 ∷ []
+unfolding kanjiAt jisX0208At
+worked = refl

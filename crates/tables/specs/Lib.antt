@@ -1,0 +1,3 @@
+pub mod OneByte
+pub mod Kanji
+pub mod Reverse

@@ -1,0 +1,5 @@
+pub mod Stores
+pub mod Bytes
+pub mod Reading
+pub mod Texts
+pub mod Places
