@@ -1,0 +1,9 @@
+//! `compare bench`: the Rust and the subject on the same bytes.
+
+mod cases;
+mod side;
+mod table;
+
+pub use cases::{CASES, Case};
+pub use side::Side;
+pub use table::print;

@@ -1,0 +1,71 @@
+//! What is measured.
+
+use crate::call::{LONGEST, Rooms};
+use crate::inputs::bombs;
+use crate::titles;
+
+/// Inputs that are decoded one after another, under CharacterSize, with the Rust's table.
+pub struct Case {
+    pub name: &'static str,
+    pub initial: u32,
+    pub inputs: fn() -> Vec<Vec<u8>>,
+    pub rooms: Rooms,
+    /// How often the case is run to count its instructions.
+    pub passes: u32,
+}
+
+/// Three bytes of text for each byte that is read, so that little is filled with zeros: of the
+/// input, and of the macro bodies that its budget pays for.
+const TITLE: Rooms = Rooms { text: 256, issues: 64 };
+const PLAIN: Rooms = Rooms { text: 3 * LONGEST, issues: 64 };
+const MACROS: Rooms = Rooms { text: 3 * (65 * LONGEST + 4_096), issues: 4_096 };
+
+/// All cases.
+pub const CASES: [Case; 7] = [
+    Case { name: "titles", initial: 0, inputs: titles::all, rooms: TITLE, passes: 50 },
+    large("kanji", || vec![kanji()], PLAIN, 5),
+    large("kana", || vec![kana()], PLAIN, 5),
+    large("mixed", || vec![mixed()], PLAIN, 5),
+    large("macro-kana", || vec![bombs::called(&[0xA2; 65], LONGEST)], MACROS, 1),
+    large("macro-one-byte", || vec![bombs::chain(&[&[0xA2], &[0x21; 32]], LONGEST)], MACROS, 1),
+    large("macro-empty", || vec![bombs::chain(&[&[], &[0x21; 64]], LONGEST)], MACROS, 1),
+];
+
+/// One input of 64 KB, a caption.
+const fn large(
+    name: &'static str,
+    inputs: fn() -> Vec<Vec<u8>>,
+    rooms: Rooms,
+    passes: u32,
+) -> Case {
+    Case { name, initial: 1, inputs, rooms, passes }
+}
+
+/// The first level's kanji, rows 16 to 47, over and over.
+fn kanji() -> Vec<u8> {
+    let cells = |row: u8| (1..=if row == 47 { 51 } else { 94 }).map(move |cell: u8| (row, cell));
+    let level = (16..=47).flat_map(cells).flat_map(|(row, cell)| [row + 0x20, cell + 0x20]);
+    level.cycle().take(LONGEST - 1).collect()
+}
+
+/// Hiragana in GR, over and over.
+fn kana() -> Vec<u8> {
+    (0xA1..=0xF3).cycle().take(LONGEST).collect()
+}
+
+/// Lines as a caption has them: colours, sizes, kanji, kana, katakana by designation, letters by
+/// LS1, an additional symbol, a repeat, a mark, a newline.
+fn mixed() -> Vec<u8> {
+    let line: &[&[u8]] = &[
+        &[0x87, 0x90, 0x51, 0x8A],
+        &[0x46, 0x7C, 0x4B, 0x5C, 0xCE, 0x45, 0x37, 0x35, 0x24, 0xC7, 0xB9],
+        &[0x1B, 0x29, 0x31, 0x0E, 0x46, 0x6C, 0x53, 0x0F],
+        &[0x1B, 0x29, 0x4A, 0x89, 0x0E, 0x31, 0x32, 0x3A, 0x30, 0x30, 0x20, 0x0F, 0x8A],
+        &[0x1B, 0x24, 0x3B, 0x7A, 0x56, 0x1B, 0x24, 0x42],
+        &[0x83, 0x8B, 0x60, 0xAB, 0xE9, 0x8A, 0x98, 0x43, 0xFE, 0x21, 0x2D, 0xA2],
+        &[0x9D, 0x20, 0x41, 0x9B, 0x33, 0x3B, 0x34, 0x20, 0x61],
+        &[0x20, 0x0D],
+    ];
+    let line = line.concat();
+    line.repeat(LONGEST / line.len())
+}

@@ -1,0 +1,93 @@
+//! A call of decoding: what it is given, and what 01 says of its answer.
+
+use crate::model::{self, Reading};
+
+/// How many numbers a cell table has.
+pub const CELLS: usize = 94 * 94;
+/// The longest input that question 3 lets through.
+pub const LONGEST: usize = 65_535;
+
+/// What a call is given, its buffers aside.
+#[derive(Clone, Copy)]
+pub struct Call<'a> {
+    pub cells: &'a [u16],
+    pub initial: u32,
+    pub width: u32,
+    pub input: &'a [u8],
+}
+
+/// The lengths of the lent buffers: bytes of text, numbers of issues.
+#[derive(Debug, Clone, Copy, Default, PartialEq, Eq)]
+pub struct Rooms {
+    pub text: usize,
+    pub issues: usize,
+}
+
+/// All four pairs of options.
+pub const OPTIONS: [(u32, u32); 4] = [(0, 0), (0, 1), (1, 0), (1, 1)];
+
+impl<'a> Call<'a> {
+    /// Questions 1 to 3: the refusal's number, or 0.
+    pub fn questions(&self) -> u32 {
+        if !served(self.cells) {
+            1
+        } else if self.initial > 1 || self.width > 1 {
+            2
+        } else if self.input.len() > LONGEST {
+            3
+        } else {
+            0
+        }
+    }
+
+    /// The call with its questions 1 to 3 put, unless one of them refuses it.
+    pub fn asked(self) -> Option<Asked<'a>> {
+        (self.questions() == 0).then_some(Asked(self))
+    }
+
+    /// The model's reading, for a call that questions 1 to 3 let through.
+    pub fn read(&self, reading: &mut Reading) {
+        model::read(self.cells, self.initial, self.width, self.input, reading);
+    }
+}
+
+/// A call that questions 1 to 3 let through.
+#[derive(Clone, Copy)]
+pub struct Asked<'a>(Call<'a>);
+
+impl<'a> Asked<'a> {
+    pub fn call(self) -> Call<'a> {
+        self.0
+    }
+
+    /// The same call with another input, unless question 3 refuses it.
+    pub fn with(self, input: &'a [u8]) -> Option<Asked<'a>> {
+        (input.len() <= LONGEST).then_some(Asked(Call { input, ..self.0 }))
+    }
+}
+
+impl Rooms {
+    /// Questions 8 and 9: the refusal's number, or 0. An issue is four numbers.
+    pub fn questions(&self, reading: &Reading) -> u32 {
+        if reading.text.len() > self.text {
+            8
+        } else if reading.issues.len() > self.issues / 4 {
+            9
+        } else {
+            0
+        }
+    }
+
+    /// Just enough.
+    pub fn exact(reading: &Reading) -> Rooms {
+        Rooms { text: reading.text.len(), issues: 4 * reading.issues.len() }
+    }
+}
+
+/// Question 1: rows 9 to 15 and 85 to 94 are empty.
+fn served(cells: &[u16]) -> bool {
+    let empty =
+        |first: usize, last: usize| cells[(first - 1) * 94..last * 94].iter().all(|&c| c == 0);
+    let surrogates = || cells.iter().filter(|&&c| c & 0xF800 == 0xD800).count();
+    cells.len() == CELLS && surrogates() == 0 && empty(9, 15) && empty(85, 94)
+}

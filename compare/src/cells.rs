@@ -1,0 +1,80 @@
+//! Cell tables to lend.
+
+use crate::call::CELLS;
+use crate::random::Random;
+
+/// The rows that may hold characters, and those that must be empty.
+const ROWS: [u8; 77] = rows(false);
+const EMPTY_ROWS: [u8; 17] = rows(true);
+
+/// Numbers at the limits of what a cell may hold.
+const ODD: [u16; 20] = [
+    0x000A, 0x000D, 0x0020, 0x3000, 0x0001, 0x007F, 0x0080, 0x07FF, 0x0800, 0xD7FF, 0xE000, 0xF8FF,
+    0xFFFD, 0xFFFE, 0xFFFF, 0x0041, 0x3042, 0x3042, 0x3042, 0x2014,
+];
+
+/// The seven marks.
+const MARKS: [u16; 7] = [0x301, 0x300, 0x308, 0x302, 0x305, 0x332, 0x20DD];
+
+/// The Rust's table.
+pub fn rusts() -> Vec<u16> {
+    let bytes = oracle::cells::table();
+    bytes.chunks_exact(2).map(|cell| u16::from_be_bytes([cell[0], cell[1]])).collect()
+}
+
+pub fn zeros() -> Vec<u16> {
+    vec![0; CELLS]
+}
+
+/// A table that question 1 lets through: the Rust's or zeros with odd cells, or random numbers.
+pub fn odd(random: &mut Random) -> Vec<u16> {
+    let mut cells = if random.once_in(2) { rusts() } else { zeros() };
+    let changed = random.one_of(&[1, 30, 700, 7_000]);
+    for _ in 0..changed {
+        let index = index(random.one_of(&ROWS), random.byte(1, 94));
+        cells[index] = number(random);
+    }
+    cells
+}
+
+/// A mark, an odd number or any, no surrogate.
+fn number(random: &mut Random) -> u16 {
+    match random.below(4) {
+        0 => random.one_of(&MARKS),
+        1 => random.range(0, 0xD7FF) as u16,
+        2 => random.range(0xE000, 0xFFFF) as u16,
+        _ => random.one_of(&ODD),
+    }
+}
+
+/// Each cell of the rows that must be empty, with a number in it.
+pub fn in_empty_rows() -> impl Iterator<Item = (usize, u16)> {
+    let cell =
+        |row| (1..=94).map(move |cell| (index(row, cell), if cell % 2 == 0 { 1 } else { 0xFFFF }));
+    EMPTY_ROWS.into_iter().flat_map(cell)
+}
+
+/// Each cell of the other rows, with a surrogate in it, the first and last ones included.
+pub fn surrogates() -> impl Iterator<Item = (usize, u16)> {
+    let number = |cell: u8| [0xD800, 0xDFFF, 0xDBFF, 0xDC00, 0xDABC][usize::from(cell) % 5];
+    ROWS.into_iter().flat_map(move |row| (1..=94).map(move |cell| (index(row, cell), number(cell))))
+}
+
+fn index(row: u8, cell: u8) -> usize {
+    (usize::from(row) - 1) * 94 + usize::from(cell) - 1
+}
+
+/// Rows 9 to 15 and 85 to 94, or the others.
+const fn rows<const N: usize>(empty: bool) -> [u8; N] {
+    let mut rows = [0; N];
+    let (mut row, mut n) = (1, 0);
+    while row <= 94 {
+        if matches!(row, 9..=15 | 85..=94) == empty {
+            rows[n] = row;
+            n += 1;
+        }
+        row += 1;
+    }
+    assert!(n == N);
+    rows
+}

@@ -1,0 +1,33 @@
+//! Rooms for the last reading.
+
+use crate::call::{Call, Rooms};
+use crate::hold::{Held, Holder};
+use crate::random::Random;
+
+/// Beyond what is needed, with a remainder of the issue buffer.
+pub fn ample(holder: &Holder, random: &mut Random) -> Rooms {
+    let Rooms { text, issues } = Rooms::exact(holder.reading());
+    Rooms { text: text + random.below(40), issues: issues + random.below(12) }
+}
+
+/// `arib_decode` in exact rooms; with remainders of the issue buffer; with one byte, one number
+/// and one issue less.
+pub fn all_rooms(holder: &mut Holder, call: Call) -> Held {
+    let Rooms { text, issues } = Rooms::exact(holder.reading());
+    let rooms = |text, issues| Rooms { text, issues };
+    holder.run(call, rooms(text, issues))?;
+    holder.run(call, rooms(text + 1, issues + 3))?;
+    holder.run(call, rooms(text, issues + 7))?;
+    if text > 0 {
+        holder.run(call, rooms(text - 1, issues))?;
+        holder.run(call, rooms(text / 2, issues + 4))?;
+    }
+    if issues > 0 {
+        holder.run(call, rooms(text, issues - 1))?;
+        holder.run(call, rooms(text + 3, issues - 4))?;
+    }
+    if text > 0 && issues > 0 {
+        holder.run(call, rooms(text - 1, issues - 1))?;
+    }
+    Ok(())
+}

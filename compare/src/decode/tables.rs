@@ -1,0 +1,41 @@
+//! Other cell tables that question 1 lets through, against the model.
+
+use super::rooms::all_rooms;
+use super::{Found, Runs};
+use crate::call::{Call, OPTIONS, Rooms};
+use crate::hold::{Held, Holder};
+use crate::random::Random;
+use crate::{cells, inputs, share, titles};
+
+/// How many inputs are read with one table.
+const INPUTS: u64 = 100;
+
+/// Zeros, then tables with odd cells: one input by such a table for twenty random ones.
+pub fn tables(runs: &Runs) -> Found {
+    let titles = titles::all();
+    let total = (runs.random / 20 / INPUTS).max(20);
+    share::each(runs.subject, runs.threads, total, |holder, index| {
+        let mut random = Random::new(runs.seed ^ 0xCE11, index);
+        let cells = if index == 0 { cells::zeros() } else { cells::odd(&mut random) };
+        for _ in 0..INPUTS {
+            let input = inputs::random(&mut random, &titles);
+            let (initial, width) = random.one_of(&OPTIONS);
+            let call = Call { cells: &cells, initial, width, input: &input };
+            holder.read(call);
+            all_rooms(holder, call)?;
+        }
+        every_cell(holder, &cells)
+    })
+}
+
+/// All 8,836 two-byte codes in one string, by the Kanji set and by plane 1.
+fn every_cell(holder: &mut Holder, cells: &[u16]) -> Held {
+    let kanji = inputs::every_pair();
+    let plane_1 = [&[0x1B, 0x24, 0x39], &kanji[..]].concat();
+    for input in [kanji, plane_1] {
+        let call = Call { cells, initial: 0, width: 0, input: &input };
+        holder.read(call);
+        holder.run(call, Rooms::exact(holder.reading()))?;
+    }
+    Ok(())
+}

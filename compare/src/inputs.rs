@@ -1,0 +1,70 @@
+//! Inputs: all short ones, corners, random ones built from pieces, long ones.
+
+pub mod bombs;
+pub mod corners;
+mod damage;
+pub mod long;
+mod pieces;
+mod writer;
+
+pub use damage::damage;
+pub use writer::Writer;
+
+use crate::random::Random;
+
+/// A random input: pieces, a damaged copy of pieces or of a good string, or macros that spend
+/// their budget.
+pub fn random(random: &mut Random, good: &[Vec<u8>]) -> Vec<u8> {
+    let length = length(random);
+    match random.below(40) {
+        0..=3 => {
+            let copied = random.below(good.len());
+            damage(random, &good[copied])
+        }
+        4..=11 => {
+            let whole = pieces(random, length);
+            damage(random, &whole)
+        }
+        12 => {
+            let mut writer = Writer::new(random);
+            writer.bomb(length.min(200));
+            writer.done()
+        }
+        _ => pieces(random, length),
+    }
+}
+
+/// Pieces up to about this length, the last one often cut.
+pub fn pieces(random: &mut Random, length: usize) -> Vec<u8> {
+    let mut writer = Writer::new(random);
+    writer.setting();
+    writer.pieces(length);
+    let mut input = writer.done();
+    if random.once_in(2) {
+        input.truncate(length);
+    }
+    input
+}
+
+/// Mostly short, once in a while some thousand bytes.
+fn length(random: &mut Random) -> usize {
+    match random.below(1_000) {
+        0 => random.range(600, 5_000),
+        1..=29 => random.range(120, 600),
+        30..=299 => random.range(24, 120),
+        _ => random.range(1, 24),
+    }
+}
+
+/// The input of this index among those of `length` bytes, at most 4.
+pub fn numbered(index: u64, length: usize) -> [u8; 4] {
+    let mut bytes = [0; 4];
+    bytes[..length].copy_from_slice(&index.to_be_bytes()[8 - length..]);
+    bytes
+}
+
+/// All 8,836 two-byte codes of GL, row by row.
+pub fn every_pair() -> Vec<u8> {
+    let cells = |row| (0x21..=0x7E).flat_map(move |cell| [row, cell]);
+    (0x21..=0x7E).flat_map(cells).collect()
+}

@@ -1,0 +1,39 @@
+//! What is under test: the static library of crates/text, or the model in its place.
+
+mod standin;
+
+#[cfg(feature = "library")]
+mod library;
+
+use crate::call::{Asked, Call};
+
+/// The buffers lent to a call. The counts are place, text bytes, issues and charge.
+pub struct Lent<'a> {
+    pub text: &'a mut [u8],
+    pub issues: &'a mut [u32],
+    pub counts: &'a mut [usize; 4],
+}
+
+/// The functions of the static library.
+pub trait Subject: Sync {
+    /// `arib_decode`: the refusal's number, or 0.
+    fn decode(&self, call: Call, lent: Lent) -> u32;
+
+    /// `arib_decode_checked`: the same where questions 1 to 3 were put before.
+    fn decode_checked(&self, asked: Asked, lent: Lent) -> u32;
+
+    /// `arib_unknown_escape`: the length, and the part's offset and length.
+    fn unknown_escape(&self, input: &[u8], start: usize, length: usize) -> (usize, [usize; 2]);
+}
+
+/// The subject of that name, `library` or `model`; with none, the library where it is linked.
+pub fn named(name: Option<&str>) -> Option<(&'static str, &'static dyn Subject)> {
+    match name {
+        #[cfg(feature = "library")]
+        None | Some("library") => Some(("library", &library::Library)),
+        #[cfg(not(feature = "library"))]
+        None => Some(("model", &standin::StandIn)),
+        Some("model") => Some(("model", &standin::StandIn)),
+        _ => None,
+    }
+}

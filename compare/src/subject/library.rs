@@ -1,0 +1,96 @@
+//! target/staticlib/libtext.a: numbers go as themselves, a slice as pointer and length.
+
+use super::{Lent, Subject};
+use crate::call::{Asked, Call};
+
+/// Declares functions with the arguments of decoding.
+macro_rules! decoding {
+    ($($name:ident)*) => {
+        unsafe extern "C" {
+            $(fn $name(
+                cells: *const u16,
+                cells_len: usize,
+                initial: u32,
+                width: u32,
+                input: *const u8,
+                input_len: usize,
+                text: *mut u8,
+                text_len: usize,
+                issues: *mut u32,
+                issues_len: usize,
+                counts: *mut usize,
+                counts_len: usize,
+            ) -> u32;)*
+        }
+    };
+}
+
+decoding! { arib_decode arib_decode_checked }
+
+/// The type of both.
+type Decode = unsafe extern "C" fn(
+    *const u16,
+    usize,
+    u32,
+    u32,
+    *const u8,
+    usize,
+    *mut u8,
+    usize,
+    *mut u32,
+    usize,
+    *mut usize,
+    usize,
+) -> u32;
+
+unsafe extern "C" {
+    fn arib_unknown_escape(
+        input: *const u8,
+        input_len: usize,
+        start: usize,
+        length: usize,
+        part: *mut usize,
+        part_len: usize,
+    ) -> usize;
+}
+
+pub struct Library;
+
+impl Subject for Library {
+    fn decode(&self, call: Call, lent: Lent) -> u32 {
+        run(arib_decode, call, lent)
+    }
+
+    fn decode_checked(&self, asked: Asked, lent: Lent) -> u32 {
+        run(arib_decode_checked, asked.call(), lent)
+    }
+
+    fn unknown_escape(&self, input: &[u8], start: usize, length: usize) -> (usize, [usize; 2]) {
+        let mut part = [usize::MAX; 2];
+        let (bytes, places) = (input.as_ptr(), part.as_mut_ptr());
+        // SAFETY: both pointers come with the lengths of their slices.
+        let returned =
+            unsafe { arib_unknown_escape(bytes, input.len(), start, length, places, part.len()) };
+        (returned, part)
+    }
+}
+
+fn run(decode: Decode, call: Call, lent: Lent) -> u32 {
+    // SAFETY: each pointer comes with the length of its slice, and no two slices overlap.
+    unsafe {
+        decode(
+            call.cells.as_ptr(),
+            call.cells.len(),
+            call.initial,
+            call.width,
+            call.input.as_ptr(),
+            call.input.len(),
+            lent.text.as_mut_ptr(),
+            lent.text.len(),
+            lent.issues.as_mut_ptr(),
+            lent.issues.len(),
+            lent.counts.as_mut_ptr(),
+            lent.counts.len(),
+        )
+    }
+}

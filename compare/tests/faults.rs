@@ -1,0 +1,86 @@
+//! A subject with a fault is found out.
+
+use compare::call::{Asked, Call, Rooms};
+use compare::cells;
+use compare::hold::Holder;
+use compare::subject::{self, Lent, Subject};
+
+/// The model, and then a fault in what it left.
+struct Faulty(fn(&mut Lent, &mut u32));
+
+impl Subject for Faulty {
+    fn decode(&self, call: Call, mut lent: Lent) -> u32 {
+        let (_, model) = subject::named(Some("model")).unwrap();
+        let mut refusal =
+            model.decode(call, Lent { text: lent.text, issues: lent.issues, counts: lent.counts });
+        (self.0)(&mut lent, &mut refusal);
+        refusal
+    }
+
+    fn decode_checked(&self, asked: Asked, lent: Lent) -> u32 {
+        self.decode(asked.call(), lent)
+    }
+
+    fn unknown_escape(&self, _: &[u8], _: usize, _: usize) -> (usize, [usize; 2]) {
+        (0, [0, 0])
+    }
+}
+
+/// あ, Truncated at 0; room for 10 bytes and 7 numbers.
+fn run(fault: fn(&mut Lent, &mut u32), rooms: Rooms) -> Option<String> {
+    let (subject, cells) = (Faulty(fault), cells::rusts());
+    let mut holder = Holder::new(&subject);
+    let call = Call { cells: &cells, initial: 0, width: 0, input: &[0x24, 0xA2] };
+    holder.read_both(call).unwrap();
+    holder.run(call, rooms).err().map(|difference| difference.to_string())
+}
+
+const ROOMS: Rooms = Rooms { text: 10, issues: 7 };
+const TOO_SMALL: Rooms = Rooms { text: 2, issues: 7 };
+
+#[test]
+fn no_fault() {
+    assert_eq!(run(|_, _| {}, ROOMS), None);
+    assert_eq!(run(|_, _| {}, TOO_SMALL), None);
+}
+
+#[test]
+fn faults_in_an_accepted_call() {
+    let faults: [fn(&mut Lent, &mut u32); 8] = [
+        |lent, _| lent.text[2] ^= 1,
+        |lent, _| lent.text[9] = 0xA5,
+        |lent, _| lent.issues[1] = 5,
+        |lent, _| lent.issues[6] = 0xA5A5_A5A5,
+        |lent, _| lent.counts[0] = 1,
+        |lent, _| lent.counts[2] = 0,
+        |lent, _| lent.counts[3] = 1,
+        |_, refusal| *refusal = 8,
+    ];
+    for (n, fault) in faults.into_iter().enumerate() {
+        let difference = run(fault, ROOMS).unwrap_or_else(|| panic!("fault {n}"));
+        assert!(difference.contains("input 2 bytes: 24A2\n"), "{difference}");
+    }
+}
+
+#[test]
+fn faults_in_a_refused_call() {
+    let faults: [fn(&mut Lent, &mut u32); 4] = [
+        |lent, _| lent.text[0] = 0xE3,
+        |lent, _| lent.issues[1] = 4,
+        |lent, _| lent.counts[1] = 3,
+        |_, refusal| *refusal = 9,
+    ];
+    for (n, fault) in faults.into_iter().enumerate() {
+        assert!(run(fault, TOO_SMALL).is_some(), "fault {n}");
+    }
+}
+
+/// 1B 21 40 is unknown; the Rust has its bytes.
+#[test]
+fn a_wrong_part_of_the_input() {
+    let (subject, cells) = (Faulty(|_, _| {}), cells::rusts());
+    let mut holder = Holder::new(&subject);
+    let call = Call { cells: &cells, initial: 0, width: 0, input: &[0x1B, 0x21, 0x40] };
+    assert!(holder.read_both(call).is_err());
+    assert!(holder.part(&[0x1B], 0, 1, [0, 1]).is_err());
+}
