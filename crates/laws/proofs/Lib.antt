@@ -1,0 +1,8 @@
+pub mod Every
+pub mod Changes
+pub mod Controls
+pub mod Escapes
+pub mod Macros
+pub mod Characters
+pub mod Steps
+pub mod Reading

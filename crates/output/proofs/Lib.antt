@@ -1,0 +1,4 @@
+pub mod Sets
+pub mod Counts
+pub mod Held
+pub mod Callers
