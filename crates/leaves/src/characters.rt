@@ -4,12 +4,21 @@ use crate::numbers::scalar;
 use crate::numbers::wide;
 use crate::numbers::yes;
 use tables::Cell;
+use tables::OneByteChar;
 
 // The character of a cell, 0 for none.
 fn character(c: Cell) -> usize {
     match c {
         Cell::Char(x) => wide(x),
         Cell::Undefined => 0,
+    }
+}
+
+// The character of a one-byte code, 0 for none.
+fn letter(c: OneByteChar) -> usize {
+    match c {
+        OneByteChar::Char(x) => wide(x),
+        OneByteChar::Undefined => 0,
     }
 }
 
@@ -25,22 +34,22 @@ pub fn additional_symbols(i: usize) -> usize {
 
 // Codes 00 to FF.
 pub fn alphanumeric(i: usize) -> usize {
-    character(tables::alphanumeric(low(i)))
+    letter(tables::alphanumeric(low(i)))
 }
 
 // Codes 00 to FF.
 pub fn hiragana(i: usize) -> usize {
-    character(tables::hiragana(low(i)))
+    letter(tables::hiragana(low(i)))
 }
 
 // Codes 00 to FF.
 pub fn katakana(i: usize) -> usize {
-    character(tables::katakana(low(i)))
+    letter(tables::katakana(low(i)))
 }
 
 // Codes 00 to FF.
 pub fn jis_x0201_katakana(i: usize) -> usize {
-    character(tables::jis_x0201_katakana(low(i)))
+    letter(tables::jis_x0201_katakana(low(i)))
 }
 
 // U+0000 to U+FFFF.

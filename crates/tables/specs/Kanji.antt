@@ -12,7 +12,7 @@ use Rattle.tables.specs.declared.Cell.the-variants.{Char, Undefined}
 use Rattle.tables.specs.declared.Place.{Place}
 use Rattle.tables.specs.declared.Place.the-variants.{At, Nowhere}
 
--- a character, or 0 for a cell or a code that has none, as the code answers it
+-- a character, or 0 for a cell that has none, as the code answers it
 unfoldable pub cellOf : ℕ → Cell
 cellOf c = cond (eqb c 0) Undefined (Char c)
 

@@ -5,6 +5,8 @@ use mathlib.Core.List.{List, [], _∷_, map}
 use mathlib.Core.Path.{_≡_, refl}
 use lib.Dec.{eqb, leb, ltb}
 use lib.ListN.{getD}
+use Rattle.tables.specs.declared.OneByteChar.{OneByteChar}
+use Rattle.tables.specs.declared.OneByteChar.the-variants.{Char, Undefined}
 use Rattle.tables.specs.declared.OneByteTable.{OneByteTable}
 use Rattle.tables.specs.declared.OneByteTable.the-variants.{Alphanumeric, Fullwidth, Hiragana, Katakana, JisX0201Katakana}
 
@@ -63,6 +65,10 @@ tableOf JisX0201Katakana = jisX0201KatakanaTable
 unfoldable pub oneByteAt : OneByteTable → ℕ → ℕ
 unfolding tableOf
 oneByteAt table c = cond (ltb c 0x21) 0 (getD (tableOf table) (c - 0x21) 0)
+
+-- a character, or 0 for a code that has none, as the code answers it
+unfoldable pub oneByteOf : ℕ → OneByteChar
+oneByteOf c = cond (eqb c 0) Undefined (Char c)
 
 -- Worked: YEN SIGN at 5C, an empty place, the last place, past the end, before the first.
 worked :

@@ -7,12 +7,18 @@ ghost use mathlib.Core.Path.{_≡_};
 ghost use mathlib.Core.Bool.{_&&_};
 ghost use lib.Dec.{leb, ltb};
 ghost use Rattle.addsym.specs.Symbols.{symbol};
-ghost use Rattle.tables.specs.OneByte.{fullwidthOf, oneByteAt};
+ghost use Rattle.tables.specs.OneByte.{fullwidthOf, oneByteAt, oneByteOf};
 ghost use Rattle.tables.specs.Kanji.{cellOf, nonSpacing, kanjiOverrides, assigned, isMark, cellWith, tableAt, jisX0208At, gap, kanjiSymbol, kanjiAt};
 ghost use Rattle.tables.specs.Reverse.{oneByteReverse, kanjiReverse, additionalReverse};
 use addsym::Found;
 
-/// What a code of a graphic set reads as.
+/// What a code of a one-byte set reads as.
+pub enum OneByteChar {
+    Char(u32),
+    Undefined,
+}
+
+/// What a cell of a two-byte set reads as.
 pub enum Cell {
     Char(u32),
     Undefined,
@@ -46,7 +52,17 @@ pub struct Assignment {
     pub character: u32,
 }
 
-/// A character as an answer.
+/// A character as the answer of a one-byte set.
+fn one_byte_of(c: u32) -> OneByteChar
+    ensures { λ r. ⌜ r ≡ oneByteOf c ⌝ }
+{
+    if c == 0 {
+        return OneByteChar::Undefined;
+    }
+    OneByteChar::Char(c)
+}
+
+/// A character as the answer of a two-byte set.
 fn cell_of(c: u32) -> Cell
     ensures { λ r. ⌜ r ≡ cellOf c ⌝ }
 {
@@ -128,31 +144,31 @@ fn one_byte(table: OneByteTable, c: u8) -> u32
 }
 
 /// The alphanumeric set at GL code `c`, half-width. Table 7-5.
-pub fn alphanumeric(c: u8) -> Cell
-    ensures { λ r. ⌜ r ≡ cellOf (oneByteAt OneByteTable.Alphanumeric c) ⌝ }
+pub fn alphanumeric(c: u8) -> OneByteChar
+    ensures { λ r. ⌜ r ≡ oneByteOf (oneByteAt OneByteTable.Alphanumeric c) ⌝ }
 {
-    cell_of(alphanumeric_at(c))
+    one_byte_of(alphanumeric_at(c))
 }
 
 /// The hiragana set at GL code `c`. Table 7-7.
-pub fn hiragana(c: u8) -> Cell
-    ensures { λ r. ⌜ r ≡ cellOf (oneByteAt OneByteTable.Hiragana c) ⌝ }
+pub fn hiragana(c: u8) -> OneByteChar
+    ensures { λ r. ⌜ r ≡ oneByteOf (oneByteAt OneByteTable.Hiragana c) ⌝ }
 {
-    cell_of(hiragana_at(c))
+    one_byte_of(hiragana_at(c))
 }
 
 /// The katakana set at GL code `c`. Table 7-6.
-pub fn katakana(c: u8) -> Cell
-    ensures { λ r. ⌜ r ≡ cellOf (oneByteAt OneByteTable.Katakana c) ⌝ }
+pub fn katakana(c: u8) -> OneByteChar
+    ensures { λ r. ⌜ r ≡ oneByteOf (oneByteAt OneByteTable.Katakana c) ⌝ }
 {
-    cell_of(katakana_at(c))
+    one_byte_of(katakana_at(c))
 }
 
 /// The JIS X 0201 katakana set at GL code `c`. Table 7-9.
-pub fn jis_x0201_katakana(c: u8) -> Cell
-    ensures { λ r. ⌜ r ≡ cellOf (oneByteAt OneByteTable.JisX0201Katakana c) ⌝ }
+pub fn jis_x0201_katakana(c: u8) -> OneByteChar
+    ensures { λ r. ⌜ r ≡ oneByteOf (oneByteAt OneByteTable.JisX0201Katakana c) ⌝ }
 {
-    cell_of(jis_x0201_katakana_at(c))
+    one_byte_of(jis_x0201_katakana_at(c))
 }
 
 /// The form of an alphanumeric character in a full-width character field.
