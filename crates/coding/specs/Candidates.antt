@@ -1,0 +1,90 @@
+-- The candidate codes of a character: encode.rs, `candidates`.
+use Prim.Native.Nat.{ℕ, zero, suc, _+_, min}
+use mathlib.Core.Bool.{Bool, true, false, cond, _&&_}
+use mathlib.Core.List.{List, [], _∷_, _++_}
+use lib.Dec.{eqb}
+use lib.ListN.{length}
+use Rattle.tables.specs.Kanji.{nonSpacing, isMark, cellWith}
+use Rattle.tables.specs.Reverse.{oneByteReverse, kanjiReverse, additionalReverse}
+use Rattle.tables.specs.declared.OneByteTable.{OneByteTable}
+use Rattle.tables.specs.declared.OneByteTable.the-variants.{Alphanumeric, Fullwidth, Hiragana, Katakana, JisX0201Katakana}
+use Rattle.tables.specs.declared.Code.{Code}
+use Rattle.tables.specs.declared.Code.the-variants.{Gl, Nothing}
+use Rattle.tables.specs.declared.Place.{Place}
+use Rattle.tables.specs.declared.Place.the-variants.{At, Nowhere}
+
+-- the size under which a candidate goes: either, narrow or wide
+abbrev pub either : ℕ
+either = 0
+
+abbrev pub narrow : ℕ
+narrow = 1
+
+abbrev pub wide : ℕ
+wide = 2
+
+-- `Cand`: a code of a graphic set in GL form, or SP or APR, which need no set
+pub data Cand : Type 0 where
+  graphic : (x : ℕ) (code : List ℕ) (size : ℕ) → Cand
+  plain : (byte : ℕ) (size : ℕ) → Cand
+
+-- a code of a one-byte set, a cell of a two-byte set, as a candidate
+unfoldable pub ofCode : ℕ → ℕ → Code → List Cand
+ofCode x size Nothing = []
+ofCode x size (Gl b) = graphic x (b ∷ []) size ∷ []
+
+unfoldable pub ofPlace : ℕ → ℕ → Place → List Cand
+ofPlace x size Nowhere = []
+ofPlace x size (At row cell) = graphic x ((0x20 + row) ∷ (0x20 + cell) ∷ []) size ∷ []
+
+-- the candidate, where the test holds
+abbrev pub when : Bool → Cand → List Cand
+when true k = k ∷ []
+when false k = []
+
+-- the alphanumeric whose full-width form is the character, in CharacterSize alone
+unfoldable pub fullwidth : Bool → ℕ → List Cand
+unfolding ofCode oneByteReverse
+fullwidth true c = []
+fullwidth false c = ofCode 1 wide (oneByteReverse Fullwidth c)
+
+-- the candidates of a character that is neither newline nor mark, in the Rust's order
+unfoldable pub letters : List ℕ → Bool → ℕ → List Cand
+unfolding ofCode ofPlace fullwidth oneByteReverse kanjiReverse additionalReverse
+letters cells annexE c =
+    ofCode 2 wide (oneByteReverse Hiragana c) ++ (ofCode 3 wide (oneByteReverse Katakana c) ++ (ofCode 1 narrow (oneByteReverse Alphanumeric c) ++
+    (fullwidth annexE c ++ (ofPlace 0 wide (kanjiReverse cells c) ++ (ofPlace 14 wide (additionalReverse c) ++ (ofCode 11 narrow (oneByteReverse JisX0201Katakana c) ++
+    (when (eqb c 0x20) (plain 0x20 narrow) ++ cond annexE [] (when (eqb c 0x3000) (plain 0x20 wide)))))))))
+
+-- `candidates`: a newline is APR, and a mark is coded by its own cell of the seven
+unfoldable pub candidates : List ℕ → Bool → ℕ → List Cand
+unfolding letters ofPlace isMark cellWith
+candidates cells annexE c =
+    elim (eqb c 10) [
+      | true ↦ plain 0x0D either ∷ []
+      | false ↦ elim (isMark nonSpacing c) [ true ↦ ofPlace 0 either (cellWith nonSpacing c) | false ↦ letters cells annexE c ]
+    ]
+
+-- those of each character
+unfoldable pub candidatesOf : List ℕ → Bool → List ℕ → List (List Cand)
+unfolding candidates
+candidatesOf cells annexE [] = []
+candidatesOf cells annexE (c ∷ cs) = candidates cells annexE c ∷ candidatesOf cells annexE cs
+
+-- "counting the code's own one or two bytes without shifts or size controls (1 for newline and SP)"
+unfoldable pub codeLength : Cand → ℕ
+codeLength (graphic x code size) = length code
+codeLength (plain b size) = 1
+
+-- "the shortest candidate code"
+unfoldable pub shortest : List Cand → ℕ
+unfolding codeLength
+shortest [] = 0
+shortest (c ∷ []) = codeLength c
+shortest (c ∷ d ∷ cs) = min (codeLength c) (shortest (d ∷ cs))
+
+-- ".. of each character after it in that order"
+unfoldable pub restOf : List (List Cand) → ℕ
+unfolding shortest
+restOf [] = 0
+restOf (cs ∷ css) = shortest cs + restOf css
