@@ -103,7 +103,7 @@ outcomeOf r c =
             length = lib.ListN.length (coding c .out);
             gap = coding c .gap;
             buffer = padded (c .codingRoom) (coding c .out);
-            store = padded (c .storeRoom) []
+            store = padded (c .storeRoom) [];
           }
       | suc q ↦ record { refused = suc q; place = r .place; length = 0; gap = 0; buffer = padded (c .codingRoom) []; store = padded (c .storeRoom) [] }
     ]

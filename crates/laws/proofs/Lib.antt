@@ -6,3 +6,17 @@ pub mod Macros
 pub mod Characters
 pub mod Steps
 pub mod Reading
+pub mod Distance
+pub mod Somewhere
+pub mod WaysNear
+pub mod Layers
+pub mod Near
+pub mod Gap
+pub mod WaysWrite
+pub mod Written
+pub mod Chains
+pub mod Cheapest
+pub mod Choices
+pub mod Searches
+pub mod Answers
+pub mod Coding
