@@ -1,4 +1,4 @@
--- What the coding call accepts has passed questions 1, 2, 4 and 5. Assumes nothing.
+-- What the coding call accepts has passed questions 1, 2, 4 and 5, so what it returns reads back. Assumes nothing.
 use Prim.Native.Nat.{ℕ, zero, suc, _≤_}
 use mathlib.Core.Path.{_≡_, refl}
 use mathlib.Core.Bool.{Bool, true, false}
@@ -14,7 +14,10 @@ use Rattle.utf8.specs.declared.Text.{Text}
 use Rattle.utf8.specs.declared.Text.the-variants.{WellFormed, FaultAt}
 use Rattle.coding.specs.Tokens.{tokens, baseless}
 use Rattle.coding.specs.Call as coding
-use Rattle.readback.specs.ReadBack.{Based, Accepted, AcceptedCall}
+use Rattle.laws.specs.Coding.{returned}
+use Rattle.laws.proofs.Coding.{accepted}
+use Rattle.readback.specs.ReadBack.{Based, Accepted, AcceptedCall, RoundTrip}
+use Rattle.readback.proofs.ReadBack.{call-read-back}
 
 module _ (c : coding.Lent) where
   asks : (t : List ℕ) (initial width limit len : ℕ) → firstRefusal t initial width limit len ≡ 0 → (cellsHold t ≡ true) × (initial ≤ 1) × (width ≤ 1)
@@ -61,3 +64,7 @@ accepted-call c e = go (coding.refusal c .number) refl
     go : (x : ℕ) → coding.refusal c .number ≡ x → Accepted c
     go zero p = none-refused c p
     go (suc n) p = let f = rw (p, coding.outcomeOf) at e in absurd (omega arith)
+
+pub round-trip : RoundTrip
+round-trip c textRoom issueRoom e room =
+    let d = accepted c e in call-read-back c (returned c) textRoom issueRoom (accepted-call c e) (d .admissible) (d .decoded) room

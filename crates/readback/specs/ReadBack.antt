@@ -19,6 +19,7 @@ use Rattle.coding.specs.Call as coding
 use Rattle.reading.specs.State.{State}
 use Rattle.reading.specs.Steps.{decode}
 use Rattle.reading.specs.Call as reading
+use Rattle.laws.specs.Coding.{returned}
 
 -- bs is an admissible coding of the text: "It begins in the start state, under the call's options and cell table"
 abbrev pub Codes : coding.Lent → List ℕ → Type 0
@@ -61,6 +62,13 @@ abbrev pub CallReadBack : Type 0
 CallReadBack =
     (c : coding.Lent) (bs : List ℕ) (textRoom issueRoom : ℕ) → Accepted c → Codes c bs → length bs ≤ 65535 → length (c .text) ≤ textRoom
     → reading.outcome (decoding c bs textRoom issueRoom)
+    ≡ record { refused = 0; text = length (c .text); issues = 0; charged = 0; textBuffer = padded textRoom (c .text); issueBuffer = padded issueRoom [] }
+
+-- so the coding that a call returns is read as the text that the call accepted
+abbrev pub RoundTrip : Type 0
+RoundTrip =
+    (c : coding.Lent) (textRoom issueRoom : ℕ) → coding.outcome c .refused ≡ 0 → length (c .text) ≤ textRoom
+    → reading.outcome (decoding c (returned c) textRoom issueRoom)
     ≡ record { refused = 0; text = length (c .text); issues = 0; charged = 0; textBuffer = padded textRoom (c .text); issueBuffer = padded issueRoom [] }
 
 -- two admissible codings of one text are one to the decoding call, whatever the buffers
