@@ -1,13 +1,16 @@
-//! A call of decoding: what it is given, and what 01 says of its answer.
+//! A call of decoding or coding: what it is given, and what 01 says of its answer.
 
+use crate::coding::Coding;
 use crate::model::{self, Reading};
 
 /// How many numbers a cell table has.
 pub const CELLS: usize = 94 * 94;
 /// The longest input that question 3 lets through.
 pub const LONGEST: usize = 65_535;
+/// The longest text to code.
+pub const LONGEST_TEXT: usize = 7_281;
 
-/// What a call is given, its buffers aside.
+/// What a call is given, its buffers aside. The input of coding is a text.
 #[derive(Clone, Copy)]
 pub struct Call<'a> {
     pub cells: &'a [u16],
@@ -16,24 +19,40 @@ pub struct Call<'a> {
     pub input: &'a [u8],
 }
 
-/// The lengths of the lent buffers: bytes of text, numbers of issues.
+/// The lengths of what decoding is lent: bytes of text, numbers of issues.
 #[derive(Debug, Clone, Copy, Default, PartialEq, Eq)]
 pub struct Rooms {
     pub text: usize,
     pub issues: usize,
 }
 
+/// The lengths of what coding is lent: numbers of the store, bytes of the coding.
+#[derive(Debug, Clone, Copy, Default, PartialEq, Eq)]
+pub struct CodingRooms {
+    pub store: usize,
+    pub coding: usize,
+}
+
 /// All four pairs of options.
 pub const OPTIONS: [(u32, u32); 4] = [(0, 0), (0, 1), (1, 0), (1, 1)];
 
 impl<'a> Call<'a> {
-    /// Questions 1 to 3: the refusal's number, or 0.
+    /// Questions 1 to 3 of decoding: the refusal's number, or 0.
     pub fn questions(&self) -> u32 {
+        self.first_questions(LONGEST)
+    }
+
+    /// Questions 1 to 3 of coding.
+    pub fn text_questions(&self) -> u32 {
+        self.first_questions(LONGEST_TEXT)
+    }
+
+    fn first_questions(&self, longest: usize) -> u32 {
         if !served(self.cells) {
             1
         } else if self.initial > 1 || self.width > 1 {
             2
-        } else if self.input.len() > LONGEST {
+        } else if self.input.len() > longest {
             3
         } else {
             0
@@ -81,6 +100,27 @@ impl Rooms {
     /// Just enough.
     pub fn exact(reading: &Reading) -> Rooms {
         Rooms { text: reading.text.len(), issues: 4 * reading.issues.len() }
+    }
+}
+
+/// A state takes so many numbers of the store.
+pub const STATE: usize = 4;
+
+impl CodingRooms {
+    /// Questions 7 and 8: the refusal's number, or 0.
+    pub fn questions(&self, coding: &Coding) -> u32 {
+        if coding.states > self.store / STATE {
+            7
+        } else if coding.bytes.len() > self.coding {
+            8
+        } else {
+            0
+        }
+    }
+
+    /// Just enough.
+    pub fn exact(coding: &Coding) -> CodingRooms {
+        CodingRooms { store: STATE * coding.states, coding: coding.bytes.len() }
     }
 }
 

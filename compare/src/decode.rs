@@ -7,21 +7,19 @@ mod short;
 mod tables;
 
 use std::thread::available_parallelism;
-use std::time::Instant;
 
 use crate::call::{Asked, Call, OPTIONS};
-use crate::difference::Difference;
+use crate::hold::{Held, Holder};
+use crate::parts::{self, Part};
+use crate::share;
 use crate::subject::Subject;
 use crate::tally::Tally;
 
 /// What a part has counted, or the difference that it found.
-type Found = Result<Tally, Box<Difference>>;
-
-/// A part's name, and what does it.
-type Part = (&'static str, fn(&Runs) -> Found);
+type Found = parts::Found<Tally>;
 
 /// The parts in the order in which they are done.
-const PARTS: [Part; 8] = [
+const PARTS: [Part<Runs, Tally>; 8] = [
     ("corners", short::corners),
     ("0 to 2 bytes", short::to_two),
     ("parts of escapes", questions::escapes),
@@ -55,22 +53,12 @@ impl Runs {
     /// Does all parts and prints what each counted; false at a difference.
     pub fn all(&self) -> bool {
         println!("seed {}, {} threads", self.seed, self.threads);
-        let mut sum = Tally::default();
-        for (name, part) in PARTS {
-            let start = Instant::now();
-            match part(self) {
-                Ok(tally) => {
-                    println!("{name}, {:.0} s: {tally}", start.elapsed().as_secs_f64());
-                    sum.add(&tally);
-                }
-                Err(difference) => {
-                    println!("{name}, seed {}: {difference}", self.seed);
-                    return false;
-                }
-            }
-        }
-        println!("in all: {sum}\nno difference");
-        true
+        parts::all(&PARTS, self, self.seed)
+    }
+
+    /// Does `work` for each index below `total`, shared among the threads.
+    fn each(&self, total: u64, work: impl Fn(&mut Holder, u64) -> Held + Sync) -> Found {
+        share::each(|| Holder::new(self.subject), self.threads, total, work)
     }
 }
 

@@ -69,7 +69,7 @@ impl Difference {
         self.line("subject", line)
     }
 
-    fn line(mut self, name: &str, mut answer: String) -> Difference {
+    pub fn line(mut self, name: &str, mut answer: String) -> Difference {
         if answer.len() > CUT {
             answer.truncate(CUT);
             answer += " (cut)";
@@ -85,7 +85,7 @@ impl std::fmt::Display for Difference {
     }
 }
 
-fn digits(bytes: &[u8]) -> String {
+pub fn digits(bytes: &[u8]) -> String {
     let mut out = String::new();
     hex::push(&mut out, bytes);
     out

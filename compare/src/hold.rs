@@ -8,6 +8,7 @@ use crate::call::{Asked, Call, Rooms};
 use crate::difference::Difference;
 use crate::lent::{Answer, Buffers};
 use crate::model::Reading;
+use crate::share::Worker;
 use crate::subject::Subject;
 use crate::tally::Tally;
 
@@ -20,6 +21,14 @@ pub struct Holder<'a> {
     buffers: Buffers,
     reading: Reading,
     pub tally: Tally,
+}
+
+impl Worker for Holder<'_> {
+    type Tally = Tally;
+
+    fn tally(self) -> Tally {
+        self.tally
+    }
 }
 
 impl<'a> Holder<'a> {

@@ -6,9 +6,9 @@ use crate::subject::Lent;
 
 /// Bytes and numbers of pattern on both sides of what is lent. Odd, so that the text begins at
 /// an odd address.
-const BESIDE: usize = 13;
-const PATTERN: u8 = 0xA5;
-const NUMBERS: u32 = u32::from_ne_bytes([PATTERN; 4]);
+pub const BESIDE: usize = 13;
+pub const PATTERN: u8 = 0xA5;
+pub const NUMBERS: u32 = u32::from_ne_bytes([PATTERN; 4]);
 
 /// What a call must leave: a refusal's number and everything zero, or 0 and the reading.
 #[derive(Clone, Copy)]
@@ -76,7 +76,7 @@ impl Buffers {
 
 /// The first place that is not the result, then zeros to the room's end, with the pattern
 /// whole on both sides.
-fn place<T>(name: &str, buffer: &[T], result: &[T], room: usize, pattern: T) -> Option<String>
+pub fn place<T>(name: &str, buffer: &[T], result: &[T], room: usize, pattern: T) -> Option<String>
 where
     T: Copy + PartialEq + Default + std::fmt::Debug,
 {

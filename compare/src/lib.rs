@@ -1,19 +1,23 @@
-//! Decoding by the static library of crates/text, held against the Rust and against a model of
+//! Decoding and coding by the static library of crates/text, held against the Rust and against a model of
 //! docs/01-scope.md ("01"), and measured against the Rust.
 
 pub mod bench;
 pub mod call;
 pub mod cells;
+pub mod coding;
 pub mod decode;
 pub mod difference;
+pub mod encode;
 pub mod hold;
 pub mod inputs;
 pub mod lent;
 pub mod model;
+pub mod parts;
 pub mod random;
 pub mod share;
 pub mod subject;
 pub mod tally;
+pub mod texts;
 pub mod titles;
 pub mod vectors;
 pub mod words;

@@ -1,17 +1,19 @@
-//! `compare decode`, `vectors` or `bench`; README.md has what each prints.
+//! `compare decode`, `encode`, `vectors`, `encode-vectors` or `bench`; README.md has what each prints.
 
 use std::io::{self, Write};
 use std::process::ExitCode;
 
 use compare::bench::{self, Side};
-use compare::decode::Runs;
 use compare::subject::{self, Subject};
+use compare::vectors;
 use compare::words::{Words, number};
-use compare::{cells, vectors};
+use compare::{decode, encode};
 
 const USAGE: &str = "usage:
 compare decode [--seed N] [--random N] [--every N] [--threads N] [--greatest] [--subject model]
+compare encode [--seed N] [--random N] [--every N] [--threads N] [--greatest] [--subject model]
 compare vectors N
+compare encode-vectors N
 compare bench [--subject model]
 compare bench --list
 compare bench --only rust|subject|questions CASE PASSES [--subject model]";
@@ -19,8 +21,10 @@ compare bench --only rust|subject|questions CASE PASSES [--subject model]";
 fn main() -> ExitCode {
     let mut words = Words::of_program();
     let done = match words.take().as_deref() {
-        Some("decode") => decode(words),
-        Some("vectors") => write_vectors(words),
+        Some("decode") => run_decode(words),
+        Some("encode") => run_encode(words),
+        Some("vectors") => write_file(words, vectors::file),
+        Some("encode-vectors") => write_file(words, encode::vectors::file),
         Some("bench") => measure(words),
         _ => Err(USAGE.into()),
     };
@@ -34,11 +38,11 @@ fn main() -> ExitCode {
     }
 }
 
-/// All differential runs; false at a difference.
-fn decode(mut words: Words) -> Result<bool, String> {
+/// All differential runs of decoding; false at a difference.
+fn run_decode(mut words: Words) -> Result<bool, String> {
     let (name, subject) = subject(&mut words)?;
-    let usual = Runs::new(subject);
-    let runs = Runs {
+    let usual = decode::Runs::new(subject);
+    let runs = decode::Runs {
         seed: words.number("--seed", usual.seed)?,
         threads: words.number("--threads", usual.threads as u64)?.max(1) as usize,
         random: words.number("--random", usual.random)?,
@@ -51,11 +55,28 @@ fn decode(mut words: Words) -> Result<bool, String> {
     Ok(runs.all())
 }
 
-/// The file of vectors, on standard output.
-fn write_vectors(mut words: Words) -> Result<bool, String> {
+/// All differential runs of coding; false at a difference.
+fn run_encode(mut words: Words) -> Result<bool, String> {
+    let (name, subject) = subject(&mut words)?;
+    let usual = encode::Runs::new(subject);
+    let runs = encode::Runs {
+        seed: words.number("--seed", usual.seed)?,
+        threads: words.number("--threads", usual.threads as u64)?.max(1) as usize,
+        random: words.number("--random", usual.random)?,
+        every: words.number("--every", usual.every)?.max(1),
+        greatest: words.flag("--greatest"),
+        ..usual
+    };
+    words.end()?;
+    println!("subject: {}, decoded again by {name}", subject::coder(name));
+    Ok(runs.all())
+}
+
+/// A file of vectors, on standard output.
+fn write_file(mut words: Words, file: fn(usize) -> Vec<u8>) -> Result<bool, String> {
     let count = words.take().ok_or("how many vectors?")?;
     words.end()?;
-    let file = vectors::file(number(&count)? as usize);
+    let file = file(number(&count)? as usize);
     io::stdout().write_all(&file).map_err(|error| error.to_string())?;
     Ok(true)
 }
@@ -64,34 +85,18 @@ fn write_vectors(mut words: Words) -> Result<bool, String> {
 fn measure(mut words: Words) -> Result<bool, String> {
     let (name, subject) = subject(&mut words)?;
     if words.flag("--list") {
-        list();
+        bench::list();
     } else if let Some(side) = words.value("--only")? {
         let side = Side::named(&side).ok_or("no such side")?;
         let case = words.take().ok_or("which case?")?;
         let passes = number(&words.take().ok_or("how many passes?")?)?;
-        only(subject, side, &case, passes)?;
+        bench::only(subject, side, &case, passes)?;
     } else {
-        println!("subject: {name}");
+        println!("subject: {name}, of coding: {}", subject::coder(name));
         bench::print(subject);
     }
     words.end()?;
     Ok(true)
-}
-
-/// Each case's name, its passes for a count of instructions, its calls a pass.
-fn list() {
-    for case in &bench::CASES {
-        println!("{} {} {}", case.name, case.passes, (case.inputs)().len());
-    }
-}
-
-/// One side of one case: once to fill the Rust's own tables, then so many passes.
-fn only(subject: &dyn Subject, side: Side, name: &str, passes: u64) -> Result<(), String> {
-    let case = bench::CASES.iter().find(|case| case.name == name).ok_or("no such case")?;
-    let (cells, inputs) = (cells::rusts(), (case.inputs)());
-    let mut run = side.runner(subject, &cells, case, &inputs);
-    (0..=passes).for_each(|_| run());
-    Ok(())
 }
 
 fn subject(words: &mut Words) -> Result<(&'static str, &'static dyn Subject), String> {

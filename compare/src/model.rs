@@ -7,8 +7,8 @@ mod effects;
 mod extent;
 mod macros;
 mod output;
-mod sets;
-mod tables;
+pub(crate) mod sets;
+pub(crate) mod tables;
 
 use extent::Extent;
 use sets::Set;

@@ -14,6 +14,13 @@ pub struct Lent<'a> {
     pub counts: &'a mut [usize; 4],
 }
 
+/// What is lent to a call of coding. The counts are place, length and gap.
+pub struct CodingLent<'a> {
+    pub store: &'a mut [u32],
+    pub coding: &'a mut [u8],
+    pub counts: &'a mut [usize; 3],
+}
+
 /// The functions of the static library.
 pub trait Subject: Sync {
     /// `arib_decode`: the refusal's number, or 0.
@@ -24,6 +31,14 @@ pub trait Subject: Sync {
 
     /// `arib_unknown_escape`: the length, and the part's offset and length.
     fn unknown_escape(&self, input: &[u8], start: usize, length: usize) -> (usize, [usize; 2]);
+
+    /// `arib_encode`: the refusal's number, or 0.
+    fn encode(&self, call: Call, lent: CodingLent) -> u32;
+}
+
+/// Who codes where that subject is asked to: the model, unless the library has `arib_encode`.
+pub fn coder(name: &'static str) -> &'static str {
+    if cfg!(feature = "coding") { name } else { "model" }
 }
 
 /// The subject of that name, `library` or `model`; with none, the library where it is linked.

@@ -1,5 +1,12 @@
 //! What a part of the runs has counted.
 
+use std::fmt::Display;
+
+/// Counts that add up.
+pub trait Sum: Default + Display {
+    fn add(&mut self, other: &Self);
+}
+
 #[derive(Debug, Clone, Default)]
 pub struct Tally {
     /// Inputs read by the model, once for each pair of options.
@@ -19,8 +26,8 @@ pub struct Tally {
     pub charge: usize,
 }
 
-impl Tally {
-    pub fn add(&mut self, other: &Tally) {
+impl Sum for Tally {
+    fn add(&mut self, other: &Tally) {
         self.readings += other.readings;
         self.calls += other.calls;
         self.rust += other.rust;
@@ -33,7 +40,7 @@ impl Tally {
 }
 
 /// Three lines: the counts, the calls by refusal number, the issues by kind.
-impl std::fmt::Display for Tally {
+impl Display for Tally {
     fn fmt(&self, f: &mut std::fmt::Formatter<'_>) -> std::fmt::Result {
         let Tally { readings, calls, rust, parts, longest, charge, .. } = self;
         writeln!(
@@ -47,7 +54,7 @@ impl std::fmt::Display for Tally {
 }
 
 /// ` number:count` for each that is not 0.
-fn by_number(counts: &[u64]) -> String {
+pub fn by_number(counts: &[u64]) -> String {
     let seen = counts.iter().enumerate().filter(|(_, n)| **n > 0);
     seen.map(|(number, n)| format!(" {number}:{n}")).collect()
 }

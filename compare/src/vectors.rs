@@ -64,6 +64,6 @@ fn put(out: &mut Vec<u8>, case: &Case, refusal: u32, reading: &Reading) {
     numbers(out, reading.issues.as_flattened());
 }
 
-fn numbers(out: &mut Vec<u8>, numbers: &[u32]) {
+pub fn numbers(out: &mut Vec<u8>, numbers: &[u32]) {
     out.extend(numbers.iter().flat_map(|n| n.to_be_bytes()));
 }

@@ -3,7 +3,7 @@
 use compare::call::{Asked, Call, Rooms};
 use compare::cells;
 use compare::hold::Holder;
-use compare::subject::{self, Lent, Subject};
+use compare::subject::{self, CodingLent, Lent, Subject};
 
 /// The model, and then a fault in what it left.
 struct Faulty(fn(&mut Lent, &mut u32));
@@ -23,6 +23,10 @@ impl Subject for Faulty {
 
     fn unknown_escape(&self, _: &[u8], _: usize, _: usize) -> (usize, [usize; 2]) {
         (0, [0, 0])
+    }
+
+    fn encode(&self, _: Call, _: CodingLent) -> u32 {
+        unreachable!("nothing is coded here")
     }
 }
 

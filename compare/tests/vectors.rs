@@ -1,28 +1,12 @@
 //! The file of vectors, read from its beginning to its end as a replay reads it.
 
+mod rest;
+
 use compare::call::{Call, Rooms};
 use compare::lent::{Answer, Buffers};
 use compare::model::Reading;
 use compare::{cells, subject, vectors};
-
-/// What is not yet read.
-struct Rest<'a>(&'a [u8]);
-
-impl<'a> Rest<'a> {
-    fn bytes(&mut self, length: u32) -> &'a [u8] {
-        let (bytes, rest) = self.0.split_at(length as usize);
-        self.0 = rest;
-        bytes
-    }
-
-    fn number(&mut self) -> u32 {
-        u32::from_be_bytes(self.bytes(4).try_into().unwrap())
-    }
-
-    fn numbers<const N: usize>(&mut self) -> [u32; N] {
-        std::array::from_fn(|_| self.number())
-    }
-}
+use rest::Rest;
 
 #[test]
 fn each_vector_is_answered() {

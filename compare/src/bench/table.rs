@@ -1,8 +1,9 @@
-//! The table of times.
+//! The tables of times.
 
 use std::time::Instant;
 
-use super::{CASES, Case, Side};
+use super::{CASES, CODING, Case, CodingCase, Side};
+use crate::call::CodingRooms;
 use crate::cells;
 use crate::subject::Subject;
 
@@ -13,37 +14,54 @@ const LEAST: f64 = 0.02;
 
 /// Measures all cases, the sides in turn, and prints a line for each.
 pub fn print(subject: &dyn Subject) {
+    let cells = cells::rusts();
     println!("nanoseconds a call, medians of {SAMPLES}");
     line(["case", "calls", "bytes", "text room", "issue room", "rust", "subject", "ratio"]);
-    for case in &CASES {
-        let inputs = (case.inputs)();
-        let calls = inputs.len();
-        let bytes = inputs.iter().map(Vec::len).sum::<usize>() / calls;
-        let [rust, own, with] = times(subject, case, &inputs);
-        let [calls, bytes, text, issues] =
-            [calls, bytes, case.rooms.text, case.rooms.issues].map(|n| n.to_string());
-        let [own_time, question] = [own, with - own].map(|time| format!("{time:.0}"));
-        let (rust_time, ratio) = (format!("{rust:.0}"), format!("{:.2}", own / rust));
-        line([case.name, &calls, &bytes, &text, &issues, &rust_time, &own_time, &ratio]);
-        if case.name == "titles" {
-            line(["question-1", &calls, "-", "-", "-", "-", &question, "-"]);
-        }
+    CASES.iter().for_each(|case| decoding(subject, &cells, case));
+    line(["case", "calls", "bytes", "store", "coding room", "rust", "subject", "ratio"]);
+    CODING.iter().for_each(|case| coding(subject, &cells, case));
+}
+
+fn decoding(subject: &dyn Subject, cells: &[u16], case: &Case) {
+    let inputs = (case.inputs)();
+    let calls = inputs.len();
+    let sides = [Side::Rust, Side::Subject, Side::Questions];
+    let runners = sides.map(|side| side.runner(subject, cells, case, &inputs));
+    let [rust, own, with] = times(runners, calls);
+    let bytes = inputs.iter().map(Vec::len).sum::<usize>() / calls;
+    row(case.name, [calls, bytes, case.rooms.text, case.rooms.issues], rust, own);
+    if case.name == "titles" {
+        let question = format!("{:.0}", with - own);
+        line(["question-1", &calls.to_string(), "-", "-", "-", "-", &question, "-"]);
     }
 }
 
+fn coding(subject: &dyn Subject, cells: &[u16], case: &CodingCase) {
+    let texts = (case.texts)();
+    let calls = texts.len();
+    let runners = [Side::Rust, Side::Subject].map(|side| case.runner(side, subject, cells, &texts));
+    let [rust, own] = times(runners, calls);
+    let bytes = texts.iter().map(String::len).sum::<usize>() / calls;
+    let CodingRooms { store, coding } = case.rooms(cells, &texts);
+    row(case.name, [calls, bytes, store, coding], rust, own);
+}
+
+/// A case's sizes, its times and their ratio.
+fn row(name: &str, sizes: [usize; 4], rust: f64, own: f64) {
+    let [calls, bytes, first, second] = sizes.map(|n| n.to_string());
+    let [rust_time, own_time] = [rust, own].map(|time| format!("{time:.0}"));
+    let ratio = format!("{:.2}", own / rust);
+    line([name, &calls, &bytes, &first, &second, &rust_time, &own_time, &ratio]);
+}
+
 fn line([name, words @ ..]: [&str; 8]) {
-    let words = words.map(|word| format!("{word:>11}"));
+    let words = words.map(|word| format!("{word:>12}"));
     println!("{name:<14}{}", words.concat());
 }
 
-/// The median nanoseconds a call of the three sides, taken in turn.
-fn times(subject: &dyn Subject, case: &Case, inputs: &[Vec<u8>]) -> [f64; 3] {
-    let cells = cells::rusts();
-    let sides = [Side::Rust, Side::Subject, Side::Questions];
-    let mut runners = sides.map(|side| {
-        let mut run = side.runner(subject, &cells, case, inputs);
-        (passes(&mut run), run, Vec::new())
-    });
+/// The median nanoseconds a call of the sides, taken in turn.
+fn times<const N: usize>(runners: [Box<dyn FnMut() + '_>; N], calls: usize) -> [f64; N] {
+    let mut runners = runners.map(|mut run| (passes(&mut run), run, Vec::new()));
     for _ in 0..SAMPLES {
         for (passes, run, taken) in &mut runners {
             taken.push(seconds(run, *passes));
@@ -51,7 +69,7 @@ fn times(subject: &dyn Subject, case: &Case, inputs: &[Vec<u8>]) -> [f64; 3] {
     }
     runners.map(|(_, _, mut taken)| {
         taken.sort_by(f64::total_cmp);
-        taken[SAMPLES / 2] * 1e9 / inputs.len() as f64
+        taken[SAMPLES / 2] * 1e9 / calls as f64
     })
 }
 

@@ -4,14 +4,14 @@
 use super::rooms::all_rooms;
 use super::{Found, Runs};
 use crate::call::{CELLS, Call, LONGEST, OPTIONS, Rooms};
+use crate::cells;
 use crate::hold::{Held, Holder};
 use crate::random::Random;
-use crate::{cells, share};
 
 /// Tables, options and lengths, in several rooms.
 pub fn questions(runs: &Runs) -> Found {
     let long = vec![0xA2; LONGEST + 1];
-    share::each(runs.subject, 1, 1, |holder, _| {
+    runs.each(1, |holder, _| {
         wrong_cells(holder)?;
         wrong_lengths(holder, &long)?;
         wrong_options(holder, &long)?;
@@ -77,7 +77,7 @@ fn too_long(holder: &mut Holder, long: &[u8]) -> Held {
 pub fn escapes(runs: &Runs) -> Found {
     let input = vec![0x1B; LONGEST + 10];
     let far = [usize::MAX, usize::MAX - 1, 1 << 32, (1 << 32) + 1, 1 << 63];
-    share::each(runs.subject, runs.threads, 20_000, |holder, index| {
+    runs.each(20_000, |holder, index| {
         let mut random = Random::new(runs.seed ^ 0xE5C, index);
         let length = random.one_of(&[0, 1, 2, 40, LONGEST, input.len()]);
         let mut number = || match random.below(6) {

@@ -3,15 +3,17 @@
 use super::rooms::{all_rooms, ample};
 use super::{Found, Runs, asked};
 use crate::call::{Call, OPTIONS, Rooms};
+use crate::hold::Holder;
 use crate::inputs::{self, long};
 use crate::random::Random;
-use crate::{cells, share, titles};
+use crate::tally::Sum;
+use crate::{cells, titles};
 
 /// Random inputs under all options with ample rooms, and under one of them in all rooms.
 pub fn random(runs: &Runs) -> Found {
     let (cells, titles) = (cells::rusts(), titles::all());
     let calls = asked(&cells);
-    share::each(runs.subject, runs.threads, runs.random, |holder, index| {
+    runs.each(runs.random, |holder, index| {
         let mut random = Random::new(runs.seed, index);
         let input = inputs::random(&mut random, &titles);
         let tight = random.below(OPTIONS.len());
@@ -30,7 +32,7 @@ pub fn random(runs: &Runs) -> Found {
 /// Long inputs under all options; on request the greatest ones under Caption.
 pub fn long(runs: &Runs) -> Found {
     let cells = cells::rusts();
-    let mut sum = share::each(runs.subject, runs.threads, long::COUNT, |holder, index| {
+    let mut sum = runs.each(long::COUNT, |holder, index| {
         let input = long::long(&mut Random::new(!runs.seed, index), index);
         for (initial, width) in OPTIONS {
             let call = Call { cells: &cells, initial, width, input: &input };
@@ -41,11 +43,12 @@ pub fn long(runs: &Runs) -> Found {
     })?;
     if runs.greatest {
         let list = [long::greatest_text(), long::most_issues()];
-        sum.add(&share::each(runs.subject, 1, 2, |holder, index| {
-            let call = Call { cells: &cells, initial: 1, width: 0, input: &list[index as usize] };
+        let one = |holder: &mut Holder, input: &Vec<u8>| {
+            let call = Call { cells: &cells, initial: 1, width: 0, input };
             holder.read_both(call)?;
             holder.run(call, Rooms::exact(holder.reading()))
-        })?);
+        };
+        sum.add(&runs.each(1, |holder, _| list.iter().try_for_each(|input| one(holder, input)))?);
     }
     Ok(sum)
 }

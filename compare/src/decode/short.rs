@@ -3,9 +3,9 @@
 use super::rooms::all_rooms;
 use super::{Found, Runs, asked};
 use crate::call::{Call, OPTIONS, Rooms};
+use crate::cells;
 use crate::inputs::{self, bombs, corners};
-use crate::tally::Tally;
-use crate::{cells, share};
+use crate::tally::{Sum, Tally};
 
 /// The room for inputs of up to three bytes: 63 repeats of three bytes, and four issues.
 const SMALL: Rooms = Rooms { text: 200, issues: 18 };
@@ -16,7 +16,7 @@ pub fn corners(runs: &Runs) -> Found {
     let corners = corners::table().chain(corners::corners()).map(|(_, _, input)| input);
     let list: Vec<_> = corners.chain(bombs::small()).collect();
     let (rusts, zeros) = (cells::rusts(), cells::zeros());
-    share::each(runs.subject, runs.threads, list.len() as u64, |holder, index| {
+    runs.each(list.len() as u64, |holder, index| {
         let input = &list[index as usize];
         for (initial, width) in OPTIONS {
             let call = Call { cells: &rusts, initial, width, input };
@@ -35,7 +35,7 @@ pub fn to_two(runs: &Runs) -> Found {
     let cells = cells::rusts();
     let mut sum = Tally::default();
     for length in 0..=2 {
-        sum.add(&share::each(runs.subject, runs.threads, 1 << (8 * length), |holder, index| {
+        sum.add(&runs.each(1 << (8 * length), |holder, index| {
             let bytes = inputs::numbered(index, length);
             for (initial, width) in OPTIONS {
                 let call = Call { cells: &cells, initial, width, input: &bytes[..length] };
@@ -52,7 +52,7 @@ pub fn to_two(runs: &Runs) -> Found {
 pub fn three(runs: &Runs) -> Found {
     let cells = cells::rusts();
     let calls = asked(&cells);
-    share::each(runs.subject, runs.threads, (1 << 24) / runs.every, |holder, index| {
+    runs.each((1 << 24) / runs.every, |holder, index| {
         let bytes = inputs::numbered(index * runs.every, 3);
         for asked in calls.map(|asked| asked.with(&bytes[..3]).expect("three bytes")) {
             holder.read_both(asked.call())?;

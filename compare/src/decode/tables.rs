@@ -5,7 +5,7 @@ use super::{Found, Runs};
 use crate::call::{Call, OPTIONS, Rooms};
 use crate::hold::{Held, Holder};
 use crate::random::Random;
-use crate::{cells, inputs, share, titles};
+use crate::{cells, inputs, titles};
 
 /// How many inputs are read with one table.
 const INPUTS: u64 = 100;
@@ -14,7 +14,7 @@ const INPUTS: u64 = 100;
 pub fn tables(runs: &Runs) -> Found {
     let titles = titles::all();
     let total = (runs.random / 20 / INPUTS).max(20);
-    share::each(runs.subject, runs.threads, total, |holder, index| {
+    runs.each(total, |holder, index| {
         let mut random = Random::new(runs.seed ^ 0xCE11, index);
         let cells = if index == 0 { cells::zeros() } else { cells::odd(&mut random) };
         for _ in 0..INPUTS {

@@ -32,6 +32,12 @@ pub fn is_mark(c: char) -> bool {
     MARKS.iter().any(|&(_, _, mark)| mark == c)
 }
 
+/// A mark's own cell, as two bytes in GL's form.
+pub fn mark_cell(c: char) -> Option<[u8; 2]> {
+    let own = MARKS.iter().find(|&&(_, _, mark)| mark == c);
+    own.map(|&(row, cell, _)| [row + 0x20, cell + 0x20])
+}
+
 /// The alphanumeric set, narrow or wide (Table 7-5).
 pub fn alphanumeric(code: u8, narrow: bool) -> Option<char> {
     match (code, narrow) {

@@ -1,6 +1,6 @@
 //! target/staticlib/libtext.a: numbers go as themselves, a slice as pointer and length.
 
-use super::{Lent, Subject};
+use super::{CodingLent, Lent, Subject};
 use crate::call::{Asked, Call};
 
 /// Declares functions with the arguments of decoding.
@@ -54,6 +54,24 @@ unsafe extern "C" {
     ) -> usize;
 }
 
+#[cfg(feature = "coding")]
+unsafe extern "C" {
+    fn arib_encode(
+        cells: *const u16,
+        cells_len: usize,
+        initial: u32,
+        width: u32,
+        text: *const u8,
+        text_len: usize,
+        store: *mut u32,
+        store_len: usize,
+        coding: *mut u8,
+        coding_len: usize,
+        counts: *mut usize,
+        counts_len: usize,
+    ) -> u32;
+}
+
 pub struct Library;
 
 impl Subject for Library {
@@ -72,6 +90,32 @@ impl Subject for Library {
         let returned =
             unsafe { arib_unknown_escape(bytes, input.len(), start, length, places, part.len()) };
         (returned, part)
+    }
+
+    #[cfg(feature = "coding")]
+    fn encode(&self, call: Call, lent: CodingLent) -> u32 {
+        // SAFETY: each pointer comes with the length of its slice, and no two slices overlap.
+        unsafe {
+            arib_encode(
+                call.cells.as_ptr(),
+                call.cells.len(),
+                call.initial,
+                call.width,
+                call.input.as_ptr(),
+                call.input.len(),
+                lent.store.as_mut_ptr(),
+                lent.store.len(),
+                lent.coding.as_mut_ptr(),
+                lent.coding.len(),
+                lent.counts.as_mut_ptr(),
+                lent.counts.len(),
+            )
+        }
+    }
+
+    #[cfg(not(feature = "coding"))]
+    fn encode(&self, call: Call, lent: CodingLent) -> u32 {
+        super::standin::StandIn.encode(call, lent)
     }
 }
 

@@ -1,7 +1,12 @@
 //! The model in the place of the library, so that it is held against the Rust itself.
 
-use super::{Lent, Subject};
-use crate::call::{Asked, Call, Rooms};
+use std::cell::RefCell;
+
+use oracle::coding::Refusal;
+
+use super::{CodingLent, Lent, Subject};
+use crate::call::{Asked, Call, CodingRooms, Rooms};
+use crate::coding::{Coder, Coding};
 use crate::model::Reading;
 
 pub struct StandIn;
@@ -21,6 +26,14 @@ impl Subject for StandIn {
     fn unknown_escape(&self, input: &[u8], start: usize, length: usize) -> (usize, [usize; 2]) {
         let part = start.checked_add(length).and_then(|end| input.get(start..end));
         part.map_or((0, [0, 0]), |part| (part.len(), [start, part.len()]))
+    }
+
+    fn encode(&self, call: Call, lent: CodingLent) -> u32 {
+        let rooms = CodingRooms { store: lent.store.len(), coding: lent.coding.len() };
+        match answer(call, rooms) {
+            Ok(coding) => accept_coding(&coding, lent),
+            Err(refusal) => refuse_coding(refusal, lent),
+        }
     }
 }
 
@@ -49,4 +62,34 @@ fn refuse(number: u32, lent: Lent) -> u32 {
     lent.issues.fill(0);
     *lent.counts = [0; 4];
     number
+}
+
+thread_local! {
+    /// The model of coding, which keeps its memory from call to call.
+    static CODER: RefCell<Coder> = RefCell::default();
+}
+
+/// All questions of coding in their order.
+fn answer(call: Call, rooms: CodingRooms) -> Result<Coding, Refusal> {
+    let refused = |number| if number == 0 { Ok(()) } else { Err(Refusal { number, place: 0 }) };
+    refused(call.text_questions())?;
+    let coding = CODER.with_borrow_mut(|coder| coder.code(&call))?;
+    refused(rooms.questions(&coding))?;
+    Ok(coding)
+}
+
+fn accept_coding(coding: &Coding, lent: CodingLent) -> u32 {
+    let (bytes, unused) = lent.coding.split_at_mut(coding.bytes.len());
+    bytes.copy_from_slice(&coding.bytes);
+    unused.fill(0);
+    lent.store.fill(0);
+    *lent.counts = [0, coding.bytes.len(), coding.gap];
+    0
+}
+
+fn refuse_coding(refusal: Refusal, lent: CodingLent) -> u32 {
+    lent.coding.fill(0);
+    lent.store.fill(0);
+    *lent.counts = [refusal.place as usize, 0, 0];
+    refusal.number
 }

@@ -1,0 +1,54 @@
+//! Rooms for the last text.
+
+use super::hold::Holder;
+use crate::call::{Call, CodingRooms};
+use crate::hold::Held;
+use crate::random::Random;
+
+/// So much more than is needed.
+const AMPLE: CodingRooms = CodingRooms { store: 250, coding: 40 };
+/// For a text that is refused in any rooms.
+pub const SOME: CodingRooms = CodingRooms { store: 37, coding: 11 };
+
+/// Exact ones first; a remainder of 1 to 3 numbers; ample ones; one number, one byte, and both
+/// less; nothing of the one or the other.
+pub fn all(holder: &Holder) -> Vec<CodingRooms> {
+    let exact = exact(holder);
+    let CodingRooms { store, coding } = exact;
+    let rooms = |store, coding| CodingRooms { store, coding };
+    let mut list = vec![
+        exact,
+        rooms(store + 1, coding),
+        rooms(store + 2, coding + 1),
+        rooms(store + 3, coding),
+        rooms(store + AMPLE.store, coding + AMPLE.coding),
+    ];
+    if store > 0 {
+        list.extend([rooms(store - 1, coding), rooms(0, coding + AMPLE.coding)]);
+    }
+    if coding > 0 {
+        list.extend([rooms(store, coding - 1), rooms(store + AMPLE.store, 0)]);
+    }
+    if store > 0 && coding > 0 {
+        list.push(rooms(store - 1, coding - 1));
+    }
+    list
+}
+
+/// What the last text needs.
+pub fn exact(holder: &Holder) -> CodingRooms {
+    holder.answer().map_or(SOME, CodingRooms::exact)
+}
+
+/// `arib_encode` in all rooms.
+pub fn in_all(holder: &mut Holder, call: Call) -> Held {
+    all(holder).into_iter().try_for_each(|rooms| holder.run(call, rooms))
+}
+
+/// `arib_encode` in exact rooms and in one of the others.
+pub fn in_two(holder: &mut Holder, call: Call, random: &mut Random) -> Held {
+    let list = all(holder);
+    holder.run(call, list[0])?;
+    let other = random.range(1, list.len() - 1);
+    holder.run(call, list[other])
+}

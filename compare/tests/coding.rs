@@ -1,0 +1,85 @@
+//! The model of coding on the lines of 01's table of twelve that code, and at corners.
+
+use compare::call::{Call, CodingRooms};
+use compare::cells;
+use compare::coding::Coder;
+use compare::texts::corners::TABLE;
+use oracle::hex;
+
+/// The cell table, initial state, width, the text; the coding with its gap and the numbers of
+/// the store that it needs, or the refusal.
+type Corner = (Table, u32, u32, &'static str, Answer);
+
+enum Table {
+    Rusts,
+    Zeros,
+}
+
+enum Answer {
+    Coding(&'static str, usize, usize),
+    Refused(u32, u32),
+}
+
+use Answer::{Coding, Refused};
+use Table::{Rusts, Zeros};
+
+const CORNERS: &[Corner] = &[
+    // The table of twelve.
+    (Zeros, 0, 0, TABLE[0], Coding("0E41", 0, 32)),
+    (Zeros, 0, 0, TABLE[1], Coding("20", 0, 8)),
+    (Zeros, 0, 0, TABLE[2], Coding("890E41", 0, 32)),
+    (Zeros, 0, 0, TABLE[3], Refused(5, 2)),
+    // No layer; a layer of one state.
+    (Zeros, 0, 0, "", Coding("", 0, 0)),
+    (Zeros, 0, 0, "\n", Coding("0D", 0, 8)),
+    // Marks before their base, by their own cells.
+    (Zeros, 0, 0, "あ\u{301}", Coding("212DA2", 0, 12)),
+    (Zeros, 0, 0, "あ\u{301}\u{1}", Refused(6, 5)),
+    (Zeros, 0, 0, "あ\n\u{301}\u{300}", Refused(5, 4)),
+    // Of equal costs the state reached first.
+    (Rusts, 0, 0, "アア", Coding("1D221D22", 0, 120)),
+    (Zeros, 0, 0, "アア", Coding("1B6F2222", 0, 60)),
+    (Rusts, 0, 0, "Ａ", Coding("0E41", 0, 36)),
+    (Rusts, 0, 0, "年", Coding("472F", 0, 36)),
+    (Zeros, 0, 0, "年", Coding("7C27", 0, 36)),
+    (Rusts, 0, 0, "🈔", Coding("7D3E", 0, 36)),
+    // AnnexE pays for size controls too.
+    (Zeros, 0, 1, "A", Coding("890E41", 0, 32)),
+    (Zeros, 0, 1, " ", Coding("8920", 0, 8)),
+    (Rusts, 0, 1, "\u{3000}", Coding("2121", 0, 8)),
+    (Zeros, 0, 1, "\u{3000}", Refused(6, 0)),
+];
+
+#[test]
+fn corners() {
+    let (rusts, zeros) = (cells::rusts(), cells::zeros());
+    let mut model = Coder::default();
+    for (table, initial, width, text, answer) in CORNERS {
+        let cells = if matches!(table, Rusts) { &rusts } else { &zeros };
+        let call = Call { cells, initial: *initial, width: *width, input: text.as_bytes() };
+        match (model.code(&call), answer) {
+            (Ok(coding), Coding(digits, gap, store)) => {
+                let mut bytes = Vec::new();
+                hex::parse(&mut bytes, digits).unwrap();
+                assert_eq!((&coding.bytes, coding.gap), (&bytes, *gap), "{text:?}");
+                assert_eq!(CodingRooms::exact(&coding).store, *store, "{text:?}");
+            }
+            (Err(refusal), Refused(number, place)) => {
+                assert_eq!((refusal.number, refusal.place), (*number, *place), "{text:?}");
+            }
+            (other, _) => panic!("{text:?}: {other:?}"),
+        }
+    }
+}
+
+/// 31 numbers hold seven states; a remainder is unused.
+#[test]
+fn rooms() {
+    let cells = cells::zeros();
+    let call = Call { cells: &cells, initial: 0, width: 0, input: b"A" };
+    let coding = Coder::default().code(&call).unwrap();
+    let refusal =
+        |store, coding_room| CodingRooms { store, coding: coding_room }.questions(&coding);
+    assert_eq!([31, 32, 35].map(|store| refusal(store, 3)), [7, 0, 0]);
+    assert_eq!([refusal(31, 2), refusal(32, 2), refusal(36, 4)], [7, 8, 0]);
+}
