@@ -3,28 +3,16 @@
 // many differ.
 mod characters;
 mod codes;
-mod files;
 mod numbers;
 mod part;
-mod tally;
 
-use files::cells;
-use files::read;
 use libc::STDOUT_FILENO;
 use part::Part;
 use part::compare;
-use tally::Tally;
-
-// Writes the line of a part, and answers its counts.
-fn line(name: &[u8], tally: Tally) -> Tally {
-    io::write_all(STDOUT_FILENO, name);
-    io::write_all(STDOUT_FILENO, b" ");
-    io::print_decimal(STDOUT_FILENO, tally.compared as u64);
-    io::write_all(STDOUT_FILENO, b" compared, ");
-    io::print_decimal(STDOUT_FILENO, tally.differing as u64);
-    io::write_all(STDOUT_FILENO, b" differ\n");
-    tally
-}
+use vectors::files::cells;
+use vectors::files::read;
+use vectors::tally::Tally;
+use vectors::tally::line;
 
 // The code tables of the graphic sets.
 fn code_tables(answers: &[u8], t: &[u16]) -> Tally {

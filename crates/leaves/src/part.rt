@@ -2,8 +2,8 @@
 ghost use Prim.Native.Nat.{_+_, _≤_};
 use crate::characters;
 use crate::codes;
-use crate::files::number;
-use crate::tally::Tally;
+use vectors::files::byte;
+use vectors::tally::Tally;
 
 pub enum Part {
     Kanji,
@@ -21,6 +21,15 @@ pub enum Part {
     InitialStates,
     Fullwidth,
     IsNonSpacing,
+}
+
+// Number i of `leaves.bin`, of three bytes; 0 past the end.
+fn number(answers: &[u8], i: usize) -> usize {
+    if i < answers.len() / 3 {
+        byte(answers, 3 * i) * 65536 + byte(answers, 3 * i + 1) * 256 + byte(answers, 3 * i + 2)
+    } else {
+        0
+    }
 }
 
 // What the Rattle functions answer for number i of a part.
@@ -50,7 +59,7 @@ pub fn compare(part: Part, answers: &[u8], t: &[u16], first: usize, from: usize,
 {
     let mut tally = Tally::none();
     for i in from..to {
-        tally = tally.plus(Tally::one(number(answers, first + i), answer(part, t, i)));
+        tally = tally.plus(Tally::one(number(answers, first + i) == answer(part, t, i)));
     }
     tally
 }

@@ -9,9 +9,10 @@ use lib.Dec.{leb, ltb}
 use lib.ListN.{getD}
 use borrow.Author.Tests.{le-leb, lt-leb, ne-eqb, leb-true, ltb-true, ltb-false}
 use Rattle.addsym.specs.Symbols.{symbol}
-use Rattle.tables.specs.Kanji.{nonSpacing, kanjiOverrides, assigned, place, tableAt, kanjiSymbol, kanjiOf, kanjiAt}
+use Rattle.tables.specs.Kanji.{nonSpacing, kanjiOverrides, assigned, isMark, place, gap, tableAt, kanjiSymbol, kanjiOf, kanjiAt}
 use Rattle.tables.specs.Reverse.{kanjiPlace, symbolPlace, placeOf}
 use Rattle.tables.specs.declared.Place.the-variants.{At}
+use Rattle.tables.proofs.RowLaws.{unassigned}
 
 -- on the grid the table is read at the cell's place
 pub on-grid : (t : List ℕ) (row cell : ℕ) → 1 ≤ row → row ≤ 94 → 1 ≤ cell → cell ≤ 94 → tableAt t row cell ≡ getD t (place row cell) 0
@@ -99,3 +100,23 @@ module _ (row cell : ℕ) (a : 1 ≤ row) (b : row ≤ 94) (c : 1 ≤ cell) (d :
   pub place-of : placeOf (some (place row cell)) ≡ At row cell
   unfolding placeOf
   place-of = ap (λ (r : ℕ). At r (place row cell % 94 + 1)) (row-of row cell a c d) ∙ ap (At row) (cell-of row cell c d)
+
+-- in rows 90 to 94 it is the symbol's, but for the gaps
+pub symbol-cell : (t : List ℕ) (row cell : ℕ) → 90 ≤ row → row ≤ 94 → 1 ≤ cell → cell ≤ 94 → kanjiPlace (place row cell) (getD t (place row cell) 0) ≡ kanjiSymbol row cell
+unfolding kanjiAt
+symbol-cell t row cell a b c d = kanji-place row cell (omega arith) b c d t ∙ rows-90-94 row cell (tableAt t row cell) a b
+
+pub in-gap : (row cell : ℕ) → gap row cell ≡ true → kanjiSymbol row cell ≡ 0
+unfolding kanjiSymbol
+in-gap row cell e = rw e
+
+pub off-gap : (row cell : ℕ) → gap row cell ≡ false → kanjiSymbol row cell ≡ symbol row cell
+unfolding kanjiSymbol
+off-gap row cell e = rw e
+
+-- rows 1 and 2, for a character that is neither a mark nor an override's
+pub plain-row : (t : List ℕ) (row cell c : ℕ) → row < 3 → isMark nonSpacing c ≡ false → isMark kanjiOverrides c ≡ false → kanjiAt t row cell ≡ c → tableAt t row cell ≡ c
+unfolding kanjiAt
+plain-row t row cell c h m o e =
+    let x = tableAt t row cell in
+    unassigned kanjiOverrides c row cell x o (unassigned nonSpacing c row cell (assigned kanjiOverrides row cell x) m (sym (rows-1-2 row cell x h) ∙ e))

@@ -1,17 +1,17 @@
 -- What the reverse look-ups find, for the crates above: the first place that reads as the character, and nothing only
 -- where no place does. Assumes nothing.
 use mathlib.Core.Path.{_≡_, refl, sym, ap, _∙_, subst}
-use mathlib.Core.Bool.{Bool, true, false}
+use mathlib.Core.Bool.{Bool, true, false, not, _||_}
 use mathlib.Core.List.{List, []}
 use mathlib.Core.Logic.{_⊎_, inl, inr, ⊎-elim}
 use mathlib.Core.Option.{Option, none, some}
 use Prim.Native.Nat.{ℕ, zero, suc, _+_, _-_, _/_, _%_, _<_, _≤_}
 use native.Mathlib.Omega.{arith}
 use lib.Dec.{T, eqb, ltb, eqb→eq}
-use lib.ListN.{getD, drop}
+use lib.ListN.{length, getD, drop}
 use lib.Seq.{getD-drop}
 use borrow.Author.Tests.{eqb-true, eqb-false, ne-eqb, ltb-true, ltb-false}
-use Rattle.base.proofs.Table.{at}
+use Rattle.base.proofs.Table.{every, at}
 use Rattle.addsym.specs.Symbols.{symbol}
 use Rattle.tables.specs.OneByte.{tableOf, oneByteAt, fullwidthOf}
 use Rattle.tables.specs.Kanji.{place, kanjiAt}
@@ -235,25 +235,39 @@ abbrev isPlace : Option ℕ → ℕ → Bool
 isPlace none k = false
 isPlace (some j) k = eqb j k
 
--- is place k of the full-width table the first to read as x?
-firstIs : ℕ → ℕ → Bool
+-- is place k of a table the first to read as x, if x is a character?
+unfoldable pub firstIs : OneByteTable → ℕ → ℕ → Bool
 unfolding first tableOf
-firstIs k x = isPlace (first number 94 x (tableOf Fullwidth)) k
+firstIs table k x = eqb x 0 || isPlace (first number 94 x (tableOf table)) k
 
-found-again : (k x : ℕ) → T (firstIs k x) → first number 94 x (tableOf Fullwidth) ≡ some k
+found-again : (table : OneByteTable) (k x : ℕ) → (x ≡ 0 → ⊥) → T (firstIs table k x) → first number 94 x (tableOf table) ≡ some k
 unfolding firstIs
-found-again k x t = go (first number 94 x (tableOf Fullwidth)) refl t
+found-again table k x h t = go (first number 94 x (tableOf table)) refl (rw (ne-eqb x 0 h) at t)
   where
-    go : (o : Option ℕ) → first number 94 x (tableOf Fullwidth) ≡ o → T (isPlace o k) → first number 94 x (tableOf Fullwidth) ≡ some k
+    go : (o : Option ℕ) → first number 94 x (tableOf table) ≡ o → T (isPlace o k) → first number 94 x (tableOf table) ≡ some k
     go none q z = absurd z
     go (some j) q z = q ∙ ap some (eqb→eq j k z)
 
--- The full-width forms of the 94 alphanumerics are distinct: `half` answers the code of each. One test of the table.
-pub half-again : (code : ℕ) → 0x21 ≤ code → code ≤ 0x7E → oneByteReverse Fullwidth (fullwidthOf (oneByteAt Alphanumeric code)) ≡ Gl code
-unfolding firstIs oneByteReverse
-half-again code a b =
+-- Where every character of a table stands there once, which one test of the table says, the look-up answers the code at which it stands.
+pub code-again : (table : OneByteTable) → T (every (firstIs table) 0 (tableOf table)) → (c code : ℕ) → (c ≡ 0 → ⊥) → 0x21 ≤ code → code - 0x21 < length (tableOf table)
+    → oneByteAt table code ≡ c → oneByteReverse table c ≡ Gl code
+unfolding oneByteReverse codeOf
+code-again table t c code h a b e =
     let k = code - 0x21 in
     let q : k + 0x21 ≡ code = omega arith in
-    ap (oneByteReverse Fullwidth) (fullwidth-at code ∙ code-reads Fullwidth code a)
-    ∙ ap codeOf (found-again k (getD (tableOf Fullwidth) k 0) (at 0 firstIs (tableOf Fullwidth) tt k (omega arith)))
+    let r : getD (tableOf table) k 0 ≡ c = sym (code-reads table code a) ∙ e in
+    ap codeOf (found-again table k c h (subst (λ (x : ℕ). T (firstIs table k x)) r (at 0 (firstIs table) (tableOf table) t k b)))
     ∙ ap Gl q
+
+abbrev isSome : ℕ → ℕ → Bool
+isSome k x = not (eqb x 0)
+
+-- The full-width forms of the 94 alphanumerics are distinct: `half` answers the code of each.
+pub half-again : (code : ℕ) → 0x21 ≤ code → code ≤ 0x7E → oneByteReverse Fullwidth (fullwidthOf (oneByteAt Alphanumeric code)) ≡ Gl code
+unfolding firstIs
+half-again code a b = code-again Fullwidth tt (fullwidthOf (oneByteAt Alphanumeric code)) code none-0 a (omega arith) (sym (fullwidth-at code))
+  where
+    none-0 : fullwidthOf (oneByteAt Alphanumeric code) ≡ 0 → ⊥
+    none-0 z =
+        let r = sym (code-reads Fullwidth code a) ∙ sym (fullwidth-at code) ∙ z in
+        subst (λ (x : ℕ). T (isSome 0 x)) r (at 0 isSome (tableOf Fullwidth) tt (code - 0x21) (omega arith))

@@ -5,4 +5,6 @@ pub mod KanjiLaws
 pub mod PassedLaws
 pub mod SymbolLaws
 pub mod Laws
+pub mod CodeLaws
+pub mod RowLaws
 pub mod ScalarLaws

@@ -13,7 +13,7 @@ use Rattle.tables.specs.declared.OneByteTable.{OneByteTable}
 use Rattle.tables.specs.declared.OneByteTable.the-variants.{Alphanumeric, Fullwidth}
 
 -- a list of 256 elements: the test looks at the places alone
-abbrev codes : List ℕ
+abbrev pub codes : List ℕ
 codes = replicate 256 0
 
 -- where p holds, the table reads as v

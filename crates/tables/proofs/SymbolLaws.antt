@@ -7,7 +7,7 @@ use borrow.Author.Tests.{ne-eqb}
 use Rattle.addsym.specs.Symbols.{rowPlace, symbol}
 use Rattle.addsym.proofs.Laws.{blank-symbol}
 use Rattle.addsym.proofs.Places.{no-row}
-use Rattle.tables.specs.Reverse.{symbolPlace}
+use Rattle.tables.specs.Reverse.{firstFrom, symbolPlace}
 use Rattle.tables.specs.declared.Place.the-variants.{Nowhere}
 use Rattle.tables.proofs.FirstLaws.{skip}
 use Rattle.tables.proofs.PassedLaws.{Passed}
@@ -28,7 +28,7 @@ no-place row h =
 no-symbol : (row cell : ℕ) → row < 85 → symbol row cell ≡ 0
 no-symbol row cell h = let q = no-place row h in blank-symbol row cell (no-row row cell (rowPlace row) refl (omega arith))
 
-pub from-85 : (c : ℕ) → (c ≡ 0 → ⊥) → Passed symbolPlace c [] 85 1 Nowhere
+pub from-85 : (c : ℕ) → (c ≡ 0 → ⊥) → Passed symbolPlace c [] (firstFrom symbolPlace c 8836 0 []) 85 1 Nowhere
 unfolding symbolPlace
 from-85 c h =
     record {

@@ -9,7 +9,11 @@ ghost use lib.Dec.{leb, ltb};
 ghost use Rattle.addsym.specs.Symbols.{symbol};
 ghost use Rattle.tables.specs.OneByte.{fullwidthOf, oneByteAt, oneByteOf};
 ghost use Rattle.tables.specs.Kanji.{cellOf, nonSpacing, kanjiOverrides, assigned, isMark, cellWith, tableAt, jisX0208At, gap, kanjiSymbol, kanjiAt};
-ghost use Rattle.tables.specs.Reverse.{oneByteReverse, kanjiReverse, additionalReverse};
+ghost use mathlib.Core.Bool.{true, false};
+ghost use mathlib.Core.List.{List};
+ghost use Prim.Native.Nat.{ℕ, _≤_, _<_};
+ghost use lib.ListN.{length, getD, drop};
+ghost use Rattle.tables.specs.Reverse.{oneByteReverse, kanjiReverse, additionalReverse, firstFrom, placeOf, kanjiPlace};
 use addsym::Found;
 
 /// What a code of a one-byte set reads as.
@@ -127,19 +131,6 @@ fn jis_x0201_katakana_at(c: u8) -> u32
     match c {
         0x21..=0x5F => 0xFF61 + (c as u32 - 0x21),
         _ => 0,
-    }
-}
-
-/// A one-byte table at a code.
-fn one_byte(table: OneByteTable, c: u8) -> u32
-    ensures { λ r. ⌜ r ≡ oneByteAt table c ⌝ }
-{
-    match table {
-        OneByteTable::Alphanumeric => alphanumeric_at(c),
-        OneByteTable::Fullwidth => fullwidth(alphanumeric_at(c)),
-        OneByteTable::Hiragana => hiragana_at(c),
-        OneByteTable::Katakana => katakana_at(c),
-        OneByteTable::JisX0201Katakana => jis_x0201_katakana_at(c),
     }
 }
 
@@ -432,28 +423,205 @@ pub fn additional_symbols(row: u8, cell: u8) -> Cell
     cell_of(symbol_at(row, cell))
 }
 
-/// The first code of a one-byte table that reads as `c`.
-pub fn one_byte_reverse(table: OneByteTable, c: u32) -> Code
-    ensures { λ r. ⌜ r ≡ oneByteReverse table c ⌝ }
+/// The code of the alphanumeric set that reads as `c`: Table 7-5.
+fn alphanumeric_reverse(c: u32) -> Code
+    ensures { λ r. ⌜ r ≡ oneByteReverse OneByteTable.Alphanumeric c ⌝ }
 {
-    if c == 0 {
-        return Code::Nothing;
+    match c {
+        0x5C => Code::Nothing,
+        0xA5 => Code::Gl(0x5C),
+        0x21..=0x7E => Code::Gl(c as u8),
+        _ => Code::Nothing,
     }
-    let mut code: u8 = 0x21;
-    while code < 0x7F {
-        if one_byte(table, code) == c {
-            return Code::Gl(code);
-        }
-        code += 1;
-    }
-    Code::Nothing
 }
 
 /// The alphanumeric whose full-width form is `c`.
 pub fn half(c: u32) -> Code
     ensures { λ r. ⌜ r ≡ oneByteReverse OneByteTable.Fullwidth c ⌝ }
 {
-    one_byte_reverse(OneByteTable::Fullwidth, c)
+    match c {
+        0xFF3C => Code::Nothing,
+        0xFFE5 => Code::Gl(0x5C),
+        0xFF01..=0xFF5E => Code::Gl((c - 0xFF01 + 0x21) as u8),
+        _ => Code::Nothing,
+    }
+}
+
+/// The code of the hiragana set that reads as `c`: Table 7-7.
+fn hiragana_reverse(c: u32) -> Code
+    ensures { λ r. ⌜ r ≡ oneByteReverse OneByteTable.Hiragana c ⌝ }
+{
+    match c {
+        0x3041..=0x3093 => Code::Gl((c - 0x3041 + 0x21) as u8),
+        0x309D => Code::Gl(0x77),
+        0x309E => Code::Gl(0x78),
+        0x30FC => Code::Gl(0x79),
+        0x3002 => Code::Gl(0x7A),
+        0x300C => Code::Gl(0x7B),
+        0x300D => Code::Gl(0x7C),
+        0x3001 => Code::Gl(0x7D),
+        0x30FB => Code::Gl(0x7E),
+        _ => Code::Nothing,
+    }
+}
+
+/// The code of the katakana set that reads as `c`: Table 7-6.
+fn katakana_reverse(c: u32) -> Code
+    ensures { λ r. ⌜ r ≡ oneByteReverse OneByteTable.Katakana c ⌝ }
+{
+    match c {
+        0x30A1..=0x30F6 => Code::Gl((c - 0x30A1 + 0x21) as u8),
+        0x30FD => Code::Gl(0x77),
+        0x30FE => Code::Gl(0x78),
+        0x30FC => Code::Gl(0x79),
+        0x3002 => Code::Gl(0x7A),
+        0x300C => Code::Gl(0x7B),
+        0x300D => Code::Gl(0x7C),
+        0x3001 => Code::Gl(0x7D),
+        0x30FB => Code::Gl(0x7E),
+        _ => Code::Nothing,
+    }
+}
+
+/// The code of the JIS X 0201 katakana set that reads as `c`: Table 7-9.
+fn jis_x0201_katakana_reverse(c: u32) -> Code
+    ensures { λ r. ⌜ r ≡ oneByteReverse OneByteTable.JisX0201Katakana c ⌝ }
+{
+    match c {
+        0xFF61..=0xFF9F => Code::Gl((c - 0xFF61 + 0x21) as u8),
+        _ => Code::Nothing,
+    }
+}
+
+/// The first code of a one-byte table that reads as `c`.
+pub fn one_byte_reverse(table: OneByteTable, c: u32) -> Code
+    ensures { λ r. ⌜ r ≡ oneByteReverse table c ⌝ }
+{
+    match table {
+        OneByteTable::Alphanumeric => alphanumeric_reverse(c),
+        OneByteTable::Fullwidth => half(c),
+        OneByteTable::Hiragana => hiragana_reverse(c),
+        OneByteTable::Katakana => katakana_reverse(c),
+        OneByteTable::JisX0201Katakana => jis_x0201_katakana_reverse(c),
+    }
+}
+
+/// Whether `c` is the character of an override.
+fn is_override(c: u32) -> bool
+    ensures { λ r. ⌜ r ≡ isMark kanjiOverrides c ⌝ }
+{
+    let mut i = 0;
+    while i < 7 {
+        let over = KANJI_OVERRIDES[i];
+        if over.character == c {
+            return true;
+        }
+        i += 1;
+    }
+    false
+}
+
+/// Whether one of the numbers is `c`. There is no early way out, so that several are compared at a time; so in
+/// `among_symbols`.
+fn among(cells: &[u16], c: u16) -> bool
+    ensures { λ r. ⌜ (r ≡ false → (i : ℕ) → i < length (now (cells .entry)) → getD (now (cells .entry)) i 0 ≡ c → ⊥) ⌝ }
+{
+    let mut hit = false;
+    let mut i = 0;
+    while i < cells.len() {
+        hit = hit | (cells[i] == c);
+        i += 1;
+    }
+    hit
+}
+
+/// Whether one of the symbols is `c`.
+fn among_symbols(cells: &[u32; 658], c: u32) -> bool
+    ensures { λ r. ⌜ (r ≡ false → (i : ℕ) → i < 658 → getD (now (cells .entry)) i 0 ≡ c → ⊥) ⌝ }
+{
+    let mut hit = false;
+    let mut i = 0;
+    while i < 658 {
+        hit = hit | (cells[i] == c);
+        i += 1;
+    }
+    hit
+}
+
+/// Whether the lent table is seen to have no `c` in a row of rows 1 to 89. It looks at 96 numbers, the row and two cells
+/// more, since they are twelve times eight.
+fn table_lacks(t: &[u16], row: u8, c: u32) -> bool
+    requires { ⌜ 1 ≤ row ⌝ }
+    requires { ⌜ row < 90 ⌝ }
+    ensures { λ r. ⌜ (r ≡ true → (cell : ℕ) → 1 ≤ cell → cell ≤ 94 → tableAt (now (t .entry)) row cell ≡ c → ⊥) ⌝ }
+{
+    let from = (row as usize - 1) * 94;
+    if t.len() < from + 96 {
+        return false;
+    }
+    if 0xFFFF < c {
+        return true;
+    }
+    !among(&t[from..from + 96], c as u16)
+}
+
+/// Whether a row of rows 1 to 89 of the Kanji set is seen to have no cell that reads as `c`.
+fn row_lacks(t: &[u16], row: u8, c: u32) -> bool
+    requires { ⌜ 1 ≤ row ⌝ }
+    requires { ⌜ row < 90 ⌝ }
+    ensures { λ r. ⌜ (r ≡ true → (cell : ℕ) → 1 ≤ cell → cell ≤ 94 → kanjiAt (now (t .entry)) row cell ≡ c → ⊥) ⌝ }
+{
+    if 2 < row {
+        return table_lacks(t, row, c);
+    }
+    if is_non_spacing(c) {
+        return false;
+    }
+    if is_override(c) {
+        return false;
+    }
+    table_lacks(t, row, c)
+}
+
+/// Whether `c` is in a range that has no symbol: ASCII, kana, full-width and half-width forms.
+fn is_no_symbol(c: u32) -> bool
+    ensures { λ r. ⌜ (r ≡ true → (row cell : ℕ) → (c ≡ 0 → ⊥) → symbol row cell ≡ c → ⊥) ⌝ }
+{
+    match c {
+        0..=0x7F => true,
+        0x3041..=0x30FF => true,
+        0xFF00..=0xFFFF => true,
+        _ => false,
+    }
+}
+
+/// The first cell in row order of rows 90 to 94 that `kanji` reads as `c`.
+fn kanji_symbol_reverse(c: u32) -> Place
+    requires { ⌜ (c ≡ 0 → ⊥) ⌝ }
+    ensures { λ r. ⌜ ((t : List ℕ) → r ≡ placeOf (firstFrom kanjiPlace c 470 8366 (drop 8366 t))) ⌝ }
+{
+    if is_no_symbol(c) {
+        return Place::Nowhere;
+    }
+    let scalars = addsym::symbols();
+    let mut found = Place::Nowhere;
+    let mut row: u8 = 90;
+    'rows: while row < 95 {
+        let mut cell: u8 = 1;
+        'cells: while cell < 95 {
+            if in_gap(row, cell) {
+                cell += 1;
+                continue 'cells;
+            }
+            if addsym::symbol_in(&scalars, row, cell) == c {
+                found = Place::At(row, cell);
+                break 'rows;
+            }
+            cell += 1;
+        }
+        row += 1;
+    }
+    found
 }
 
 /// The first cell in row order that `kanji` reads as `c`.
@@ -465,17 +633,17 @@ pub fn kanji_reverse(t: &[u16], c: u32) -> Place
     }
     let mut found = Place::Nowhere;
     let mut row: u8 = 1;
-    'rows: while row < 95 {
+    'rows: loop {
+        if row == 90 {
+            found = kanji_symbol_reverse(c);
+            break 'rows;
+        }
+        if row_lacks(t, row, c) {
+            row += 1;
+            continue 'rows;
+        }
         let mut cell: u8 = 1;
         'cells: while cell < 95 {
-            if in_table(row) {
-                if table_at(t, row, cell) == c {
-                    found = Place::At(row, cell);
-                    break 'rows;
-                }
-                cell += 1;
-                continue 'cells;
-            }
             if kanji_at(t, row, cell) == c {
                 found = Place::At(row, cell);
                 break 'rows;
@@ -494,7 +662,13 @@ pub fn additional_reverse(c: u32) -> Place
     if c == 0 {
         return Place::Nowhere;
     }
+    if is_no_symbol(c) {
+        return Place::Nowhere;
+    }
     let scalars = addsym::symbols();
+    if !among_symbols(&scalars, c) {
+        return Place::Nowhere;
+    }
     let mut found = Place::Nowhere;
     let mut row: u8 = 85;
     'rows: while row < 95 {

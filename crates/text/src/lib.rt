@@ -1,20 +1,28 @@
 // The calls that other programs link: lib.rs. Each is a function of the crates below, with plain C
 // names; a slice passes as a pointer and a length.
 use decode::call::Answer;
-
+use key::KeyAnswer;
 ghost use mathlib.Core.Path.{_≡_};
-ghost use lib.ListN.{length};
+ghost use lib.ListN.{length, set};
 ghost use Rattle.questions.specs.Questions.{firstRefusal};
+ghost use Rattle.decode.specs.Answers.{lent};
+ghost use Rattle.key.specs.Contracts as keys;
+ghost use Rattle.text.specs.Calls.{Decodes, Escapes, escapeStart, Reports, Keys, KeyReports};
 
-// The place of a refusal, then the text's bytes, the issues and the charge.
-fn put(counts: &mut [usize], n: usize, x: usize) {
+// One number of the counts, where they reach so far.
+fn put(counts: &mut [usize], n: usize, x: usize)
+    ensures { λ _. ⌜ now (counts .exit) ≡ set (now (counts .entry)) n x ⌝ }
+{
     if n < counts.len() {
         counts[n] = x;
     }
 }
 
-fn report(r: Answer, counts: &mut [usize]) -> u32 {
-    match r {
+// The counts of an answer: the place of a refusal, then the text's bytes, the issues and the charge.
+fn report(answer: Answer, counts: &mut [usize]) -> u32
+    ensures { λ r. ⌜ Reports answer (now (counts .entry)) r (now (counts .exit)) ⌝ }
+{
+    match answer {
         Answer::Decoded {
             text,
             issues,
@@ -36,6 +44,7 @@ fn report(r: Answer, counts: &mut [usize]) -> u32 {
     }
 }
 
+// `decode_with`. Answers the number of the refusal, 0 for none.
 #[no_mangle]
 pub extern "C" fn arib_decode(
     cells: &[u16],
@@ -45,25 +54,15 @@ pub extern "C" fn arib_decode(
     text: &mut [u8],
     issues: &mut [u32],
     counts: &mut [usize],
-) -> u32 {
-    let r = decode::call::decode_with(cells, initial, width, input, text, issues);
-    report(r, counts)
+) -> u32
+    ensures { λ r. ⌜ Decodes (lent (now (cells .entry)) initial width (now (input .entry)) (now (text .entry)) (now (issues .entry))) (now (counts .entry)) r (now (text .exit)) (now (issues .exit)) (now (counts .exit)) ⌝ }
+{
+    let answer = decode::call::decode_with(cells, initial, width, input, text, issues);
+    report(answer, counts)
 }
 
-#[no_mangle]
-pub extern "C" fn arib_unknown_escape(input: &[u8], start: usize, len: usize, part: &mut [usize]) -> usize {
-    let p = decode::call::unknown_escape(input, start, len);
-    let n = p.len();
-    put(part, 1, n);
-    put(part, 0, 0);
-    if start <= input.len() {
-        if n == len {
-            put(part, 0, start);
-        }
-    }
-    n
-}
-
+// The same where questions 1 to 3 were put and passed: for whoever reads many strings with one cell
+// table.
 #[no_mangle]
 pub extern "C" fn arib_decode_checked(
     cells: &[u16],
@@ -75,7 +74,75 @@ pub extern "C" fn arib_decode_checked(
     counts: &mut [usize],
 ) -> u32
     requires { ⌜ firstRefusal (now cells) initial width 65535 (length (now input)) ≡ 0 ⌝ }
+    ensures { λ r. ⌜ Decodes (lent (now (cells .entry)) initial width (now (input .entry)) (now (text .entry)) (now (issues .entry))) (now (counts .entry)) r (now (text .exit)) (now (issues .exit)) (now (counts .exit)) ⌝ }
 {
-    let r = decode::call::decode_checked(cells, initial, width, input, text, issues);
-    report(r, counts)
+    let answer = decode::call::decode_checked(cells, initial, width, input, text, issues);
+    report(answer, counts)
+}
+
+// Where the part of an unknown escape begins in an input of so many bytes.
+fn escape_start(size: usize, start: usize, len: usize) -> usize
+    ensures { λ r. ⌜ r ≡ escapeStart size start len ⌝ }
+{
+    if start > size {
+        return 0;
+    }
+    if len > size - start {
+        return 0;
+    }
+    start
+}
+
+// The part of the input that an unknown escape is: its start and length go to `part`, and its length
+// is the answer.
+#[no_mangle]
+pub extern "C" fn arib_unknown_escape(
+    input: &[u8],
+    start: usize,
+    len: usize,
+    part: &mut [usize],
+) -> usize
+    ensures { λ r. ⌜ Escapes (now (input .entry)) start len (now (part .entry)) r (now (part .exit)) ⌝ }
+{
+    let escape = decode::call::unknown_escape(input, start, len);
+    let n = escape.len();
+    put(part, 0, escape_start(input.len(), start, len));
+    put(part, 1, n);
+    n
+}
+
+// The counts of a key: the place of a refusal, then the key's bytes and the charge.
+fn report_key(answer: KeyAnswer, counts: &mut [usize]) -> u32
+    ensures { λ r. ⌜ KeyReports answer (now (counts .entry)) r (now (counts .exit)) ⌝ }
+{
+    match answer {
+        KeyAnswer::Keyed { len, charged } => {
+            put(counts, 0, 0);
+            put(counts, 1, len);
+            put(counts, 2, charged);
+            0
+        }
+        KeyAnswer::Refused { number, place } => {
+            put(counts, 0, place);
+            put(counts, 1, 0);
+            put(counts, 2, 0);
+            number
+        }
+    }
+}
+
+// The key of a title. Answers the number of the refusal, 0 for none.
+#[no_mangle]
+pub extern "C" fn arib_key(
+    cells: &[u16],
+    initial: u32,
+    width: u32,
+    input: &[u8],
+    buffer: &mut [u8],
+    counts: &mut [usize],
+) -> u32
+    ensures { λ r. ⌜ Keys (keys.lent (now (cells .entry)) initial width (now (input .entry)) (now (buffer .entry))) (now (counts .entry)) r (now (buffer .exit)) (now (counts .exit)) ⌝ }
+{
+    let answer = key::key(cells, initial, width, input, buffer);
+    report_key(answer, counts)
 }

@@ -1,87 +1,72 @@
--- `tables::one_byte_reverse` meets its contract. The invariant: nothing is found before the code. Assumes nothing.
-use mathlib.Core.Path.{_≡_, refl, sym, ap, _∙_}
-use Prim.Native.Nat.{_+_, _-_, _≤_}
-use native.Mathlib.Omega.{arith}
+-- `tables::one_byte_reverse` meets its contract: each table has its function. Assumes nothing.
+use mathlib.Core.Path.{sym, ap, _∙_}
 use borrow.Author.Needs.{needs}
-use Rattle.tables.specs.OneByte.{tableOf}
-use Rattle.tables.specs.Reverse.{number, firstFrom, oneByteReverse, codeOf}
-use Rattle.tables.specs.declared.Code.the-variants.{Gl}
-use Rattle.tables.proofs.OneByteLaws.{code-reads}
-use Rattle.tables.proofs.FirstLaws.{onFrom, hit, miss, done, first-char, first-zero}
+use Rattle.tables.specs.Reverse.{oneByteReverse}
+use Rattle.tables.specs.declared.OneByteTable.{OneByteTable}
 use Rattle.tables.proofs.one_byte_reverse.Statement.{statement}
 use Rattle.tables.proofs.one_byte_reverse.Tie as tie
 
-abbrev Inv-loop : tie.InvT-loop
-Inv-loop table c code₀ code =
-    (0x21 ≤ code) × (code ≤ 0x7F) × (onFrom number c (tableOf table) 94 (code - 0x21) ≡ firstFrom number c 94 0 (tableOf table))
+enum-told : tie.Need-enum-told
+enum-told c = search needs
 
-abbrev μ-loop : tie.MeasureT-loop
-μ-loop table c code₀ code = 0x7F - code
+alphanumeric-reverse-requires : tie.Need-alphanumeric-reverse-requires
+alphanumeric-reverse-requires c κs = search needs
 
-returns : tie.Need-returns Inv-loop μ-loop
-unfolding oneByteReverse
-returns c = ap codeOf (sym (first-zero number 94 (c .before .args .c) (tableOf (c .before .args .table)) (c .if1 .taken)))
+enum-told-2 : tie.Need-enum-told-2
+enum-told-2 c = search needs
 
-loop-holds : tie.Need-loop-holds Inv-loop μ-loop
-loop-holds c = (omega arith, omega arith, refl)
+half-requires : tie.Need-half-requires
+half-requires c κs = search needs
 
-one-byte-requires : tie.Need-one-byte-requires Inv-loop μ-loop
-one-byte-requires c κs = search needs
+enum-told-3 : tie.Need-enum-told-3
+enum-told-3 c = search needs
 
-returns-2 : tie.Need-returns-2 Inv-loop μ-loop
-unfolding oneByteReverse
-returns-2 c =
-    let l = c .before .before .before in
-    let a = l .before .before .args in
-    let x = l .loop .code in
-    let t = tableOf (a .table) in
-    let e = sym (code-reads (a .table) x (l .loop .inv .0)) ∙ sym (c .before .one-byte .ensures) ∙ c .if2 .taken in
-    let q : x ≡ x - 0x21 + 0x21 = omega arith in
-    ap Gl q
-    ∙ ap codeOf
-    (sym (hit number (a .c) t 94 (x - 0x21) (omega arith) e) ∙ l .loop .inv .2 ∙ sym (first-char number (a .c) t 94 (l .before .if1 .left)))
+hiragana-reverse-requires : tie.Need-hiragana-reverse-requires
+hiragana-reverse-requires c κs = search needs
 
-add-code : tie.Need-add-code Inv-loop μ-loop
-add-code c = omega arith
+enum-told-4 : tie.Need-enum-told-4
+enum-told-4 c = search needs
 
-loop-less : tie.Need-loop-less Inv-loop μ-loop
-loop-less c = omega arith
+katakana-reverse-requires : tie.Need-katakana-reverse-requires
+katakana-reverse-requires c κs = search needs
 
-loop-again : tie.Need-loop-again Inv-loop μ-loop
-loop-again c =
-    let l = c .before .before .before in
-    let a = l .before .before .args in
-    let x = l .loop .code in
-    let t = tableOf (a .table) in
-    let e = code-reads (a .table) x (l .loop .inv .0) in
-    let q : x + 1 - 0x21 ≡ x - 0x21 + 1 = omega arith in (
-      omega arith,
-      omega arith,
-      ap (onFrom number (a .c) t 94) q
-          ∙ sym (miss number (a .c) t 94 (x - 0x21) (omega arith) (λ z. c .if2 .left (c .before .one-byte .ensures ∙ e ∙ z)))
-          ∙ l .loop .inv .2,
-    )
+enum-told-5 : tie.Need-enum-told-5
+enum-told-5 c = search needs
 
-returns-3 : tie.Need-returns-3 Inv-loop μ-loop
-unfolding oneByteReverse codeOf
-returns-3 c =
-    let a = c .before .before .before .args in
-    let t = tableOf (a .table) in
-    ap codeOf
-    (sym (done number (a .c) t 94 (c .before .loop .code - 0x21) (omega arith)) ∙ c .before .loop .inv .2
-    ∙ sym (first-char number (a .c) t 94 (c .before .before .if1 .left)))
+jis-x0201-katakana-reverse-requires : tie.Need-jis-x0201-katakana-reverse-requires
+jis-x0201-katakana-reverse-requires c κs = search needs
+
+returns : tie.Need-returns
+returns c = c .alphanumeric-reverse .ensures ∙ ap (λ (t : OneByteTable). oneByteReverse t (c .before .before .before .args .c)) (sym (c .before .enum-told .given .1))
+
+returns-2 : tie.Need-returns-2
+returns-2 c = c .half .ensures ∙ ap (λ (t : OneByteTable). oneByteReverse t (c .before .before .before .args .c)) (sym (c .before .enum-told2 .given .1))
+
+returns-3 : tie.Need-returns-3
+returns-3 c = c .hiragana-reverse .ensures ∙ ap (λ (t : OneByteTable). oneByteReverse t (c .before .before .before .args .c)) (sym (c .before .enum-told3 .given .1))
+
+returns-4 : tie.Need-returns-4
+returns-4 c = c .katakana-reverse .ensures ∙ ap (λ (t : OneByteTable). oneByteReverse t (c .before .before .before .args .c)) (sym (c .before .enum-told4 .given .1))
+
+returns-5 : tie.Need-returns-5
+returns-5 c = c .jis-x0201-katakana-reverse .ensures ∙ ap (λ (t : OneByteTable). oneByteReverse t (c .before .before .before .args .c)) (sym (c .before .enum-told5 .given .1))
 
 pub one-byte-reverse-spec : {M : Type 1} → statement M
 one-byte-reverse-spec =
     tie.close
     (tie.spec
-    Inv-loop
-    μ-loop
+    enum-told
+    alphanumeric-reverse-requires
+    enum-told-2
+    half-requires
+    enum-told-3
+    hiragana-reverse-requires
+    enum-told-4
+    katakana-reverse-requires
+    enum-told-5
+    jis-x0201-katakana-reverse-requires
     returns
-    loop-holds
-    one-byte-requires
     returns-2
-    add-code
-    loop-less
-    loop-again
-    returns-3)
+    returns-3
+    returns-4
+    returns-5)

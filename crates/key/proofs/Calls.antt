@@ -1,0 +1,289 @@
+-- The key call, from the answer of the decoding. Assumes nothing.
+use Prim.Native.Nat.{ℕ, zero, suc, _+_, _-_, _≤_, _<_}
+use mathlib.Core.Path.{_≡_, refl, sym, ap, ap₂, _∙_, subst}
+use mathlib.Core.Bool.{Bool, true, false, cond, _&&_}
+use mathlib.Core.List.{List, [], _∷_, _++_}
+use native.Mathlib.Nat.{zero-add, suc-add, sub-zero}
+use native.Mathlib.Omega.{arith}
+use borrow.Author.Tests.{ne-eqb, eqb-true, eqb-false, leb-true, lt-leb}
+use lib.Dec.{eqb, leb, T}
+use lib.ListN.{length, take, drop, getD, length-append}
+use Rattle.utf8.specs.Utf8.{areScalars, utf8, utf8s, scalars}
+use Rattle.utf8.proofs.Bytes.{length-utf8}
+use Rattle.utf8.proofs.Texts.{scalars-utf8s}
+use Rattle.questions.specs.Questions.{cellsHold, firstRefusal, decodeLimit}
+use Rattle.questions.specs.Buffer.{padded}
+use Rattle.questions.proofs.Buffers.{take-padded}
+use Rattle.questions.proofs.Refusals.{passed}
+use Rattle.issues.specs.Issue.{Issue, issueNumbers, issuesNumbers}
+use Rattle.reading.specs.Call as decoding
+use Rattle.decode.specs.declared.call.Answer.{Answer}
+use Rattle.decode.specs.declared.call.Answer.the-variants.{Decoded, Refused}
+use Rattle.decode.specs.Answers as decode
+use Rattle.key.specs.declared.KeyAnswer.{KeyAnswer}
+use Rattle.key.specs.declared.KeyAnswer.the-variants as key
+use Rattle.key.specs.Key.{keyChar, kept, keyText, Lent, decodingOf, reading, textBytes, keyBytes, fits, refusal, Outcome, outcomeOf, outcome}
+use Rattle.scalars.proofs.Scalars.{text-scalars}
+use Rattle.key.proofs.Characters.{no-longer, first-bytes}
+use Rattle.key.specs.Contracts.{Removed, Decodes, answerOf, questionOf, refusedOf, lent, Answered}
+
+-- ---- the buffer
+
+-- zeros behind a result and zeros
+padded-more : (m k : ℕ) (vs : List ℕ) → length vs ≤ m → padded m vs ++ padded k [] ≡ padded (m + k) vs
+unfolding padded
+padded-more zero k [] h = ap (λ (n : ℕ). padded n []) (sym (zero-add k))
+padded-more zero k (v ∷ vs) h = absurd (omega arith)
+padded-more (suc m) k [] h = ap (λ (l : List ℕ). 0 ∷ l) (padded-more m k [] (omega arith)) ∙ ap (λ (n : ℕ). padded n []) (sym (suc-add m k))
+padded-more (suc m) k (v ∷ vs) h = ap (λ (l : List ℕ). v ∷ l) (padded-more m k vs (omega arith)) ∙ ap (λ (n : ℕ). padded n (v ∷ vs)) (sym (suc-add m k))
+
+drop-padded : (n : ℕ) (vs : List ℕ) → length vs ≤ n → drop (length vs) (padded n vs) ≡ padded (n - length vs) []
+unfolding padded
+drop-padded n [] h = ap (λ (k : ℕ). padded k []) (sym (sub-zero n))
+drop-padded zero (v ∷ vs) h = absurd (omega arith)
+drop-padded (suc n) (v ∷ vs) h = drop-padded n vs (omega arith) ∙ ap (λ (k : ℕ). padded k []) (let e : n - length vs ≡ suc n - suc (length vs) = omega arith in e)
+
+-- ---- the number
+
+-- each issue has numbers
+none-counted : (l : List Issue) → leb (length (issuesNumbers l)) 0 ≡ eqb (length l) 0
+unfolding issuesNumbers issueNumbers
+none-counted [] = refl
+none-counted (i ∷ l) = lt-leb (length (issuesNumbers (i ∷ l))) 0 (omega arith) ∙ sym (ne-eqb (length (i ∷ l)) 0 (λ z. omega arith))
+
+-- the first three questions have numbers up to 3
+first-few : (t : List ℕ) (initial width limit len : ℕ) → firstRefusal t initial width limit len ≤ 3
+unfolding firstRefusal
+first-few t initial width limit len = go (cellsHold t) (leb initial 1 && leb width 1) (leb len limit)
+  where
+    go : (a b c : Bool) → cond a (cond b (cond c 0 3) 2) 1 ≤ 3
+    go true true true = omega arith
+    go true true false = omega arith
+    go true false c = omega arith
+    go false b c = omega arith
+
+module _ (c : Lent) where
+  fits-as : fits c ≡ questionOf (decoding.fits (decodingOf c))
+  unfolding fits decoding.fits textBytes reading decoding.textBytes decoding.issueList
+  fits-as = rw (none-counted (decoding.reading (decodingOf c) .out .issues)) (go (leb (length (utf8s (decoding.reading (decodingOf c) .out .text))) (c .room)) (eqb (length (decoding.reading (decodingOf c) .out .issues)) 0))
+    where
+      go : (a b : Bool) → _≡_ {A = ℕ} (cond a (cond b 0 10) 8) (questionOf (cond a (cond b 0 9) 8))
+      go true true = refl
+      go true false = refl
+      go false b = refl
+
+  refusal-as : refusal c ≡ questionOf (decoding.refusal (decodingOf c))
+  unfolding refusal decoding.refusal
+  refusal-as = go (firstRefusal (c .cells) (c .initial) (c .width) decodeLimit (length (c .input))) refl (first-few (c .cells) (c .initial) (c .width) decodeLimit (length (c .input)))
+    where
+      go : (q : ℕ) → firstRefusal (c .cells) (c .initial) (c .width) decodeLimit (length (c .input)) ≡ q → q ≤ 3 → refusal c ≡ questionOf (decoding.refusal (decodingOf c))
+      go zero e h = rw e fits-as
+      go (suc q) e h = rw e (rw (ne-eqb (suc q) 9 (λ z. omega arith)))
+
+-- ---- the answer
+
+-- a text without bytes has no characters
+none-written : (cs : List ℕ) → length (utf8s cs) ≡ 0 → cs ≡ []
+unfolding utf8s
+none-written [] e = refl
+none-written (x ∷ cs) e = absurd (omega (arith, length-append (utf8 x) (utf8s cs), length-utf8 x))
+
+-- a key has no more bytes than its text
+key-shorter : (cs : List ℕ) → length (utf8s (keyText cs)) ≤ length (utf8s cs)
+unfolding utf8s keyText
+key-shorter [] = omega arith
+key-shorter (x ∷ cs) =
+    omega (arith, ap length (first-bytes x cs), length-append (utf8s (kept (keyChar x) [])) (utf8s (keyText cs)), length-append (utf8 x) (utf8s cs), no-longer x, key-shorter cs)
+
+module _ (c : Lent) where
+  abbrev number : ℕ
+  number = decoding.refusal (decodingOf c)
+
+  -- the number of a decoding's outcome
+  number-of : decoding.outcome (decodingOf c) .refused ≡ number
+  unfolding decoding.outcome decoding.outcomeOf
+  number-of = go number
+    where
+      go : (q : ℕ) → decoding.outcomeOf q (decodingOf c) .refused ≡ q
+      go zero = refl
+      go (suc q) = refl
+
+  -- both outcomes by the decoding's number
+  outcome-as : (q : ℕ) → number ≡ q → outcome c ≡ outcomeOf (questionOf q) c
+  unfolding outcome
+  outcome-as q e = ap (λ (n : ℕ). outcomeOf n c) (refusal-as c ∙ ap questionOf e)
+
+  decoded-as : (q : ℕ) → number ≡ q → decoding.outcome (decodingOf c) ≡ decoding.outcomeOf q (decodingOf c)
+  unfolding decoding.outcome
+  decoded-as q e = ap (λ (n : ℕ). decoding.outcomeOf n (decodingOf c)) e
+
+  -- the first three questions were passed, and the text fits
+  passed-0 : number ≡ 0 → (firstRefusal (c .cells) (c .initial) (c .width) decodeLimit (length (c .input)) ≡ 0) × (length (textBytes c) ≤ c .room)
+  unfolding decoding.refusal decoding.fits textBytes reading decoding.textBytes
+  passed-0 z = go (firstRefusal (c .cells) (c .initial) (c .width) decodeLimit (length (c .input))) refl
+    where
+      fitting : (a b : Bool) → leb (length (textBytes c)) (c .room) ≡ a → _≡_ {A = ℕ} (cond a (cond b 0 9) 8) 0 → length (textBytes c) ≤ c .room
+      fitting true b e f = leb-true _ _ e
+      fitting false b e f = absurd (omega arith)
+
+      go : (q : ℕ) → firstRefusal (c .cells) (c .initial) (c .width) decodeLimit (length (c .input)) ≡ q → (firstRefusal (c .cells) (c .initial) (c .width) decodeLimit (length (c .input)) ≡ 0) × (length (textBytes c) ≤ c .room)
+      go zero e = (e, fitting (leb (length (textBytes c)) (c .room)) (leb (length (decoding.issueList (decodingOf c))) 0) refl (rw e at z))
+      go (suc q) e = absurd (omega (arith, rw e at z))
+
+  -- what was accepted
+  module _ (text issues charge : ℕ) (b : List ℕ) (d : Decodes c (Decoded text issues charge) b) where
+    accepted : number ≡ 0
+    accepted = sym number-of ∙ sym (d .answered .number)
+
+    written : b ≡ padded (c .room) (textBytes c)
+    unfolding decoding.outcomeOf textBytes reading decoding.textBytes
+    written = d .answered .written ∙ ap (λ (o : decoding.Outcome). o .textBuffer) (decoded-as 0 accepted)
+
+    counted : text ≡ length (textBytes c)
+    unfolding decoding.outcomeOf textBytes reading decoding.textBytes
+    counted = d .answered .counted ∙ ap (λ (o : decoding.Outcome). o .text) (decoded-as 0 accepted)
+
+    charges : charge ≡ reading c .charged
+    unfolding decoding.outcomeOf reading
+    charges = d .answered .charged ∙ ap (λ (o : decoding.Outcome). o .charged) (decoded-as 0 accepted)
+
+    -- the text, and its key
+    text-part : take text b ≡ textBytes c
+    text-part = ap₂ take counted written ∙ take-padded (c .room) (textBytes c) (passed-0 accepted .1)
+
+    key-part : utf8s (keyText (scalars (take text b))) ≡ keyBytes c
+    unfolding keyBytes textBytes
+    key-part = ap (λ (l : List ℕ). utf8s (keyText (scalars l))) text-part ∙ ap (λ (l : List ℕ). utf8s (keyText l)) (scalars-utf8s (reading c .out .text) (d .scalars (passed-0 accepted .0)))
+
+    key-fits : length (keyBytes c) ≤ length (textBytes c)
+    unfolding keyBytes textBytes
+    key-fits = key-shorter (reading c .out .text)
+
+    buffer-as : (part : List ℕ) → part ≡ padded (length (textBytes c)) (keyBytes c) → part ++ drop text b ≡ padded (c .room) (keyBytes c)
+    buffer-as part e =
+        let h : length (textBytes c) ≤ c .room = passed-0 accepted .1 in
+        let n : length (textBytes c) + (c .room - length (textBytes c)) ≡ c .room = omega arith in
+        ap₂ _++_ e (ap₂ drop counted written ∙ drop-padded (c .room) (textBytes c) h)
+        ∙ (padded-more (length (textBytes c)) (c .room - length (textBytes c)) (keyBytes c) key-fits ∙ ap (λ (m : ℕ). padded m (keyBytes c)) n)
+
+    pub keyed : (len : ℕ) (part : List ℕ) → Removed (take text b) len part → Answered c (key.Keyed len charge) (part ++ drop text b)
+    unfolding outcomeOf
+    keyed len part r =
+        let o = outcome-as 0 accepted in
+        let p : part ≡ padded (length (textBytes c)) (keyBytes c) = r .bytes ∙ ap₂ padded (ap length text-part) key-part in
+        record {
+          answer = ap₂ key.Keyed (r .len ∙ ap length key-part) charges ∙ sym (ap (λ (x : Outcome). answerOf (x .refused) x) o);
+          written = buffer-as part p ∙ sym (ap (λ (x : Outcome). x .buffer) o);
+        }
+
+    -- the text lies in the buffer
+    pub inside : text ≤ length b
+    inside = omega (arith, counted, passed-0 accepted .1, d .room)
+
+  -- what was refused; a decoding without text may be said to be refused with 0
+  module _ (q place : ℕ) (b : List ℕ) (d : Decodes c (Refused q place) b) where
+    same : number ≡ q
+    same = sym number-of ∙ sym (d .answered .number)
+
+    -- 0: there is no text, and so no key
+    module _ (e : q ≡ 0) where
+      zero-outcome : decoding.outcome (decodingOf c) ≡ decoding.outcomeOf 0 (decodingOf c)
+      zero-outcome = decoded-as 0 (same ∙ e)
+
+      no-text : reading c .out .text ≡ []
+      unfolding decoding.outcomeOf reading decoding.textBytes
+      no-text = none-written (reading c .out .text) (sym (d .answered .counted ∙ ap (λ (o : decoding.Outcome). o .text) zero-outcome))
+
+      no-key : keyBytes c ≡ []
+      unfolding keyBytes keyText utf8s
+      no-key = rw no-text
+
+      zeros : b ≡ padded (c .room) []
+      unfolding decoding.outcomeOf decoding.textBytes reading utf8s
+      zeros = d .answered .written ∙ (ap (λ (o : decoding.Outcome). o .textBuffer) zero-outcome ∙ ap (λ (l : List ℕ). padded (c .room) (utf8s l)) no-text)
+
+      no-charge : 0 ≡ reading c .charged
+      unfolding decoding.outcomeOf reading
+      no-charge = d .answered .charged ∙ ap (λ (o : decoding.Outcome). o .charged) zero-outcome
+
+      refused-0 : Answered c (refusedOf q place) b
+      unfolding outcomeOf
+      refused-0 =
+          let o = outcome-as 0 (same ∙ e) in
+          record {
+            answer = rw e (ap₂ key.Keyed (ap length (sym no-key)) no-charge ∙ sym (ap (λ (x : Outcome). answerOf (x .refused) x) o));
+            written = zeros ∙ (ap (padded (c .room)) (sym no-key) ∙ sym (ap (λ (x : Outcome). x .buffer) o));
+          }
+
+    -- any other number
+    module _ (n : ℕ) (e : q ≡ suc n) where
+      cleared : b ≡ padded (c .room) []
+      unfolding decoding.outcomeOf
+      cleared = d .answered .written ∙ ap (λ (o : decoding.Outcome). o .textBuffer) (decoded-as (suc n) (same ∙ e))
+
+      refused-more : (m : ℕ) → questionOf q ≡ suc m → Answered c (key.Refused (questionOf q) place) b
+      unfolding outcomeOf
+      refused-more m f =
+          let o : outcome c ≡ outcomeOf (suc m) c = outcome-as q same ∙ ap (λ (k : ℕ). outcomeOf k c) f in
+          record {
+            answer = ap₂ key.Refused f (d .answered .place) ∙ sym (ap (λ (x : Outcome). answerOf (x .refused) x) o);
+            written = cleared ∙ sym (ap (λ (x : Outcome). x .buffer) o);
+          }
+
+      refused-suc : Answered c (refusedOf q place) b
+      refused-suc = rw (ne-eqb q 0 (λ z. omega arith)) (go (eqb q 9) refl)
+        where
+          go : (t : Bool) → eqb q 9 ≡ t → Answered c (key.Refused (questionOf q) place) b
+          go true p = refused-more 9 (ap (λ (u : Bool). cond u 10 q) p)
+          go false p = refused-more n (ap (λ (u : Bool). cond u 10 q) p ∙ e)
+
+    pub refused : Answered c (refusedOf q place) b
+    refused = go q refl
+      where
+        go : (n : ℕ) → q ≡ n → Answered c (refusedOf q place) b
+        go zero e = refused-0 e
+        go (suc n) e = refused-suc n e
+
+-- ---- the same of an answer that is known by an equation
+
+module _ (c : Lent) (r : Answer) (b : List ℕ) (d : Decodes c r b) where
+  pub keyed-as : (text issues charge len : ℕ) (part : List ℕ) → r ≡ Decoded text issues charge → Removed (take text b) len part → Answered c (key.Keyed len charge) (part ++ drop text b)
+  keyed-as text issues charge len part e = keyed c text issues charge b (subst (λ (x : Answer). Decodes c x b) e d) len part
+
+  pub refused-as : (q place : ℕ) (k : KeyAnswer) → r ≡ Refused q place → k ≡ refusedOf q place → Answered c k b
+  refused-as q place k e f = subst (λ (x : KeyAnswer). Answered c x b) (sym f) (refused c q place b (subst (λ (x : Answer). Decodes c x b) e d))
+
+  -- the text lies in the buffer
+  pub text-inside : decode.textOf r ≤ length b
+  text-inside = go r refl
+    where
+      go : (x : Answer) → r ≡ x → decode.textOf x ≤ length b
+      go (Decoded text issues charge) e = inside c text issues charge b (subst (λ (y : Answer). Decodes c y b) e d)
+      go (Refused q place) e = omega arith
+
+-- ---- a key lies in the buffer
+
+pub len-inside : (c : Lent) → outcome c .len ≤ c .room
+unfolding outcome outcomeOf keyBytes textBytes
+len-inside c = go (refusal c) refl
+  where
+    none : (q : ℕ) → questionOf q ≡ 0 → q ≡ 0
+    none q e = by (eqb q 9) e
+      where
+        by : (t : Bool) → cond t 10 q ≡ 0 → q ≡ 0
+        by true f = absurd (omega arith)
+        by false f = f
+
+    go : (m : ℕ) → refusal c ≡ m → outcomeOf m c .len ≤ c .room
+    go zero e = omega (arith, passed-0 c (none (decoding.refusal (decodingOf c)) (sym (refusal-as c) ∙ e)) .1, key-shorter (reading c .out .text))
+    go (suc m) e = omega arith
+
+-- ---- what the decoding of a lent table gives
+
+module _ (cells : List ℕ) (initial width : ℕ) (input buffer : List ℕ) (numbers : (k : ℕ) → getD cells k 0 < 0x10000) where
+  lent-scalars : firstRefusal cells initial width decodeLimit (length input) ≡ 0 → T (areScalars (reading (lent cells initial width input buffer) .out .text))
+  unfolding reading decoding.reading
+  lent-scalars z = text-scalars (record { cells = cells; annexE = eqb width 1; input = input }) initial (record { admitted = passed cells initial width decodeLimit (length input) z .table; numbers = numbers })
+
+  pub decodes : (r : Answer) (t i : List ℕ) → length t ≡ length buffer → decode.Answered (decodingOf (lent cells initial width input buffer)) r t i → Decodes (lent cells initial width input buffer) r t
+  decodes r t i h a = record { room = h; scalars = lent-scalars; issues = i; answered = a }

@@ -1,0 +1,4 @@
+pub mod Characters
+pub mod Moving
+pub mod Calls
+pub mod Laws

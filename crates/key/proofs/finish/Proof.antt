@@ -1,0 +1,56 @@
+-- `key::finish` meets its contract, by the decoding's answer. Assumes nothing.
+use mathlib.Core.Path.{_≡_, sym, ap, subst}
+use Prim.Native.Nat.{_≤_}
+use native.Mathlib.Omega.{arith}
+use borrow.Author.Needs.{needs}
+use lib.ListN.{length}
+use lib.Seq.{length-take-le}
+use Rattle.decode.specs.Answers.{textOf}
+use Rattle.key.proofs.Calls.{keyed-as, refused-as}
+use Rattle.key.proofs.finish.Statement.{statement}
+use Rattle.key.proofs.finish.Tie as tie
+use Rattle.key.proofs.finish.Reads as reads
+use Rattle.key.proofs.finish.Lts as lts
+use Rattle.key.proofs.refuse.Reads as refuse-reads
+use Rattle.key.proofs.remove.Reads as remove-reads
+
+enum-known-r : tie.Need-enum-known-r
+enum-known-r c = search needs
+
+slice-relend-prefix-remove : tie.Need-slice-relend-prefix-remove
+slice-relend-prefix-remove c = omega (arith, ap textOf (c .before .r .given .1), c .before .before .before .before .pre)
+
+slice-aggregate-remove : tie.Need-slice-aggregate-remove
+slice-aggregate-remove c = sym (length-take-le _ _ (omega (arith, ap textOf (c .before .before .r .given .1), c .before .before .before .before .before .pre)))
+
+remove-requires : tie.Need-remove-requires
+remove-requires c κs = search needs
+
+enum-known-r-2 : tie.Need-enum-known-r-2
+enum-known-r-2 c = search needs
+
+refuse-requires : tie.Need-refuse-requires
+refuse-requires c κs = search needs
+
+same-length : tie.Need-same-length
+same-length c = search needs
+
+returns : tie.Need-returns
+returns c = λ l d. keyed-as l _ _ d _ _ _ _ _ (c .before .before .before .before .before .r .given .1) (c .before .before .remove .ensures)
+
+returns-2 : tie.Need-returns-2
+returns-2 c = λ l d. refused-as l _ _ d _ _ _ (c .before .before .r2 .given .1) (c .refuse .ensures)
+
+pub finish-spec : {M : Type 1} → statement M
+finish-spec =
+    tie.close
+    (tie.spec
+    enum-known-r
+    slice-relend-prefix-remove
+    slice-aggregate-remove
+    remove-requires
+    enum-known-r-2
+    refuse-requires
+    same-length
+    returns
+    returns-2)

@@ -1,0 +1,6 @@
+pub mod Entries
+pub mod Pigeonhole
+pub mod Pushing
+pub mod Standing
+pub mod Costs
+pub mod Keeping

@@ -1,0 +1,4 @@
+pub mod Entries
+pub mod Stands
+pub mod Kept
+pub mod Stored

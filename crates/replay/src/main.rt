@@ -1,0 +1,26 @@
+// Holds the library to calls whose answers are known. `decode.bin` has calls of `decode_with` and
+// `jis.tab` the cell table (compare/README.md has the layout). A line for each file says how many
+// answers were compared and how many differ.
+mod case;
+mod decoding;
+
+use libc::STDOUT_FILENO;
+use vectors::files::cells;
+use vectors::files::read;
+use vectors::tally::line;
+
+// The buffer of the cell table has room for one byte more, so that a longer file shows; that of the
+// cases is longer than the file, whose end is looked at.
+fn main() {
+    let mut table = [0u8; 17673];
+    let m = read(b"jis.tab", &mut table);
+    if m != 17672 {
+        io::write_all(STDOUT_FILENO, b"jis.tab does not have 17672 bytes\n");
+        return;
+    }
+    let mut t = [0u16; 8836];
+    cells(&table[..m], &mut t);
+    let mut file = [0u8; 0x80000];
+    let n = read(b"decode.bin", &mut file);
+    line(b"decode", decoding::replay(&file[..n], &t));
+}

@@ -1,0 +1,4 @@
+pub mod Characters
+pub mod Written
+pub mod Steps
+pub mod Scalars

@@ -1,0 +1,4 @@
+pub mod Chain
+pub mod Reaching
+pub mod Choosing
+pub mod Trying
