@@ -93,7 +93,7 @@ unfolding bigEndian
 cellTable false bytes = replicate 8836 0
 cellTable true bytes = cond (eqb (length bytes) 17672) (bigEndian bytes) []
 
--- "with Si, CharacterSize"; "It has 65,536 text bytes and 256 issues"
+-- "with Si, CharacterSize"; "It has 65,536 text bytes and 256 issues", of four numbers each
 abbrev pub call : List ℕ → List ℕ → Lent
 call cells input = record { cells = cells; initial = 0; width = 0; input = input; textRoom = 65536; issueRoom = 1024 }
 
