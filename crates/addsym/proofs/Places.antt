@@ -36,6 +36,15 @@ listed f k (suc n) (suc i) h = listed f (suc k) n i (le-of-suc-le-suc h) ∙ ap 
 abbrev pub values : (ℕ → ℕ → ℕ) → List ℕ
 values f = list (λ k. f (rowAt k) (cellAt k)) 0 658
 
+-- the values of a rule at the 94 cells of a row
+abbrev pub rowOf : (ℕ → ℕ) → List ℕ
+rowOf f = list (λ k. f (k + 1)) 0 94
+
+pub in-row : (f : ℕ → ℕ) (cell : ℕ) → 0 < cell → cell ≤ 94 → getD (rowOf f) (cell - 1) 0 ≡ f cell
+in-row f cell h0 h1 =
+    let e : 0 + (cell - 1) + 1 ≡ cell = omega arith in
+    listed (λ k. f (k + 1)) 0 94 (cell - 1) (omega arith) ∙ ap f e
+
 -- a number that is in a list stands at its place
 in-place : (xs : List ℕ) (n : ℕ) → placeIn xs n < length xs → getD xs (placeIn xs n) 0 ≡ n
 unfolding placeIn

@@ -667,9 +667,8 @@ pub const T719: [u32; 658] = [
     0,
 ];
 
-// The same places with the replaced values: what the decoder writes.
-pub const UNICODE: [u32; 658] = [
-    // row 85
+// The scalars that the decoder writes, 0 for a blank cell: a constant a row, since a constant array is built anew at each use.
+pub const ROW85: [u32; 94] = [
     0x3402,
     0x20158,
     0x4EFD,
@@ -764,7 +763,9 @@ pub const UNICODE: [u32; 658] = [
     0x79AE,
     0x9FC6,
     0x4103,
-    // row 86
+];
+
+pub const ROW86: [u32; 94] = [
     0x9FC5,
     0x79DA,
     0x7A1E,
@@ -859,7 +860,9 @@ pub const UNICODE: [u32; 658] = [
     0,
     0,
     0,
-    // row 90
+];
+
+pub const ROW90: [u32; 94] = [
     0x26CC,
     0x26CD,
     0x2757,
@@ -954,7 +957,9 @@ pub const UNICODE: [u32; 658] = [
     0,
     0,
     0,
-    // row 91
+];
+
+pub const ROW91: [u32; 94] = [
     0x26E3,
     0x2B56,
     0x2B57,
@@ -1049,7 +1054,9 @@ pub const UNICODE: [u32; 658] = [
     0,
     0,
     0,
-    // row 92
+];
+
+pub const ROW92: [u32; 94] = [
     0x27A1,
     0x2B05,
     0x2B06,
@@ -1144,7 +1151,9 @@ pub const UNICODE: [u32; 658] = [
     0,
     0,
     0,
-    // row 93
+];
+
+pub const ROW93: [u32; 94] = [
     0x322A,
     0x322B,
     0x322C,
@@ -1239,7 +1248,9 @@ pub const UNICODE: [u32; 658] = [
     0,
     0,
     0,
-    // row 94
+];
+
+pub const ROW94: [u32; 94] = [
     0x2160,
     0x2161,
     0x2162,

@@ -1,5 +1,5 @@
 -- The nodes of the layers in the store. Assumes nothing.
-use mathlib.Core.Path.{_≡_, refl, sym, ap, _∙_}
+use mathlib.Core.Path.{_≡_, refl, sym, ap, subst, _∙_}
 use mathlib.Core.List.{List, [], _∷_, map}
 use Prim.Native.Nat.{ℕ, zero, suc, _+_, _*_, _≤_, _<_}
 use native.Mathlib.Omega.{arith}
@@ -11,9 +11,10 @@ use Rattle.coding.specs.State.{State, start}
 use Rattle.coding.specs.Candidates.{Cand}
 use Rattle.coding.specs.Search.{Node, node, newest, firstOf, nodeAt}
 use Rattle.layer.specs.Entries.{Entry, entry, nodeOf, entriesOf, layerOf, entryAt}
-use Rattle.layer.specs.Stands.{All, none, more}
-use Rattle.layer.specs.Stored.{stored}
+use Rattle.layer.specs.Stands.{All, none, more, Sound}
+use Rattle.search.specs.Layers.{Layers, first, behind}
 use Rattle.layer.proofs.Entries.{length-of, entry-of}
+use Rattle.laws.proofs.Every.{all-map}
 use Rattle.laws.proofs.Chains.{Link, Chain, begins, grows, at}
 use Rattle.laws.specs.Reading as laws
 
@@ -49,26 +50,82 @@ module _ (s : List ℕ) (from count : ℕ) (fits : (from + count) * 4 ≤ length
       let e = length-of s from count fits in
       rw (sym (entry-of s from count fits i (entry 0 0 0 0) h)) (all-entry P a i (omega arith))
 
--- the newest layer's candidates
-abbrev pub headOf : List (List Cand) → List Cand
-headOf [] = []
-headOf (cs ∷ css) = cs
+-- the node before, in the layer l, and the cost of what was written from there
+pub record Linking (l : List Node) (m : Node) : Type 0 where
+  pub from : m .prev < length l
+  pub cost : m .cost ≡ at l (m .prev) .cost + length (m .bytes)
 
-pub newest-is : (css : List (List Cand)) (s : List ℕ) (from count : ℕ) → newest (stored css s from count) ≡ layerOf (headOf css) s from count
-unfolding newest stored
-newest-is [] s from count = refl
-newest-is (cs ∷ css) s from count = refl
+-- layers, the newest first, from a start on
+pub data Linked (t : State) : List (List Node) → Type 0 where
+  starts : Linked t ((node 0 0 t [] ∷ []) ∷ [])
+  follows : {l : List Node} {ls : List (List Node)} → laws.All (Linking (newest ls)) l → Linked t ls → Linked t (l ∷ ls)
 
--- a chain's newest link, and the chain before it
-module _ {C : Type 0} {t : State} where
-  pub chain-link : {ks : List Cand} {css : List (List Cand)} {l : List Node} {ls : List (List Node)} → Chain C t (ks ∷ css) (l ∷ ls) → laws.All (Link C ks (newest ls)) l
-  chain-link (grows a c) = a
+pub linked-of : {C : Type 0} {t : State} {css : List (List Cand)} {ls : List (List Node)} → Chain C t css ls → Linked t ls
+linked-of begins = starts
+linked-of (grows {l = l} {ls = ls} a c) = follows (all-map (Link _ _ (newest ls)) (Linking (newest ls)) l (λ m k. record { from = k .from; cost = k .step .cost }) a) (linked-of c)
 
-  pub chain-rest : {ks : List Cand} {css : List (List Cand)} {l : List Node} {ls : List (List Node)} → Chain C t (ks ∷ css) (l ∷ ls) → Chain C t css ls
-  chain-rest (grows a c) = c
+linked-some : {t : State} {ls : List (List Node)} → Linked t ls → 1 ≤ length ls
+linked-some starts = omega arith
+linked-some (follows a c) = omega arith
 
-  pub chain-start : {l : List Node} {ls : List (List Node)} → Chain C t [] (l ∷ ls) → l ≡ node 0 0 t [] ∷ []
-  chain-start begins = refl
+pub linked-link : {t : State} {l : List Node} {ls : List (List Node)} → 1 ≤ length ls → Linked t (l ∷ ls) → laws.All (Linking (newest ls)) l
+linked-link h starts = absurd (omega arith)
+linked-link h (follows a c) = a
+
+pub linked-rest : {t : State} {l : List Node} {ls : List (List Node)} → 1 ≤ length ls → Linked t (l ∷ ls) → Linked t ls
+linked-rest h starts = absurd (omega arith)
+linked-rest h (follows a c) = c
+
+pub linked-start : {t : State} {l : List Node} → Linked t (l ∷ []) → l ≡ node 0 0 t [] ∷ []
+linked-start starts = refl
+linked-start (follows a c) = absurd (omega (arith, linked-some c))
+
+-- the newest of the layers in the store
+pub record Newest (css : List (List Cand)) (s : List ℕ) (from count : ℕ) (ls : List (List Node)) : Type 0 where
+  pub cs : List Cand
+  pub is : newest ls ≡ layerOf cs s from count
+  pub some : 1 ≤ length ls
+
+pub newest-of : {css : List (List Cand)} {s : List ℕ} {j from count : ℕ} {ls : List (List Node)} → Layers css s j from count ls → Newest css s from count ls
+unfolding newest
+newest-of (first l e) = record { cs = []; is = e; some = omega arith }
+newest-of {css} {s} (behind {j = j} from count most l r f e a) = record { cs = getD css j []; is = e; some = omega arith }
+
+-- the layers before it
+pub record Behind (css : List (List Cand)) (s : List ℕ) (j from count : ℕ) (ls : List (List Node)) : Type 0 where
+  pub back : ℕ
+  pub before : ℕ
+  pub rest : List (List Node)
+  pub most : ℕ
+  pub layers : Layers css s j back before rest
+  pub place : from ≡ back + before
+  pub whole : ls ≡ layerOf (getD css j []) s from count ∷ rest
+  pub sound : All (Sound back most) (entriesOf s from count)
+
+pub behind-of : {css : List (List Cand)} {s : List ℕ} {k from count : ℕ} {ls : List (List Node)} (j : ℕ) → k ≡ suc j → Layers css s k from count ls → Behind css s j from count ls
+behind-of j e (first l f) = absurd (omega arith)
+behind-of {css} {s} j e (behind {j = i} {back = back} {before = before} {ls = ls} from count most l r f g a) =
+    let q : i ≡ j = omega arith in
+    record {
+      back = back;
+      before = before;
+      rest = ls;
+      most = most;
+      layers = subst (λ (x : ℕ). Layers css s x back before ls) q r;
+      place = f;
+      whole = ap (λ (x : List Node). x ∷ ls) g ∙ ap (λ (x : ℕ). layerOf (getD css x []) s from count ∷ ls) q;
+      sound = a;
+    }
+
+-- the start alone
+pub record Alone (s : List ℕ) (from count : ℕ) (ls : List (List Node)) : Type 0 where
+  pub place : from ≡ 0
+  pub one : count ≡ 1
+  pub whole : ls ≡ layerOf [] s from count ∷ []
+
+pub alone-of : {css : List (List Cand)} {s : List ℕ} {k from count : ℕ} {ls : List (List Node)} → k ≡ 0 → Layers css s k from count ls → Alone s from count ls
+alone-of e (first l f) = record { place = refl; one = refl; whole = ap (λ (x : List Node). x ∷ []) f }
+alone-of e (behind from count most l r f g a) = absurd (omega arith)
 
 -- the first node of a cost, where none before the i-th has it
 first-yes : (cost : ℕ) (n : Node) (l : List Node) → n .cost ≡ cost → firstOf cost (n ∷ l) ≡ 0

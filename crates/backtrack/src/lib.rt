@@ -3,7 +3,7 @@
 use candidates::Cands;
 ghost use mathlib.Core.Path.{_≡_};
 ghost use mathlib.Core.List.{List, []};
-ghost use Prim.Native.Nat.{ℕ, _+_, _*_, _≤_};
+ghost use Prim.Native.Nat.{_+_, _*_, _≤_};
 ghost use lib.ListN.{length};
 ghost use lib.Seq.{sets};
 ghost use Rattle.coding.specs.Candidates.{Cand};
@@ -30,7 +30,7 @@ pub fn first_of(store: &[u32], from: usize, count: usize, cost: u32) -> usize
 
 // Writes a character by one of its candidates, as `how` says.
 fn put_character(coding: &mut [u8], at: usize, k: Cands, how: u32)
-    requires { ⌜ (at ≤ 65536) × Proper k ⌝ }
+    requires { ⌜ (at ≤ 4294967296) × Proper k ⌝ }
     ensures { λ _. ⌜ now (coding .exit) ≡ sets (now (coding .entry)) at (written (candsOf k) how) ⌝ }
 {
     let j = (how % 16) as usize;

@@ -278,7 +278,7 @@ fn plane1(
 }
 
 /// The character of a one-byte code, 0 for none.
-fn scalar(answer: OneByteChar) -> u32
+pub fn scalar(answer: OneByteChar) -> u32
     ensures { λ r. ⌜ ((x : ℕ) → answer ≡ oneByteOf x → r ≡ x) ⌝ }
 {
     match answer {
@@ -288,7 +288,7 @@ fn scalar(answer: OneByteChar) -> u32
 }
 
 /// An alphanumeric, full-width unless narrow, 0 for none. Table 7-5.
-fn alphanumeric_at(narrow: bool, c: u8) -> u32
+pub fn alphanumeric_at(narrow: bool, c: u8) -> u32
     ensures { λ r. ⌜ r ≡ letter narrow 1 c ⌝ }
 {
     let half = scalar(tables::alphanumeric(c));

@@ -74,7 +74,7 @@ pub fn truncated(b: &[u8], i: usize, at: u32, s: Core, issues: &mut [u32]) -> St
 }
 
 // The place of the first byte from `from` on that does not lie from 02/0 to `high`.
-fn leading(b: &[u8], from: usize, high: u8) -> usize
+pub fn leading(b: &[u8], from: usize, high: u8) -> usize
     requires { ⌜ from ≤ length (now b) ⌝ }
     ensures { λ r. ⌜ r ≡ from + leading 0x20 high (drop from (now (b .entry))) ⌝ }
 {
@@ -93,7 +93,7 @@ fn leading(b: &[u8], from: usize, high: u8) -> usize
 }
 
 // Whether a byte ends a sequence: `low` to 07/14.
-fn is_final(f: u8, low: u8) -> bool
+pub fn is_final(f: u8, low: u8) -> bool
     ensures { λ r. ⌜ r ≡ (leb low f && leb f 0x7E) ⌝ }
 {
     if f < low {
@@ -103,7 +103,7 @@ fn is_final(f: u8, low: u8) -> bool
 }
 
 // What an escape sequence does. Tables 7-1 and 7-2.
-enum EscapeSequence {
+pub enum EscapeSequence {
     // A locking shift of a code element to GL.
     Gl(u8),
     // The same to GR.
@@ -210,7 +210,7 @@ fn designation3(a: u8, g: u8, d: u8, f: u8) -> EscapeSequence
 }
 
 // The escape sequence from the ESC at `i` to its final byte at `j`.
-fn escape_at(b: &[u8], i: usize, j: usize) -> EscapeSequence
+pub fn escape_at(b: &[u8], i: usize, j: usize) -> EscapeSequence
     requires { ⌜ (i < j) × (j < length (now b)) × (getD (now b) i 0 ≡ 0x1B) ⌝ }
     ensures { λ r. ⌜ Means (applied (take (j - i) (drop (i + 1) (now (b .entry))))) r ⌝ }
 {

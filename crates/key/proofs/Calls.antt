@@ -278,6 +278,15 @@ len-inside c = go (refusal c) refl
     go zero e = omega (arith, passed-0 c (none (decoding.refusal (decodingOf c)) (sym (refusal-as c) ∙ e)) .1, key-shorter (reading c .out .text))
     go (suc m) e = omega arith
 
+-- and stands at its beginning
+pub key-bytes : (c : Lent) → outcome c .refused ≡ 0 → take (outcome c .len) (outcome c .buffer) ≡ keyBytes c
+unfolding outcome outcomeOf
+key-bytes c e = go (refusal c) e (len-inside c)
+  where
+    go : (m : ℕ) → outcomeOf m c .refused ≡ 0 → outcomeOf m c .len ≤ c .room → take (outcomeOf m c .len) (outcomeOf m c .buffer) ≡ keyBytes c
+    go zero f h = take-padded (c .room) (keyBytes c) h
+    go (suc m) f h = absurd (omega arith)
+
 -- ---- what the decoding of a lent table gives
 
 module _ (cells : List ℕ) (initial width : ℕ) (input buffer : List ℕ) (numbers : (k : ℕ) → getD cells k 0 < 0x10000) where

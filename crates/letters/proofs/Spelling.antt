@@ -2,29 +2,33 @@
 use Prim.Native.Nat.{ℕ, _+_, _-_, _*_, _/_, _%_, _≤_, _<_}
 use mathlib.Core.Path.{_≡_, refl, sym, ap, subst, _∙_}
 use mathlib.Core.Bool.{Bool, true, false, cond, _&&_, _||_}
-use mathlib.Core.List.{List}
+use mathlib.Core.List.{List, [], _∷_, _++_}
+use mathlib.Core.Logic.{_⊎_, inl, inr}
 use native.Mathlib.Omega.{arith}
 use borrow.Author.Tests.{eqb-true, leb-true, ltb-true, ltb-false, eq-eqb, ne-eqb, le-leb, lt-leb}
 use lib.Dec.{T, eqb, leb, ltb}
-use lib.ListN.{length, drop, getD, replicate}
+use lib.ListN.{length, drop, getD, set, replicate}
+use lib.Seq.{sets}
 use Rattle.base.proofs.Table.{every, at}
 use Rattle.sets.specs.Sets.{bytesPerChar}
+use Rattle.addsym.specs.Symbols.{symbol}
 use Rattle.tables.specs.OneByte.{oneByteAt}
 use Rattle.tables.specs.Kanji.{nonSpacing, isMark, kanjiAt}
 use Rattle.tables.specs.declared.OneByteTable.{OneByteTable}
 use Rattle.tables.specs.declared.OneByteTable.the-variants.{Alphanumeric, Fullwidth, Hiragana, Katakana, JisX0201Katakana}
 use Rattle.issues.specs.declared.IssueKind.{IssueKind}
 use Rattle.issues.specs.declared.IssueKind.the-variants.{UndefinedCode}
-use Rattle.output.specs.Output.{emit}
+use Rattle.output.specs.Output.{Output, times, emit, newline}
+use Rattle.output.proofs.Held.{release-none}
 use Rattle.reading.specs.State.{Given, State, took, writes, isNarrow}
 use Rattle.reading.specs.Macros.{Run}
-use Rattle.reading.specs.Characters.{isGL, isGR, isGraphic, emitOr, cellOr, letter, graphicOf, graphic}
-use Rattle.reading.specs.Steps.{step}
+use Rattle.reading.specs.Characters.{isGL, isGR, isGraphic, emitOr, cellOr, letter, char2, graphicOf, graphic}
+use Rattle.reading.specs.Steps.{step, control0, space}
 use Rattle.utf8.specs.Utf8.{utf8}
-use Rattle.utf8.proofs.Bytes.{row1, row2, row3}
+use Rattle.utf8.proofs.Bytes.{row1, row2, row3, length-utf8}
 use Rattle.tables.proofs.KanjiLaws.{on-grid, rows-3-89}
-use Rattle.characters.proofs.Laws.{emit-some, char2-kanji, char1-letter, graphic2-pair, graphic-two, graphic-one}
-use Rattle.letters.specs.Contracts.{Ideograph}
+use Rattle.characters.proofs.Laws.{emit-some, char2-kanji, char2-symbol, char1-letter, graphic2-pair, graphic-two, graphic-one}
+use Rattle.letters.specs.Contracts.{Pair, Ideograph, Sees, Spells, Reads}
 
 -- ---- a byte of GL or GR reads through the set there
 
@@ -158,18 +162,13 @@ two-bytes c h = go (ltb c 0x80) refl
     go true e = omega (arith, ap length (row1 c (ltb-true c 0x80 e)))
     go false e = omega (arith, ap length (row2 c (ltb-false c 0x80 e) h))
 
+pub one-byte : (c : ℕ) → c < 0x80 → 1 ≡ length (utf8 c)
+one-byte c h = rw (row1 c h)
+
+pub put-one : (t : List ℕ) (n c : ℕ) → c < 0x80 → set t n c ≡ sets t n (utf8 c)
+put-one t n c h = rw (row1 c h)
+
 -- ---- a character at a place
-
--- what the loop knows of a state
-pub record Sees (y z : ℕ) (b : Bool) (g : Given) (s : State) : Type 0 where
-  pub gl : y ≡ getD (s .sets) (s .gl) 0
-  pub gr : z ≡ getD (s .sets) (s .gr) 0
-  pub narrow : b ≡ isNarrow g s
-
--- a character of u bytes at the place j of b, written as it stands
-abbrev pub Spells : List ℕ → List ℕ → ℕ → ℕ → ℕ → Bool → ℕ → ℕ → Type 0
-Spells cells b j gl gr narrow u l = (g : Given) → g .cells ≡ cells → (left : ℕ) (R : Run) (place at : ℕ) (s : State) → Sees gl gr narrow g s
-    → took u (writes (emit l) s) ≡ step g left R (getD b j 0) (drop (j + 1) b) place at s
 
 module _ (cells b : List ℕ) (j gl gr : ℕ) (narrow : Bool) {z : ℕ} (byte : getD b j 0 < 256) (e : z ≡ cond (ltb (getD b j 0) 128) gl gr) where
   set-seen : (g : Given) (s : State) → Sees gl gr narrow g s → z ≡ setIn s (getD b j 0)
@@ -186,35 +185,109 @@ module _ (cells b : List ℕ) (j gl gr : ℕ) (narrow : Bool) {z : ℕ} (byte : 
       ∙ ap (λ (k : ℕ). graphicOf g left R k x (drop (j + 1) b) at s) (set-seen g s h)
       ∙ sym (step-graphic x (w .low) (w .high) byte g left R (drop (j + 1) b) place at s)
 
-  no-mark : (c : ℕ) → 0x3000 ≤ c → isMark nonSpacing c ≡ false
-  unfolding isMark
-  no-mark c h =
-      rw (
-        ne-eqb 0x301 c (λ q. omega arith),
-        ne-eqb 0x300 c (λ q. omega arith),
-        ne-eqb 0x308 c (λ q. omega arith),
-        ne-eqb 0x302 c (λ q. omega arith),
-        ne-eqb 0x305 c (λ q. omega arith),
-        ne-eqb 0x332 c (λ q. omega arith),
-        ne-eqb 0x20DD c (λ q. omega arith),
-      )
-
-  shown : (kind : IssueKind) (c at : ℕ) (s : State) → 0x3000 ≤ c → writes (emit c) s ≡ cellOr kind c at s
+  shown : (kind : IssueKind) (c at : ℕ) (s : State) → isMark nonSpacing c ≡ false → (c ≡ 0 → ⊥) → writes (emit c) s ≡ cellOr kind c at s
   unfolding cellOr
-  shown kind c at s h = rw (no-mark c h) (emit-some kind at s c (λ q. omega arith))
+  shown kind c at s m f = rw m (emit-some kind at s c f)
 
-  pub spells-kanji : {c : ℕ} → z ≡ 0 → getD b (j + 1) 0 < 256 → Ideograph cells b j c → Spells cells b j gl gr narrow 2 c
-  unfolding bytesPerChar
-  spells-kanji {c} z0 byte₂ w g ce left R place at s h =
+  -- a character of a set n of two bytes a character
+  pair-step : {c : ℕ} (n : ℕ) → eqb (bytesPerChar n) 2 ≡ true → z ≡ n → getD b (j + 1) 0 < 256 → Pair cells b j z c → (g : Given) (left : ℕ) (R : Run) (place at : ℕ) (s : State) → Sees gl gr narrow g s
+      → writes (emit c) s ≡ char2 g n (getD b j 0 % 128) (getD b (j + 1) 0 % 128) at s → took 2 (writes (emit c) s) ≡ step g left R (getD b j 0) (drop (j + 1) b) place at s
+  pair-step n two q byte₂ w g left R place at s h k =
       let x = getD b j 0 in
       let y = getD b (j + 1) 0 in
-      let k = UndefinedCode 0 (x % 128 * 256 + y % 128) in
       let pair : (isGraphic y && eqb (x / 128) (y / 128)) ≡ true = rw (graphic-is y (w .cell-low) (w .cell-high) byte₂) (eq-eqb (x / 128) (y / 128) (w .area)) in
-      ap (took 2) (shown k c at s (w .low) ∙ ap (λ (n : ℕ). cellOr k n at s) (sym (w .reads)) ∙ char2-kanji g ce (x % 128) (y % 128) refl at s {z = 0} refl)
-      ∙ sym (graphic2-pair g 0 x b (j + 1) at s (w .two) pair)
-      ∙ graphic-two g left R 0 x (drop (j + 1) b) at s refl
-      ∙ ap (λ (n : ℕ). graphicOf g left R n x (drop (j + 1) b) at s) (sym z0 ∙ set-seen g s h)
+      ap (took 2) k
+      ∙ sym (graphic2-pair g n x b (j + 1) at s (w .two) pair)
+      ∙ graphic-two g left R n x (drop (j + 1) b) at s two
+      ∙ ap (λ (m : ℕ). graphicOf g left R m x (drop (j + 1) b) at s) (sym q ∙ set-seen g s h)
       ∙ sym (step-graphic x (w .row-low) (w .row-high) byte g left R (drop (j + 1) b) place at s)
+
+  pub spells-pair : {c : ℕ} → getD b (j + 1) 0 < 256 → Pair cells b j z c → Spells cells b j gl gr narrow 2 c
+  unfolding bytesPerChar
+  spells-pair {c} byte₂ w g ce left R place at s h = go (w .has .reads)
+    where
+      go : ((z ≡ 0) × (kanjiAt cells (getD b j 0 % 128 - 0x20) (getD b (j + 1) 0 % 128 - 0x20) ≡ c)) ⊎ ((z ≡ 14) × (symbol (getD b j 0 % 128 - 0x20) (getD b (j + 1) 0 % 128 - 0x20) ≡ c))
+          → took 2 (writes (emit c) s) ≡ step g left R (getD b j 0) (drop (j + 1) b) place at s
+      go (inl q) =
+          let x = getD b j 0 % 128 in
+          let y = getD b (j + 1) 0 % 128 in
+          let kind = UndefinedCode 0 (x * 256 + y) in
+          pair-step 0 refl (q .0) byte₂ w g left R place at s h
+          (shown kind c at s (w .has .spacing) (w .has .some) ∙ ap (λ (n : ℕ). cellOr kind n at s) (sym (q .1)) ∙ char2-kanji g ce x y refl at s {z = 0} refl)
+      go (inr q) =
+          let x = getD b j 0 % 128 in
+          let y = getD b (j + 1) 0 % 128 in
+          let kind = UndefinedCode 14 (x * 256 + y) in
+          pair-step 14 refl (q .0) byte₂ w g left R place at s h
+          (shown kind c at s (w .has .spacing) (w .has .some) ∙ ap (λ (n : ℕ). cellOr kind n at s) (sym (q .1)) ∙ char2-symbol g ce x y refl at s {z = 14} refl)
+
+-- ---- SP and APR
+
+-- where nothing waits, a newline is written as a character is
+newline-as : (o : Output) → o .marks ≡ [] → o .marksAt ≡ 0 → o .repeat ≡ 0 → emit 0x0A o ≡ newline o
+unfolding emit newline
+newline-as o m a r =
+    (λ k. record { text = o .text ++ (replicate (times (r k)) 0x0A ++ m k); marks = sym m k; marksAt = sym a k; repeat = sym r k; issues = o .issues })
+    ∙ ap (λ (x : Output). record { text = x .text ++ (0x0A ∷ []); marks = x .marks; marksAt = x .marksAt; repeat = x .repeat; issues = x .issues }) (sym (release-none o m))
+
+module _ (cells b : List ℕ) (j gl gr : ℕ) (narrow : Bool) where
+  pub spells-space : {l : ℕ} → getD b j 0 ≡ 0x20 → l ≡ cond narrow 0x20 0x3000 → Spells cells b j gl gr narrow 1 l
+  unfolding step isGL isGR control0 space
+  spells-space e q g ce left R place at s h =
+      ap (λ (n : ℕ). took 1 (writes (emit n) s)) (q ∙ ap (λ (u : Bool). cond u 0x20 0x3000) (h .narrow))
+      ∙ ap (λ (x : ℕ). step g left R x (drop (j + 1) b) place at s) (sym e)
+
+  pub spells-newline : getD b j 0 ≡ 0x0D → Spells cells b j gl gr narrow 1 0x0A
+  unfolding step isGL isGR control0 writes
+  spells-newline e g ce left R place at s h =
+      ap (λ (o : Output). took 1 (writes (λ _. o) s)) (newline-as (s .out) (h .marks) (h .marks-at) (h .repeat))
+      ∙ ap (λ (x : ℕ). step g left R x (drop (j + 1) b) place at s) (sym e)
+
+-- ---- a character, and its room
+
+three-most : (c : ℕ) → c < 0x10000 → length (utf8 c) ≤ 3 * 1
+three-most c h = go (ltb c 0x800) refl
+  where
+    go : (u : Bool) → ltb c 0x800 ≡ u → length (utf8 c) ≤ 3 * 1
+    go true e = omega (arith, two-bytes c (ltb-true c 0x800 e))
+    go false e = omega (arith, three-bytes c (ltb-false c 0x800 e) h)
+
+module _ (cells b : List ℕ) (j to gl gr : ℕ) (narrow : Bool) (inside : j < to) where
+  module _ {z : ℕ} (byte : getD b j 0 < 256) (e : z ≡ cond (ltb (getD b j 0) 128) gl gr) where
+    pub reads-letter : {l : ℕ} → l ≡ letter narrow z (getD b j 0 % 128) → (l ≡ 0 → ⊥) → Reads cells b j to gl gr narrow 1 l
+    reads-letter q f =
+        let w = letter-of narrow q f (omega arith) in
+        record { some = omega arith; within = omega arith; most = three-most _ (w .small); spells = spells-letter cells b j gl gr narrow byte e q f w }
+
+    pub reads-pair : {c : ℕ} → getD b (j + 1) 0 < 256 → j + 1 < to → Pair cells b j z c → Reads cells b j to gl gr narrow 2 c
+    reads-pair {c} byte₂ h w = record { some = omega arith; within = omega arith; most = omega (arith, length-utf8 c .most); spells = spells-pair cells b j gl gr narrow byte e byte₂ w }
+
+  small : (u : Bool) → cond u 0x20 0x3000 < 0x10000
+  small true = omega arith
+  small false = omega arith
+
+  pub reads-space : {l : ℕ} → getD b j 0 ≡ 0x20 → l ≡ cond narrow 0x20 0x3000 → Reads cells b j to gl gr narrow 1 l
+  reads-space {l} e q =
+      let h : l < 0x10000 = omega (arith, small narrow) in
+      record { some = omega arith; within = omega arith; most = three-most l h; spells = spells-space cells b j gl gr narrow e q }
+
+  pub reads-newline : getD b j 0 ≡ 0x0D → Reads cells b j to gl gr narrow 1 0x0A
+  reads-newline e = record { some = omega arith; within = omega arith; most = three-most 0x0A (omega arith); spells = spells-newline cells b j gl gr narrow e }
+
+-- ---- ideographs
+
+no-mark : (c : ℕ) → 0x3000 ≤ c → isMark nonSpacing c ≡ false
+unfolding isMark
+no-mark c h =
+    rw (
+      ne-eqb 0x301 c (λ q. omega arith),
+      ne-eqb 0x300 c (λ q. omega arith),
+      ne-eqb 0x308 c (λ q. omega arith),
+      ne-eqb 0x302 c (λ q. omega arith),
+      ne-eqb 0x305 c (λ q. omega arith),
+      ne-eqb 0x332 c (λ q. omega arith),
+      ne-eqb 0x20DD c (λ q. omega arith),
+    )
 
 -- the Kanji set's rows 3 to 84, and the place of a cell in the lent table
 pub ideograph : (cells b : List ℕ) (i : ℕ) → let x = getD b i 0 % 128 in let y = getD b (i + 1) 0 % 128 in let c = getD cells ((x - 0x21) * 94 + (y - 0x21)) 0 in i + 1 < length b
@@ -226,13 +299,23 @@ ideograph cells b i h area a d e f low high =
     let p : x - 0x20 - 1 ≡ x - 0x21 = omega arith in
     let q : y - 0x20 - 1 ≡ y - 0x21 = omega arith in
     record {
-      two = h;
-      area = area;
-      row-low = omega arith;
-      row-high = omega arith;
-      cell-low = e;
-      cell-high = f;
-      reads = rows-3-89 (x - 0x20) (y - 0x20) _ (omega arith) (omega arith) ∙ on-grid cells (x - 0x20) (y - 0x20) (omega arith) (omega arith) (omega arith) (omega arith) ∙ (λ k. getD cells (p k * 94 + q k) 0);
+      pair =
+          record {
+            two = h;
+            area = area;
+            row-low = omega arith;
+            row-high = omega arith;
+            cell-low = e;
+            cell-high = f;
+            has =
+                record {
+                  some = λ z. omega arith;
+                  spacing = no-mark _ low;
+                  reads =
+                      inl
+                      (refl, rows-3-89 (x - 0x20) (y - 0x20) _ (omega arith) (omega arith) ∙ on-grid cells (x - 0x20) (y - 0x20) (omega arith) (omega arith) (omega arith) (omega arith) ∙ (λ k. getD cells (p k * 94 + q k) 0));
+                };
+          };
       low = low;
       high = high;
     }

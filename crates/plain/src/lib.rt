@@ -40,7 +40,8 @@ fn stop_shift(b: &[u8], i: usize, s: Core, e: usize) -> Stop
     requires { ⌜ (i < length (now b)) × (e < 4) × ShiftOf (getD (now b) i 0) e ⌝ }
     ensures { λ r. ⌜ Verdict r (now (b .entry)) i s ⌝ }
 {
-    if s.sets[e] != MACRO_SET {
+    let sets = s.sets;
+    if sets[e] != MACRO_SET {
         return Stop::End;
     }
     if i + 1 >= b.len() {
@@ -58,7 +59,8 @@ fn stop_char(x: u8, s: Core, e: usize) -> Stop
     requires { ⌜ CharOf x e s ⌝ }
     ensures { λ r. ⌜ ((b : List ℕ) (i : ℕ) → i < length b → getD b i 0 ≡ x → Verdict r b i s) ⌝ }
 {
-    if s.sets[e] != MACRO_SET {
+    let sets = s.sets;
+    if sets[e] != MACRO_SET {
         return Stop::End;
     }
     Stop::Char(e)
@@ -167,12 +169,14 @@ fn simple(
     match x {
         0x21..=0x7E => {
             let e = s.gl as usize;
-            let set = s.sets[e];
+            let sets = s.sets;
+            let set = sets[e];
             characters::graphic(cells, b, i, set, at, s, text, issues)
         }
         0xA1..=0xFE => {
             let e = s.gr as usize;
-            let set = s.sets[e];
+            let sets = s.sets;
+            let set = sets[e];
             characters::graphic(cells, b, i, set, at, s, text, issues)
         }
         0x00..=0x7F => control0(cells, b, i, place, at, s, text, issues),
@@ -181,7 +185,7 @@ fn simple(
 }
 
 // Plain steps from the byte `from` of a body to its end, or to what stops them.
-pub fn plain(
+fn steps(
     cells: &[u16],
     b: &[u8],
     from: usize,
@@ -221,4 +225,37 @@ pub fn plain(
         s = r.core;
         i += r.used;
     }
+}
+
+// The same, where the first byte often stops them, as in a body that calls macros.
+pub fn plain(
+    cells: &[u16],
+    b: &[u8],
+    from: usize,
+    base: u32,
+    origin: u32,
+    core: Core,
+    text: &mut [u8],
+    issues: &mut [u32],
+) -> Stretched
+    requires { ⌜ (from ≤ length (now b)) × (length (now b) ≤ 65535) × (base ≤ 65535) ⌝ }
+    requires { ⌜ Good (length (now b) - from) core ⌝ }
+    ensures { λ r. ⌜ Plain (now (cells .entry)) base origin (now (b .entry)) from core (now (text .entry)) (now (issues .entry)) r (now (text .exit)) (now (issues .exit)) ⌝ }
+{
+    if from >= b.len() {
+        return Stretched {
+            at: from,
+            stop: Stop::End,
+            core,
+        };
+    }
+    let stop = stop(b, from, core);
+    let Stop::End = stop else {
+        return Stretched {
+            at: from,
+            stop,
+            core,
+        };
+    };
+    steps(cells, b, from, base, origin, core, text, issues)
 }

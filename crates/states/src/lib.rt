@@ -13,7 +13,11 @@ ghost use Rattle.states.specs.Written.{howOf};
 pub fn start(initial: u32) -> u32
     ensures { λ r. ⌜ Packs r (start initial) ⌝ }
 {
-    if initial == 0 { 2672 } else { 2768 }
+    if initial == 0 {
+        2672
+    } else {
+        2768
+    }
 }
 
 // The code of the set in the code element n.
@@ -100,5 +104,9 @@ pub fn designation_length(x: u32, n: u32) -> u32
 pub fn lock_length(n: u32) -> u32
     ensures { λ r. ⌜ r ≡ length (lockGL n) ⌝ }
 {
-    if n < 2 { 1 } else { 2 }
+    if n < 2 {
+        1
+    } else {
+        2
+    }
 }

@@ -14,7 +14,6 @@ ghost use mathlib.Core.List.{List};
 ghost use Prim.Native.Nat.{ℕ, _≤_, _<_};
 ghost use lib.ListN.{length, getD, drop};
 ghost use Rattle.tables.specs.Reverse.{oneByteReverse, kanjiReverse, additionalReverse, firstFrom, placeOf, kanjiPlace};
-use addsym::Found;
 
 /// What a code of a one-byte set reads as.
 pub enum OneByteChar {
@@ -346,10 +345,7 @@ fn table_at(t: &[u16], row: u8, cell: u8) -> u32
 fn symbol_at(row: u8, cell: u8) -> u32
     ensures { λ r. ⌜ r ≡ symbol row cell ⌝ }
 {
-    match addsym::additional_symbol(row, cell) {
-        Found::Symbol(s) => s.unicode,
-        Found::Blank => 0,
-    }
+    addsym::scalar(row, cell)
 }
 
 /// Whether a cell is in one of row 90's gaps, which the additional symbols set alone fills (Table 7-10).

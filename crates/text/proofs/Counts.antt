@@ -12,11 +12,15 @@ use Rattle.reading.specs.Call.{Lent, escapePart}
 use Rattle.decode.specs.declared.call.Answer.{Answer}
 use Rattle.decode.specs.declared.call.Answer.the-variants.{Decoded, Refused}
 use Rattle.decode.specs.Answers.{numberOf, placeOf, textOf, issuesOf, chargedOf, Answered}
+use Rattle.coding.specs.Call as coding
+use Rattle.encode.specs.Answers as codes
+use Rattle.encode.specs.declared.call.Answer as encoded
+use Rattle.encode.specs.declared.call.Answer.the-variants as coded
 use Rattle.key.specs.Key as key
 use Rattle.key.specs.Contracts as keys
 use Rattle.key.specs.declared.KeyAnswer.{KeyAnswer}
 use Rattle.key.specs.declared.KeyAnswer.the-variants as keyed
-use Rattle.text.specs.Calls.{fronted, counts, Decodes, escapeStart, Escapes, Reports, keyCounts, Keys, keyNumber, keyNumbers, KeyReports}
+use Rattle.text.specs.Calls.{fronted, counts, Decodes, escapeStart, Escapes, Reports, keyCounts, Keys, keyNumber, keyNumbers, KeyReports, codingCounts, Codes, CodingReports}
 
 -- four numbers, put one after the other
 four : (l : List ℕ) (w x y z : ℕ) {l₁ l₂ l₃ l₄ : List ℕ} → l₁ ≡ set l 0 w → l₂ ≡ set l₁ 1 x → l₃ ≡ set l₂ 2 y → l₄ ≡ set l₃ 3 z → l₄ ≡ fronted l (w ∷ x ∷ y ∷ z ∷ [])
@@ -101,4 +105,27 @@ keys-reported {c} {a} {before} v w = record {
   number = w .number ∙ ap keyNumber (v .answer) ∙ key-number (key.outcome c .refused) (key.outcome c);
   counted = w .counted ∙ ap (λ (x : KeyAnswer). fronted before (keyNumbers x)) (v .answer) ∙ ap (fronted before) (key-numbers (key.refusal c) c);
   written = v .written;
+}
+
+-- ---- codings
+
+pub coded-reports : {a : encoded.Answer} {n g : ℕ} {l l₁ l₂ l₃ : List ℕ} → a ≡ coded.Coded n g → l₁ ≡ set l 0 0 → l₂ ≡ set l₁ 1 n → l₃ ≡ set l₂ 2 g → CodingReports a l 0 l₃
+coded-reports {a} {n} {g} {l} e p q r = record {
+  number = sym (ap codes.numberOf e);
+  counted = three l 0 n g p q r ∙ sym (ap (λ (x : encoded.Answer). fronted l (codes.placeOf x ∷ codes.lengthOf x ∷ codes.gapOf x ∷ [])) e);
+}
+
+pub uncoded-reports : {a : encoded.Answer} {n k : ℕ} {l l₁ l₂ l₃ : List ℕ} → a ≡ coded.Refused n k → l₁ ≡ set l 0 k → l₂ ≡ set l₁ 1 0 → l₃ ≡ set l₂ 2 0 → CodingReports a l n l₃
+uncoded-reports {a} {n} {k} {l} e p q r = record {
+  number = sym (ap codes.numberOf e);
+  counted = three l k 0 0 p q r ∙ sym (ap (λ (x : encoded.Answer). fronted l (codes.placeOf x ∷ codes.lengthOf x ∷ codes.gapOf x ∷ [])) e);
+}
+
+pub coding-reported : {c : coding.Lent} {a : encoded.Answer} {before : List ℕ} {r : ℕ} {s b after : List ℕ} → codes.Answered c a s b → CodingReports a before r after → Codes c before r s b after
+unfolding codingCounts
+coding-reported {c} {a} {before} {r} v w = record {
+  number = w .number ∙ v .number;
+  counted = w .counted ∙ rw (v .place, v .counted, v .gap) refl;
+  written = v .written;
+  cleared = v .cleared;
 }

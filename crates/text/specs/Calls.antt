@@ -9,6 +9,9 @@ use lib.Seq.{sets}
 use Rattle.reading.specs.Call.{Lent, Outcome, outcome, escapePart}
 use Rattle.decode.specs.declared.call.Answer.{Answer}
 use Rattle.decode.specs.Answers.{numberOf, placeOf, textOf, issuesOf, chargedOf}
+use Rattle.coding.specs.Call as coding
+use Rattle.encode.specs.Answers as codes
+use Rattle.encode.specs.declared.call.Answer as encoded
 use Rattle.key.specs.Key as key
 use Rattle.key.specs.declared.KeyAnswer.{KeyAnswer}
 use Rattle.key.specs.declared.KeyAnswer.the-variants as keyed
@@ -67,3 +70,19 @@ keyNumbers (keyed.Refused number place) = place ∷ 0 ∷ 0 ∷ []
 pub record KeyReports (a : KeyAnswer) (before : List ℕ) (r : ℕ) (after : List ℕ) : Type 0 where
   pub number : r ≡ keyNumber a
   pub counted : after ≡ fronted before (keyNumbers a)
+
+-- The counts of a coding: place, bytes of the coding, gap.
+unfoldable pub codingCounts : coding.Outcome → List ℕ
+codingCounts o = o .place ∷ o .length ∷ o .gap ∷ []
+
+-- the number of the refusal as the result (0: none), the counts, and every element of store and buffer
+pub record Codes (c : coding.Lent) (before : List ℕ) (r : ℕ) (store buffer after : List ℕ) : Type 0 where
+  pub number : r ≡ coding.outcome c .refused
+  pub counted : after ≡ fronted before (codingCounts (coding.outcome c))
+  pub written : buffer ≡ coding.outcome c .buffer
+  pub cleared : store ≡ coding.outcome c .store
+
+-- an answer's number as the result, and its counts
+pub record CodingReports (a : encoded.Answer) (before : List ℕ) (r : ℕ) (after : List ℕ) : Type 0 where
+  pub number : r ≡ codes.numberOf a
+  pub counted : after ≡ fronted before (codes.placeOf a ∷ codes.lengthOf a ∷ codes.gapOf a ∷ [])

@@ -7,7 +7,8 @@ ghost use lib.ListN.{length, set};
 ghost use Rattle.questions.specs.Questions.{firstRefusal};
 ghost use Rattle.decode.specs.Answers.{lent};
 ghost use Rattle.key.specs.Contracts as keys;
-ghost use Rattle.text.specs.Calls.{Decodes, Escapes, escapeStart, Reports, Keys, KeyReports};
+ghost use Rattle.encode.specs.Answers as codes;
+ghost use Rattle.text.specs.Calls.{Decodes, Escapes, escapeStart, Reports, Keys, KeyReports, Codes, CodingReports};
 
 // One number of the counts, where they reach so far.
 fn put(counts: &mut [usize], n: usize, x: usize)
@@ -145,4 +146,41 @@ pub extern "C" fn arib_key(
 {
     let answer = key::key(cells, initial, width, input, buffer);
     report_key(answer, counts)
+}
+
+// The counts of a coding: the place of a refusal, then the coding's bytes and the gap.
+fn report_coding(answer: encode::call::Answer, counts: &mut [usize]) -> u32
+    ensures { λ r. ⌜ CodingReports answer (now (counts .entry)) r (now (counts .exit)) ⌝ }
+{
+    match answer {
+        encode::call::Answer::Coded { length, gap } => {
+            put(counts, 0, 0);
+            put(counts, 1, length);
+            put(counts, 2, gap);
+            0
+        }
+        encode::call::Answer::Refused { number, place } => {
+            put(counts, 0, place);
+            put(counts, 1, 0);
+            put(counts, 2, 0);
+            number
+        }
+    }
+}
+
+// `encode_with`. Answers the number of the refusal, 0 for none.
+#[no_mangle]
+pub extern "C" fn arib_encode(
+    cells: &[u16],
+    initial: u32,
+    width: u32,
+    text: &[u8],
+    store: &mut [u32],
+    coding: &mut [u8],
+    counts: &mut [usize],
+) -> u32
+    ensures { λ r. ⌜ Codes (codes.lent (now (cells .entry)) initial width (now (text .entry)) (now (store .entry)) (now (coding .entry))) (now (counts .entry)) r (now (store .exit)) (now (coding .exit)) (now (counts .exit)) ⌝ }
+{
+    let answer = encode::call::encode_with(cells, initial, width, text, store, coding);
+    report_coding(answer, counts)
 }

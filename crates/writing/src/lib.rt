@@ -17,7 +17,7 @@ ghost use Rattle.writing.specs.Contracts.{Put};
 
 // Writes a byte, where it fits. Returns the place behind it, as all that follow do.
 fn put(coding: &mut [u8], at: usize, x: u8) -> usize
-    requires { ⌜ at ≤ 65600 ⌝ }
+    requires { ⌜ at ≤ 4294967360 ⌝ }
     ensures { λ r. ⌜ Put (now (coding .entry)) at (x ∷ []) (now (coding .exit)) r ⌝ }
 {
     let to = at + 1;
@@ -30,7 +30,7 @@ fn put(coding: &mut [u8], at: usize, x: u8) -> usize
 
 // Writes a sequence.
 fn put_sequence(coding: &mut [u8], at: usize, q: Sequence) -> usize
-    requires { ⌜ (at ≤ 65580) × (q .len ≤ 5) × (length (q .bytes) ≡ 5) ⌝ }
+    requires { ⌜ (at ≤ 4294967340) × (q .len ≤ 5) × (length (q .bytes) ≡ 5) ⌝ }
     ensures { λ r. ⌜ ((xs : List ℕ) → Holds q xs → Put (now (coding .entry)) at xs (now (coding .exit)) r) ⌝ }
 {
     let mut to = at;
@@ -44,7 +44,7 @@ fn put_sequence(coding: &mut [u8], at: usize, q: Sequence) -> usize
 
 // Writes a size control: none (0), MSZ (1), NSZ (2).
 fn put_size(coding: &mut [u8], at: usize, z: u32) -> usize
-    requires { ⌜ at ≤ 65560 ⌝ }
+    requires { ⌜ at ≤ 4294967320 ⌝ }
     ensures { λ r. ⌜ Put (now (coding .entry)) at (sizeControl z) (now (coding .exit)) r ⌝ }
 {
     match z {
@@ -72,7 +72,7 @@ fn set_of(x: u32) -> GraphicSet
 
 // Writes the designation of a set to the code element e, where d says so.
 fn put_designation(coding: &mut [u8], at: usize, x: u32, e: u8, d: u32) -> usize
-    requires { ⌜ (at ≤ 65570) × (x < 7) × (e < 4) ⌝ }
+    requires { ⌜ (at ≤ 4294967330) × (x < 7) × (e < 4) ⌝ }
     ensures { λ r. ⌜ Put (now (coding .entry)) at (cond (eqb d 1) (designation (setOf x) e) []) (now (coding .exit)) r ⌝ }
 {
     if d == 1 {
@@ -129,7 +129,7 @@ fn single(e: u32) -> Shift
 
 // Writes the invocation of the code element e.
 fn put_invocation(coding: &mut [u8], at: usize, v: u32, e: u32) -> usize
-    requires { ⌜ (at ≤ 65580) × (e < 4) ⌝ }
+    requires { ⌜ (at ≤ 4294967340) × (e < 4) ⌝ }
     ensures { λ r. ⌜ Put (now (coding .entry)) at (invocation v e) (now (coding .exit)) r ⌝ }
 {
     if v < 2 {
@@ -151,7 +151,7 @@ fn half(v: u32) -> u8
 
 // Writes a code of one byte or two, in GL's half or in GR's.
 fn put_code(coding: &mut [u8], at: usize, code: u16, h: u8) -> usize
-    requires { ⌜ (at ≤ 65590) × (code / 256 < 128) × (code % 256 < 128) × (h ≤ 128) ⌝ }
+    requires { ⌜ (at ≤ 4294967350) × (code / 256 < 128) × (code % 256 < 128) × (h ≤ 128) ⌝ }
     ensures { λ r. ⌜ Put (now (coding .entry)) at (map (λ b. b + h) (codeOf code)) (now (coding .exit)) r ⌝ }
 {
     if code < 256 {
@@ -163,7 +163,7 @@ fn put_code(coding: &mut [u8], at: usize, code: u16, h: u8) -> usize
 
 // Writes a code of a set, by its three bits, as `how` says.
 pub fn put_graphic(coding: &mut [u8], at: usize, x: u32, code: u16, how: u32) -> usize
-    requires { ⌜ (at ≤ 65536) × (x < 7) × (code / 256 < 128) × (code % 256 < 128) ⌝ }
+    requires { ⌜ (at ≤ 4294967296) × (x < 7) × (code / 256 < 128) × (code % 256 < 128) ⌝ }
     ensures { λ r. ⌜ ((size : ℕ) → Put (now (coding .entry)) at (writtenBy (graphic (setOf x) (codeOf code) size) (how / 16 % 4) (how / 64 % 4) (how / 256 % 2) (how / 512)) (now (coding .exit)) r) ⌝ }
 {
     let e = how / 64 % 4;
@@ -176,7 +176,7 @@ pub fn put_graphic(coding: &mut [u8], at: usize, x: u32, code: u16, how: u32) ->
 
 // Writes SP or APR, as `how` says.
 pub fn put_plain(coding: &mut [u8], at: usize, x: u8, how: u32) -> usize
-    requires { ⌜ at ≤ 65536 ⌝ }
+    requires { ⌜ at ≤ 4294967296 ⌝ }
     ensures { λ r. ⌜ ((size : ℕ) → Put (now (coding .entry)) at (writtenBy (plain x size) (how / 16 % 4) (how / 64 % 4) (how / 256 % 2) (how / 512)) (now (coding .exit)) r) ⌝ }
 {
     let to = put_size(&mut *coding, at, how / 16 % 4);

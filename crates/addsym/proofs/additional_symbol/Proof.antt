@@ -1,10 +1,10 @@
 -- `addsym::additional_symbol` meets its contract: antt computes the list of the definition's 658 values,
--- and each table is that list.
+-- and the table is that list.
 -- Assumes nothing.
 use mathlib.Core.Path.{sym, _∙_}
 use native.Mathlib.Omega.{arith}
 use borrow.Author.Needs.{needs}
-use Rattle.addsym.specs.Symbols.{table719, symbol}
+use Rattle.addsym.specs.Symbols.{table719}
 use Rattle.addsym.proofs.Places.{entry, no-row, no-cell, past-cells, blank, found}
 use Rattle.addsym.proofs.additional_symbol.Statement.{statement}
 use Rattle.addsym.proofs.additional_symbol.Tie as tie
@@ -44,16 +44,15 @@ unfolding table719
 returns-4 c =
     blank _ _ (sym (entry (c .before .before .before .before .before .args .row) (c .before .before .before .before .before .args .cell) (c .before .before .before .before .row-place .result) (c .before .before .before .before .row-place .ensures) (omega arith) (omega arith) (omega arith) table719) ∙ c .if4 .taken)
 
-mul-t9 : tie.Need-mul-t9
-mul-t9 c = search needs
-
-array-read-t13 : tie.Need-array-read-t13
-array-read-t13 c = search needs
+scalar-requires : tie.Need-scalar-requires
+scalar-requires c κs = search needs
 
 returns-5 : tie.Need-returns-5
-unfolding symbol
+unfolding table719
 returns-5 c =
-    found _ _ _ _ (entry (c .before .before .before .before .before .args .row) (c .before .before .before .before .before .args .cell) (c .before .before .before .before .row-place .result) (c .before .before .before .before .row-place .ensures) (omega arith) (omega arith) (omega arith) table719) (entry (c .before .before .before .before .before .args .row) (c .before .before .before .before .before .args .cell) (c .before .before .before .before .row-place .result) (c .before .before .before .before .row-place .ensures) (omega arith) (omega arith) (omega arith) symbol) (c .if4 .left)
+    let k = c .before .before .before .before .before in
+    let a = k .before .args in
+    found _ _ _ _ (entry (a .row) (a .cell) (k .row-place .result) (k .row-place .ensures) (omega arith) (omega arith) (omega arith) table719) (c .scalar .ensures) (c .before .if4 .left)
 
 pub additional-symbol-spec : {M : Type 1} → statement M
 additional-symbol-spec =
@@ -69,6 +68,5 @@ additional-symbol-spec =
     mul-table-7-19
     array-read-table-7-19
     returns-4
-    mul-t9
-    array-read-t13
+    scalar-requires
     returns-5)

@@ -1,5 +1,5 @@
 -- `backtrack::write_back` meets its contract: the loop's invariant: what is behind the k-th character is written, and k characters lead to the node p. Assumes nothing.
-use Prim.Native.Nat.{_-_, _≤_}
+use Prim.Native.Nat.{_+_, _-_, _*_, _≤_}
 use mathlib.Core.Path.{_≡_, refl, ap, _∙_}
 use mathlib.Core.List.{[]}
 use native.Mathlib.Omega.{arith}
@@ -16,7 +16,7 @@ use Rattle.backtrack.proofs.write_back.Tie as tie
 
 abbrev Inv-loop : tie.InvT-loop
 Inv-loop chars kanji symbols annex n store from i coding₀ k₀ p₀ coding k p =
-    (k ≤ n) × (length coding ≡ length coding₀) × ((f : Searched annex chars kanji symbols n store from i) → Going (f .cells) annex chars kanji symbols store k p coding₀ coding (back (run (f .css) (begin (f .initial)) .layers) i []))
+    (k ≤ n) × (length coding ≡ length coding₀) × ((f : Searched annex chars kanji symbols n store from i) → Going (f .css) store k p coding₀ coding (back (run (f .css) (begin (f .initial)) .layers) i []))
 
 abbrev μ-loop : tie.MeasureT-loop
 μ-loop chars kanji symbols annex n store from i coding₀ k₀ p₀ coding k p = k
@@ -55,25 +55,25 @@ shared-slice-read-before : tie.Need-shared-slice-read-before Inv-loop μ-loop
 shared-slice-read-before c = omega (arith, c .before .before .before .before .before .before .before .before .before .good, going-fits (c .before .before .before .loop .inv .2 (c .before .before .before .before .before .before .before .before .before .pre .1)))
 
 cast-before : tie.Need-cast-before Inv-loop μ-loop
-cast-before c = let b = going-before (c .before .before .loop-test .taken) (c .before .before .before .loop .inv .2 (c .before .before .before .before .before .before .before .before .before .pre .1)) in omega (arith, c .before .before .before .before .before .before .before .before .before .good, b .fits)
+cast-before c = let b = going-before (c .before .before .before .loop .k - 1) (omega (arith, c .before .before .loop-test .taken)) (c .before .before .before .loop .inv .2 (c .before .before .before .before .before .before .before .before .before .pre .1)) in omega (arith, c .before .before .before .before .before .before .before .before .before .good, b)
 
 cast-before-2 : tie.Need-cast-before-2 Inv-loop μ-loop
 cast-before-2 c = search needs
 
 add-before-2 : tie.Need-add-before-2 Inv-loop μ-loop
-add-before-2 c = let b = going-before (c .before .before .loop-test .taken) (c .before .before .before .loop .inv .2 (c .before .before .before .before .before .before .before .before .before .pre .1)) in omega (arith, c .before .before .before .before .before .before .before .before .before .good, b .fits)
+add-before-2 c = let b = going-before (c .before .before .before .loop .k - 1) (omega (arith, c .before .before .loop-test .taken)) (c .before .before .before .loop .inv .2 (c .before .before .before .before .before .before .before .before .before .pre .1)) in omega (arith, c .before .before .before .before .before .before .before .before .before .good, b)
 
 mul-cost : tie.Need-mul-cost Inv-loop μ-loop
-mul-cost c = let b = going-before (c .before .before .loop-test .taken) (c .before .before .before .loop .inv .2 (c .before .before .before .before .before .before .before .before .before .pre .1)) in omega (arith, c .before .before .before .before .before .before .before .before .before .good, b .fits)
+mul-cost c = let b = going-before (c .before .before .before .loop .k - 1) (omega (arith, c .before .before .loop-test .taken)) (c .before .before .before .loop .inv .2 (c .before .before .before .before .before .before .before .before .before .pre .1)) in omega (arith, c .before .before .before .before .before .before .before .before .before .good, b)
 
 add-cost : tie.Need-add-cost Inv-loop μ-loop
-add-cost c = let b = going-before (c .before .before .loop-test .taken) (c .before .before .before .loop .inv .2 (c .before .before .before .before .before .before .before .before .before .pre .1)) in omega (arith, c .before .before .before .before .before .before .before .before .before .good, b .fits)
+add-cost c = let b = going-before (c .before .before .before .loop .k - 1) (omega (arith, c .before .before .loop-test .taken)) (c .before .before .before .loop .inv .2 (c .before .before .before .before .before .before .before .before .before .pre .1)) in omega (arith, c .before .before .before .before .before .before .before .before .before .good, b)
 
 mul-cost-2 : tie.Need-mul-cost-2 Inv-loop μ-loop
-mul-cost-2 c = let b = going-before (c .before .before .loop-test .taken) (c .before .before .before .loop .inv .2 (c .before .before .before .before .before .before .before .before .before .pre .1)) in omega (arith, c .before .before .before .before .before .before .before .before .before .good, b .fits)
+mul-cost-2 c = let b = going-before (c .before .before .before .loop .k - 1) (omega (arith, c .before .before .loop-test .taken)) (c .before .before .before .loop .inv .2 (c .before .before .before .before .before .before .before .before .before .pre .1)) in omega (arith, c .before .before .before .before .before .before .before .before .before .good, b)
 
 shared-slice-read-cost : tie.Need-shared-slice-read-cost Inv-loop μ-loop
-shared-slice-read-cost c = let b = going-before (c .before .before .before .loop-test .taken) (c .before .before .before .before .loop .inv .2 (c .before .before .before .before .before .before .before .before .before .before .pre .1)) in omega (arith, c .before .before .before .before .before .before .before .before .before .before .good, b .fits)
+shared-slice-read-cost c = let b = going-before (c .before .before .before .before .loop .k - 1) (omega (arith, c .before .before .before .loop-test .taken)) (c .before .before .before .before .loop .inv .2 (c .before .before .before .before .before .before .before .before .before .before .pre .1)) in omega (arith, c .before .before .before .before .before .before .before .before .before .before .good, b)
 
 mul-candidates : tie.Need-mul-candidates Inv-loop μ-loop
 mul-candidates c = omega (arith, c .before .before .before .before .before .before .before .before .before .before .good, c .before .before .before .before .before .before .before .before .before .before .pre .0 .chars, c .before .before .before .before .before .before .before .before .before .before .pre .0 .kanji, c .before .before .before .before .before .before .before .before .before .before .pre .0 .symbols)
@@ -97,10 +97,10 @@ candidates-requires : tie.Need-candidates-requires Inv-loop μ-loop
 candidates-requires c κs = search needs
 
 cast-put-character : tie.Need-cast-put-character Inv-loop μ-loop
-cast-put-character c = let b = going-before (c .before .before .before .before .before .before .before .before .loop-test .taken) (c .before .before .before .before .before .before .before .before .before .loop .inv .2 (c .before .before .before .before .before .before .before .before .before .before .before .before .before .before .before .pre .1)) in omega (arith, b .cheap)
+cast-put-character c = omega (arith, c .before .before .before .before .before .shared-slice-known7 .given (beforeOf (c .before .before .before .before .before .before .before .before .before .before .before .before .before .before .before .args .store .now) (c .before .before .before .before .before .before .before .before .before .loop .p) * 4 + 1))
 
 put-character-requires : tie.Need-put-character-requires Inv-loop μ-loop
-put-character-requires c κs = let b = going-before (c .before .before .before .before .before .before .before .before .loop-test .taken) (c .before .before .before .before .before .before .before .before .before .loop .inv .2 (c .before .before .before .before .before .before .before .before .before .before .before .before .before .before .before .pre .1)) in let k = c .before .candidates .ensures in (omega (arith, b .cheap), record { few = k .few; fits = k .fits })
+put-character-requires c κs = let k = c .before .candidates .ensures in (omega (arith, c .before .before .before .before .before .shared-slice-known7 .given (beforeOf (c .before .before .before .before .before .before .before .before .before .before .before .before .before .before .before .args .store .now) (c .before .before .before .before .before .before .before .before .before .loop .p) * 4 + 1)), record { few = k .few; fits = k .fits })
 
 loop-less : tie.Need-loop-less Inv-loop μ-loop
 loop-less c = omega arith
@@ -109,7 +109,7 @@ loop-again : tie.Need-loop-again Inv-loop μ-loop
 loop-again c = (
   omega arith,
   ap length (c .before .before .put-character .ensures) ∙ length-sets _ (costOf (c .before .before .before .before .before .before .before .before .before .before .before .before .before .before .before .before .before .before .args .store .now) (beforeOf (c .before .before .before .before .before .before .before .before .before .before .before .before .before .before .before .before .before .before .args .store .now) (c .before .before .before .before .before .before .before .before .before .before .before .before .loop .p))) (written (candsOf (c .before .before .before .before .candidates .result)) (howOf (c .before .before .before .before .before .before .before .before .before .before .before .before .before .before .before .before .before .before .args .store .now) (c .before .before .before .before .before .before .before .before .before .before .before .before .loop .p))) ∙ c .before .before .before .before .before .before .before .before .before .before .before .before .loop .inv .1,
-  λ f. going-on (c .before .before .before .before .candidates .result) (c .before .before .before .before .before .before .before .before .before .before .before .before .loop .k - 1) (omega arith) (c .before .before .before .before .candidates .ensures) (c .before .before .put-character .ensures) (c .before .before .before .before .before .before .before .before .before .before .before .before .loop .inv .2 f),
+  λ f. going-on (c .before .before .before .before .candidates .result) (c .before .before .before .before .before .before .before .before .before .before .before .before .loop .k - 1) (omega arith) (f .chosen (c .before .before .before .before .before .before .before .before .before .before .before .before .loop .k - 1) (omega arith)) (c .before .before .before .before .candidates .ensures) (c .before .before .put-character .ensures) (c .before .before .before .before .before .before .before .before .before .before .before .before .loop .inv .2 f),
 )
 
 same-length : tie.Need-same-length Inv-loop μ-loop

@@ -81,3 +81,4 @@ floor-spec =
     loop-less
     loop-again
     returns)
+

@@ -130,3 +130,4 @@ keep-spec =
     loop-again
     same-length
     returns)
+

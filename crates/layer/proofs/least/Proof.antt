@@ -119,3 +119,4 @@ least-spec =
     loop-less-2
     loop-again-2
     returns-2)
+

@@ -164,3 +164,4 @@ push-spec =
     same-length-2
     same-length-3
     returns-5)
+

@@ -4,11 +4,11 @@ use mathlib.Core.Bool.{false}
 use mathlib.Core.Logic.{⊎-elim}
 use Prim.Native.Nat.{_≤_, _<_}
 use native.Mathlib.Omega.{arith}
-use borrow.Author.Needs.{needs}
 use lib.ListN.{getD}
 use Rattle.reading.specs.Characters.{isGL, isGR}
 use Rattle.plain.proofs.Moving.{took-over, took-as}
 use Rattle.plain.proofs.Branches.{gl-in, gl-below, gl-above, gr-in, gr-below, gr-above, graphic-left, graphic-right, set-left, set-right, step-left, step-right, step-0, step-1}
+use borrow.Author.Needs.{needs}
 use Rattle.plain.proofs.simple.Statement.{statement}
 use Rattle.plain.proofs.simple.Tie as tie
 
@@ -18,33 +18,34 @@ shared-slice-read-x c = search needs
 cast-e : tie.Need-cast-e
 cast-e c = search needs
 
-element-copy-out-set : tie.Need-element-copy-out-set
-element-copy-out-set c = search needs
+array-read-set : tie.Need-array-read-set
+array-read-set c = search needs
 
 graphic-requires : tie.Need-graphic-requires
 graphic-requires c κs =
-    let p = c .before .before .before .before .before .before .before .before .before .before .before .pre in
-    let k = gl-in (getD (c .before .before .before .before .before .before .before .before .before .before .before .args .b .now) (c .before .before .before .before .before .before .before .before .before .before .before .args .i) 0) (omega arith) (omega arith) in
-    (p .1 .0, (p .0 .0, graphic-left _ k, p .1 .1 .left k))
+    let a = c .before .before .before .before .before .before .before .before .before .before .before .before .args in
+    let x = getD (a .b .now) (a .i) 0 in
+    let k = gl-in x (omega arith) (omega arith) in
+    (c .before .before .before .before .before .before .before .before .before .before .before .before .pre .1 .0, (c .before .before .before .before .before .before .before .before .before .before .before .before .pre .0 .0, graphic-left x k, c .before .before .before .before .before .before .before .before .before .before .before .before .pre .1 .1 .left k))
 
 cast-e-2 : tie.Need-cast-e-2
 cast-e-2 c = search needs
 
-element-copy-out-set-2 : tie.Need-element-copy-out-set-2
-element-copy-out-set-2 c = search needs
+array-read-set-2 : tie.Need-array-read-set-2
+array-read-set-2 c = search needs
 
 graphic-requires-2 : tie.Need-graphic-requires-2
 graphic-requires-2 c κs =
-    let p = c .before .before .before .before .before .before .before .before .before .before .before .before .before .pre in
-    let x = getD (c .before .before .before .before .before .before .before .before .before .before .before .before .before .args .b .now) (c .before .before .before .before .before .before .before .before .before .before .before .before .before .args .i) 0 in
+    let a = c .before .before .before .before .before .before .before .before .before .before .before .before .before .before .args in
+    let x = getD (a .b .now) (a .i) 0 in
     let k = gr-in x (omega arith) (omega arith) in
-    (p .1 .0, (p .0 .0, graphic-right x (gl-above x (omega arith)) k, p .1 .1 .right k))
+    (c .before .before .before .before .before .before .before .before .before .before .before .before .before .before .pre .1 .0, (c .before .before .before .before .before .before .before .before .before .before .before .before .before .before .pre .0 .0, graphic-right x (gl-above x (omega arith)) k, c .before .before .before .before .before .before .before .before .before .before .before .before .before .before .pre .1 .1 .right k))
 
 control1-requires : tie.Need-control1-requires
-control1-requires c κs = ((c .before .before .before .before .before .before .before .before .before .before .pre .0 .0, c .before .before .before .before .before .before .before .before .before .before .pre .1 .1 .command), c .before .before .before .before .before .before .before .before .before .before .pre .1 .0)
+control1-requires c κs = search needs
 
 control0-requires : tie.Need-control0-requires
-control0-requires c κs = (c .before .before .before .before .before .before .before .before .pre .0, (c .before .before .before .before .before .before .before .before .pre .1 .0, c .before .before .before .before .before .before .before .before .pre .1 .1))
+control0-requires c κs = search needs
 
 same-length : tie.Need-same-length
 same-length c = search needs
@@ -54,7 +55,9 @@ same-length-2 c = search needs
 
 returns : tie.Need-returns
 returns c =
-    let k = gl-in (getD (c .before .before .before .before .before .before .before .before .before .before .before .before .before .before .before .before .args .b .now) (c .before .before .before .before .before .before .before .before .before .before .before .before .before .before .before .before .args .i) 0) (omega arith) (omega arith) in
+    let a = c .before .before .before .before .before .before .before .before .before .before .before .before .before .before .before .before .before .args in
+    let x = getD (a .b .now) (a .i) 0 in
+    let k = gl-in x (omega arith) (omega arith) in
     λ left R. took-as (λ g starts lens t₀ i₀ s h. step-left g left R _ _ _ _ s _ (set-left h) k) (c .before .before .before .before .graphic .ensures left R)
 
 same-length-3 : tie.Need-same-length-3
@@ -65,7 +68,8 @@ same-length-4 c = search needs
 
 returns-2 : tie.Need-returns-2
 returns-2 c =
-    let x = getD (c .before .before .before .before .before .before .before .before .before .before .before .before .before .before .before .before .before .before .args .b .now) (c .before .before .before .before .before .before .before .before .before .before .before .before .before .before .before .before .before .before .args .i) 0 in
+    let a = c .before .before .before .before .before .before .before .before .before .before .before .before .before .before .before .before .before .before .before .args in
+    let x = getD (a .b .now) (a .i) 0 in
     let k = gr-in x (omega arith) (omega arith) in
     let n = gl-above x (omega arith) in
     λ left R. took-as (λ g starts lens t₀ i₀ s h. step-right g left R _ _ _ _ s _ (set-right h) n k) (c .before .before .before .before .graphic2 .ensures left R)
@@ -89,7 +93,8 @@ same-length-7 c = search needs
 
 returns-4 : tie.Need-returns-4
 returns-4 c =
-    let x = getD (c .before .before .before .before .before .before .before .before .before .before .before .before .before .args .b .now) (c .before .before .before .before .before .before .before .before .before .before .before .before .before .args .i) 0 in
+    let a = c .before .before .before .before .before .before .before .before .before .before .before .before .before .args in
+    let x = getD (a .b .now) (a .i) 0 in
     let n : isGL x ≡ false = ⊎-elim (λ w. gl-above x (omega (arith, w .keys1))) (λ w. gl-below x (w .1 .taken)) (c .before .before .before .before .before .before .before .match .came) in
     let l : x < 0x80 = ⊎-elim (λ w. omega (arith, w .keys1)) (λ w. omega (arith, w .1 .taken)) (c .before .before .before .before .before .before .before .match .came) in
     λ left R. took-as (λ g starts lens t₀ i₀ s h. step-0 g left R _ _ _ _ s n l) (c .before .before .before .before .control0 .ensures left R)
@@ -100,10 +105,10 @@ simple-spec =
     (tie.spec
     shared-slice-read-x
     cast-e
-    element-copy-out-set
+    array-read-set
     graphic-requires
     cast-e-2
-    element-copy-out-set-2
+    array-read-set-2
     graphic-requires-2
     control1-requires
     control0-requires

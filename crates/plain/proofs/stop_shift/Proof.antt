@@ -1,22 +1,26 @@
 -- `plain::stop_shift` meets its contract: what stops the steps, or why they pass. Assumes nothing.
 use mathlib.Core.Path.{sym, _∙_}
 use native.Mathlib.Omega.{arith}
-use borrow.Author.Needs.{needs}
 use Rattle.plain.proofs.Stops.{never, passes-shift}
+use borrow.Author.Needs.{needs}
 use Rattle.plain.proofs.stop_shift.Statement.{statement}
 use Rattle.plain.proofs.stop_shift.Tie as tie
 
-element-copy-out-if1 : tie.Need-element-copy-out-if1
-element-copy-out-if1 c = search needs
+array-read-if1 : tie.Need-array-read-if1
+array-read-if1 c = search needs
 
 returns : tie.Need-returns
-returns c = passes-shift (c .before .before .before .args .b .now) (c .before .before .before .args .i) (c .before .before .before .args .t3) (c .before .before .before .args .e) (c .before .before .before .pre .2) (λ s l g. c .if1 .taken s)
+returns c =
+    let a = c .before .before .before .args in
+    passes-shift (a .b .now) (a .i) (a .s) (a .e) (c .before .before .before .pre .2) (λ s l g. c .if1 .taken s)
 
 add-if2 : tie.Need-add-if2
 add-if2 c = search needs
 
 returns-2 : tie.Need-returns-2
-returns-2 c = passes-shift (c .before .before .before .before .args .b .now) (c .before .before .before .before .args .i) (c .before .before .before .before .args .t3) (c .before .before .before .before .args .e) (c .before .before .before .before .pre .2) (λ s l g. omega (arith, c .if2 .taken))
+returns-2 c =
+    let a = c .before .before .before .before .args in
+    passes-shift (a .b .now) (a .i) (a .s) (a .e) (c .before .before .before .before .pre .2) (λ s l g. omega (arith, c .if2 .taken))
 
 add-is-graphic : tie.Need-add-is-graphic
 add-is-graphic c = search needs
@@ -28,16 +32,19 @@ is-graphic-requires : tie.Need-is-graphic-requires
 is-graphic-requires c κs = search needs
 
 returns-3 : tie.Need-returns-3
-returns-3 c = (c .before .before .before .if2 .left, c .before .before .before .before .before .before .before .pre .2, sym (c .before .is-graphic .ensures) ∙ c .if3 .taken)
+returns-3 c =
+    (c .before .before .before .if2 .left, c .before .before .before .before .before .before .before .pre .2, sym (c .before .is-graphic .ensures) ∙ c .if3 .taken)
 
 returns-4 : tie.Need-returns-4
-returns-4 c = passes-shift (c .before .before .before .before .before .before .before .args .b .now) (c .before .before .before .before .before .before .before .args .i) (c .before .before .before .before .before .before .before .args .t3) (c .before .before .before .before .before .before .before .args .e) (c .before .before .before .before .before .before .before .pre .2) (λ s l g. never g (sym (c .before .is-graphic .ensures) ∙ c .if3 .left))
+returns-4 c =
+    let a = c .before .before .before .before .before .before .before .args in
+    passes-shift (a .b .now) (a .i) (a .s) (a .e) (c .before .before .before .before .before .before .before .pre .2) (λ s l g. never g (sym (c .before .is-graphic .ensures) ∙ c .if3 .left))
 
 pub stop-shift-spec : {M : Type 1} → statement M
 stop-shift-spec =
     tie.close
     (tie.spec
-    element-copy-out-if1
+    array-read-if1
     returns
     add-if2
     returns-2

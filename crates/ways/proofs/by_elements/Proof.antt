@@ -81,3 +81,4 @@ by-elements-spec =
     same-length
     same-length-2
     returns)
+

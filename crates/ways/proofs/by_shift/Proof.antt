@@ -142,3 +142,5 @@ by-shift-spec =
     same-length-5
     same-length-6
     returns-3)
+
+

@@ -122,3 +122,5 @@ through-spec =
     same-length-7
     same-length-8
     returns-4)
+
+

@@ -1,5 +1,5 @@
 -- `writing::set_of` meets its contract: code by code. Assumes nothing.
-use mathlib.Core.Path.{_≡_, sym, ap}
+use mathlib.Core.Path.{sym, ap}
 use Rattle.writing.proofs.Laws.{macro-code}
 use Rattle.states.specs.Packed.{setOf}
 use Rattle.writing.proofs.set_of.Statement.{statement}

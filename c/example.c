@@ -1,0 +1,87 @@
+/* Reads, codes and keys a title: the calls of arib_text.h, as a test. c/test builds and runs it. */
+#include <assert.h>
+#include <stdio.h>
+#include <string.h>
+
+#include "arib_text.h"
+
+static uint16_t cells[8836];
+
+/* jis.tab: big-endian numbers. */
+static void read_cells(const char *path)
+{
+    FILE *file = fopen(path, "rb");
+    assert(file);
+    for (size_t i = 0; i < 8836; i++) {
+        int high = getc(file), low = getc(file);
+        assert(high != EOF && low != EOF);
+        cells[i] = (uint16_t)(high << 8 | low);
+    }
+    fclose(file);
+}
+
+static void reads(void)
+{
+    const uint8_t title[] = {0x24, 0xA2};
+    uint8_t text[16];
+    uint32_t issues[8];
+    size_t counts[4];
+    memset(text, 0xAA, sizeof text);
+    uint32_t refused = arib_decode(cells, 8836, 0, 0, title, 2, text, 16, issues, 8, counts, 4);
+    assert(refused == 0);
+    assert(counts[0] == 0 && counts[1] == 3 && counts[2] == 1 && counts[3] == 0);
+    assert(memcmp(text, "あ\0\0\0\0\0\0\0\0\0\0\0\0\0", 16) == 0);
+    assert(issues[0] == 0 && issues[1] == 4 && issues[2] == 0 && issues[3] == 0);
+    printf("24 A2 reads as %s, with %zu issue\n", (const char *)text, counts[2]);
+
+    refused = arib_decode(cells, 8836, 0, 0, title, 2, text, 2, issues, 8, counts, 4);
+    assert(refused == 8 && counts[1] == 0 && text[0] == 0 && text[1] == 0);
+    refused = arib_decode(cells, 8835, 2, 0, title, 2, text, 16, issues, 8, counts, 4);
+    assert(refused == 1);
+}
+
+static void finds_an_escape(void)
+{
+    const uint8_t input[] = {0xA2, 0x1B, 0x24, 0x41};
+    size_t part[2];
+    assert(arib_unknown_escape(input, 4, 1, 3, part, 2) == 3 && part[0] == 1 && part[1] == 3);
+    assert(arib_unknown_escape(input, 4, 2, 3, part, 2) == 0 && part[0] == 0 && part[1] == 0);
+}
+
+static void codes(void)
+{
+    const char *text = "Ａ";
+    static uint32_t store[4 * 4096];
+    uint8_t coding[27];
+    size_t counts[3];
+    uint32_t refused = arib_encode(cells, 8836, 0, 0, (const uint8_t *)text, strlen(text), store,
+                                   4 * 4096, coding, 27, counts, 3);
+    assert(refused == 0 && counts[1] == 2 && counts[2] == 0);
+    assert(coding[0] == 0x0E && coding[1] == 0x41);
+    printf("%s is coded as %02X %02X, gap %zu\n", text, coding[0], coding[1], counts[2]);
+    refused = arib_encode(cells, 8836, 0, 0, (const uint8_t *)text, strlen(text), store, 4, coding,
+                          27, counts, 3);
+    assert(refused == 7);
+}
+
+static void keys(void)
+{
+    const uint8_t title[] = {0xA2, 0x20, 0xA4};
+    uint8_t key[16];
+    size_t counts[3];
+    uint32_t refused = arib_key(cells, 8836, 0, 0, title, 3, key, 16, counts, 3);
+    assert(refused == 0 && counts[1] == 6);
+    assert(memcmp(key, "あい\0\0\0\0\0\0\0\0\0", 16) == 0);
+    printf("A2 20 A4 has the key %s\n", (const char *)key);
+}
+
+int main(int argc, char **argv)
+{
+    assert(argc == 2);
+    read_cells(argv[1]);
+    reads();
+    finds_an_escape();
+    codes();
+    keys();
+    return 0;
+}

@@ -1,0 +1,4 @@
+pub mod Line
+pub mod Contracts
+pub mod Laws
+pub mod Examples

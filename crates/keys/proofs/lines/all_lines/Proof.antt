@@ -1,0 +1,63 @@
+-- `keys::lines::all_lines` meets its contract. Assumes nothing.
+use mathlib.Core.Path.{sym, _∙_}
+use borrow.Author.Needs.{needs}
+use Rattle.keys.specs.Contracts.{Buffers}
+use Rattle.keys.proofs.lines.all_lines.Statement.{statement}
+use Rattle.keys.proofs.lines.all_lines.Tie as tie
+
+cells-requires : tie.Need-cells-requires
+cells-requires c κs = search needs
+
+line-buffer-requires : tie.Need-line-buffer-requires
+line-buffer-requires c κs = search needs
+
+title-buffer-requires : tie.Need-title-buffer-requires
+title-buffer-requires c κs = search needs
+
+out-buffer-requires : tie.Need-out-buffer-requires
+out-buffer-requires c κs = search needs
+
+slice-aggregate-read-all : tie.Need-slice-aggregate-read-all
+slice-aggregate-read-all c = search needs
+
+slice-aggregate-read-all-2 : tie.Need-slice-aggregate-read-all-2
+slice-aggregate-read-all-2 c = search needs
+
+slice-aggregate-read-all-3 : tie.Need-slice-aggregate-read-all-3
+slice-aggregate-read-all-3 c = search needs
+
+read-all-requires : tie.Need-read-all-requires
+read-all-requires c κs = record { table = λ e. sym (c .before .before .before .before .before .before .cells .ensures) ∙ e; line-long = sym (c .before .before .before .before .before .line-buffer .ensures); title-long = sym (c .before .before .before .before .title-buffer .ensures); out-long = sym (c .before .before .before .out-buffer .ensures) }
+
+slice-aggregate-last-line : tie.Need-slice-aggregate-last-line
+slice-aggregate-last-line c = search needs
+
+slice-aggregate-last-line-2 : tie.Need-slice-aggregate-last-line-2
+slice-aggregate-last-line-2 c = search needs
+
+slice-aggregate-last-line-3 : tie.Need-slice-aggregate-last-line-3
+slice-aggregate-last-line-3 c = search needs
+
+last-line-requires : tie.Need-last-line-requires
+last-line-requires c κs = (record { table = λ e. sym (c .before .before .before .before .before .before .before .before .before .before .before .before .before .cells .ensures) ∙ e; line-long = c .before .before .before .before .before .before .read-all .kept .1 .1 .0 ∙ sym (c .before .before .before .before .before .before .before .before .before .before .before .before .line-buffer .ensures); title-long = c .before .before .before .before .before .before .read-all .kept .1 .1 .1 .0 ∙ sym (c .before .before .before .before .before .before .before .before .before .before .before .title-buffer .ensures); out-long = c .before .before .before .before .before .before .read-all .kept .1 .1 .1 .1 .0 ∙ sym (c .before .before .before .before .before .before .before .before .before .before .out-buffer .ensures) }, c .before .before .before .before .before .before .read-all .ensures)
+
+returns : tie.Need-returns
+returns c = search needs
+
+pub all-lines-spec : {M : Type 1} → statement M
+all-lines-spec =
+    tie.close
+    (tie.spec
+    cells-requires
+    line-buffer-requires
+    title-buffer-requires
+    out-buffer-requires
+    slice-aggregate-read-all
+    slice-aggregate-read-all-2
+    slice-aggregate-read-all-3
+    read-all-requires
+    slice-aggregate-last-line
+    slice-aggregate-last-line-2
+    slice-aggregate-last-line-3
+    last-line-requires
+    returns)

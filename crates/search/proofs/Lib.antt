@@ -1,0 +1,4 @@
+pub mod Reading
+pub mod Advancing
+pub mod Matching
+pub mod Running

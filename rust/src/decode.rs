@@ -1,0 +1,194 @@
+//! Eight-unit code to text.
+
+use std::error::Error;
+use std::fmt;
+
+use crate::cells::CELLS;
+use crate::ffi::{self, Options};
+use crate::sets::{GraphicSet, InitialState};
+
+/// How the width of alphanumerics and SP goes over into Unicode.
+#[derive(Debug, Clone, Copy, PartialEq, Eq, Hash, Default)]
+pub enum WidthMode {
+    /// By the size in effect: half-width under Small, Middle and SZX 60, else full-width.
+    #[default]
+    CharacterSize,
+    /// Always half-width (Annex E.4).
+    AnnexE,
+}
+
+impl WidthMode {
+    pub(crate) fn number(self) -> u32 {
+        match self {
+            WidthMode::CharacterSize => 0,
+            WidthMode::AnnexE => 1,
+        }
+    }
+}
+
+/// Options of decoding.
+#[derive(Debug, Clone, Copy, PartialEq, Eq, Hash, Default)]
+pub struct DecodeOptions {
+    pub initial: InitialState,
+    pub width: WidthMode,
+}
+
+impl DecodeOptions {
+    pub(crate) fn numbers(&self) -> Options {
+        Options {
+            initial: self.initial.number(),
+            width: self.width.number(),
+        }
+    }
+}
+
+/// A decoded string.
+#[derive(Debug, Clone, Default, PartialEq, Eq)]
+pub struct Decoded {
+    pub text: String,
+    /// What could not be read exactly, in order of report.
+    pub issues: Vec<Issue>,
+}
+
+/// Something that could not be read exactly.
+#[derive(Debug, Clone, PartialEq, Eq)]
+pub struct Issue {
+    /// The byte where the code begins; inside a macro body that of the outermost call.
+    pub offset: usize,
+    pub kind: IssueKind,
+}
+
+impl fmt::Display for Issue {
+    fn fmt(&self, f: &mut fmt::Formatter<'_>) -> fmt::Result {
+        write!(f, "@{}: {:?}", self.offset, self.kind)
+    }
+}
+
+/// What an issue is about.
+#[derive(Debug, Clone, PartialEq, Eq)]
+#[non_exhaustive]
+pub enum IssueKind {
+    /// An escape sequence that no table lists: its bytes.
+    UnknownEscape(Vec<u8>),
+    /// A control code that the tables leave blank.
+    UndefinedControl(u8),
+    /// A control code with parameters that no table lists.
+    MalformedControl(u8),
+    /// The input or the macro body ended within a code.
+    Truncated,
+    /// A code that is blank in its set; U+FFFD stands for it.
+    UndefinedCode { set: GraphicSet, code: u16 },
+    /// A code of a set that is not mapped; U+FFFD stands for it.
+    UnsupportedCode { set: GraphicSet, code: u16 },
+    /// A character of DRCS; U+FFFD stands for it.
+    Drcs { set: u8, code: u16 },
+    /// A mosaic; nothing stands for it.
+    Mosaic { set: GraphicSet, code: u8 },
+    /// A macro that is neither defined nor built in.
+    UndefinedMacro(u8),
+    /// A macro that is nested too deep or costs too much.
+    MacroLimit,
+    /// A single shift before no character.
+    LoneSingleShift,
+    /// Marks without a base.
+    DanglingNonSpacing,
+    /// RPC with count 0.
+    RepeatToEndOfLine,
+}
+
+/// A refusal: the number of the first question that fails, and its place.
+#[derive(Debug, Clone, Copy, PartialEq, Eq)]
+pub struct Refused {
+    pub number: u32,
+    pub place: usize,
+}
+
+impl fmt::Display for Refused {
+    fn fmt(&self, f: &mut fmt::Formatter<'_>) -> fmt::Result {
+        write!(f, "refused {} {}", self.number, self.place)
+    }
+}
+
+impl Error for Refused {}
+
+/// Decodes a string. Panics on more than 65,535 bytes; [`try_decode_with`] refuses them.
+///
+/// ```
+/// use isdb_text::{DecodeOptions, IssueKind, decode_with};
+/// let read = decode_with(&[0x24, 0xA2], &DecodeOptions::default());
+/// assert_eq!(read.text, "あ");
+/// assert_eq!(read.issues[0].kind, IssueKind::Truncated);
+/// ```
+pub fn decode_with(bytes: &[u8], opts: &DecodeOptions) -> Decoded {
+    try_decode_with(bytes, opts).expect("at most 65,535 bytes")
+}
+
+/// Decodes a string of at most 65,535 bytes, else refuses it with 3.
+///
+/// ```
+/// use isdb_text::{DecodeOptions, try_decode_with};
+/// let refused = try_decode_with(&[0; 65_536], &DecodeOptions::default()).unwrap_err();
+/// assert_eq!(refused.number, 3);
+/// ```
+pub fn try_decode_with(bytes: &[u8], opts: &DecodeOptions) -> Result<Decoded, Refused> {
+    if bytes.len() > 65_535 {
+        return Err(Refused {
+            number: 3,
+            place: 0,
+        });
+    }
+    let mut text = vec![0; 4 * bytes.len() + 64];
+    let mut issues = vec![0; 4 * 16];
+    loop {
+        let answer = ffi::decode_checked(&CELLS, opts.numbers(), bytes, &mut text, &mut issues);
+        let [_, length, count, _] = answer.counts;
+        match answer.number {
+            0 => {
+                text.truncate(length);
+                let text = String::from_utf8(text).expect("the library writes UTF-8");
+                let issues = issues.chunks_exact(4).take(count);
+                let issues = issues.map(|numbers| issue(bytes, numbers)).collect();
+                return Ok(Decoded { text, issues });
+            }
+            8 => text = vec![0; 4 * text.len()],
+            9 => issues = vec![0; 4 * issues.len()],
+            number => {
+                return Err(Refused {
+                    number,
+                    place: answer.counts[0],
+                });
+            }
+        }
+    }
+}
+
+/// An issue from its four numbers.
+fn issue(bytes: &[u8], numbers: &[u32]) -> Issue {
+    let (first, second) = (numbers[2], numbers[3]);
+    let (set, code) = (GraphicSet::from_number(first), second as u16);
+    let kind = match numbers[1] {
+        1 => IssueKind::UnknownEscape(bytes[first as usize..][..second as usize].to_vec()),
+        2 => IssueKind::UndefinedControl(first as u8),
+        3 => IssueKind::MalformedControl(first as u8),
+        4 => IssueKind::Truncated,
+        5 => IssueKind::UndefinedCode { set, code },
+        6 => IssueKind::UnsupportedCode { set, code },
+        7 => IssueKind::Drcs {
+            set: first as u8,
+            code,
+        },
+        8 => IssueKind::Mosaic {
+            set,
+            code: second as u8,
+        },
+        9 => IssueKind::UndefinedMacro(first as u8),
+        10 => IssueKind::MacroLimit,
+        11 => IssueKind::LoneSingleShift,
+        12 => IssueKind::DanglingNonSpacing,
+        _ => IssueKind::RepeatToEndOfLine,
+    };
+    Issue {
+        offset: numbers[0] as usize,
+        kind,
+    }
+}

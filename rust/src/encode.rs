@@ -1,0 +1,115 @@
+//! Text to eight-unit code.
+
+use std::error::Error;
+use std::fmt;
+
+use crate::AribString;
+use crate::cells::CELLS;
+use crate::decode::WidthMode;
+use crate::ffi::{self, Answer, Options};
+use crate::sets::InitialState;
+
+/// Options of coding: those under which the receiver decodes.
+#[derive(Debug, Clone, Copy, PartialEq, Eq, Hash, Default)]
+pub struct EncodeOptions {
+    pub initial: InitialState,
+    pub width: WidthMode,
+}
+
+/// Why a text cannot be coded.
+#[derive(Debug, Clone, PartialEq, Eq)]
+#[non_exhaustive]
+pub enum EncodeError {
+    /// The character at a byte of the text is in none of the sets.
+    Unencodable { index: usize, ch: char },
+    /// The combining mark at a byte of the text has no base after the last newline.
+    NoBase { index: usize, ch: char },
+    /// The text has more than 7,281 bytes.
+    TooLong,
+}
+
+impl fmt::Display for EncodeError {
+    fn fmt(&self, f: &mut fmt::Formatter<'_>) -> fmt::Result {
+        match *self {
+            EncodeError::Unencodable { index, ch } => {
+                write!(f, "no set has U+{:04X}, at byte {index}", u32::from(ch))
+            }
+            EncodeError::NoBase { index, ch } => {
+                write!(
+                    f,
+                    "the mark U+{:04X} at byte {index} has no base",
+                    u32::from(ch)
+                )
+            }
+            EncodeError::TooLong => write!(f, "the text has more than 7,281 bytes"),
+        }
+    }
+}
+
+impl Error for EncodeError {}
+
+/// A coding, and the gap: no admissible coding of the text is shorter by more.
+#[derive(Debug, Clone, PartialEq, Eq)]
+pub struct Coded {
+    pub bytes: AribString,
+    pub gap: usize,
+}
+
+/// Codes a text with the default options: Si, CharacterSize.
+pub fn encode(text: &str) -> Result<AribString, EncodeError> {
+    encode_with(text, &EncodeOptions::default())
+}
+
+/// Codes a text of at most 7,281 bytes.
+///
+/// ```
+/// use isdb_text::{EncodeError, EncodeOptions, encode_with};
+/// let options = EncodeOptions::default();
+/// assert_eq!(encode_with("Ａ", &options).unwrap().0, [0x0E, 0x41]);
+/// let error = encode_with("\u{1}", &options).unwrap_err();
+/// assert_eq!(error, EncodeError::Unencodable { index: 0, ch: '\u{1}' });
+/// ```
+pub fn encode_with(text: &str, opts: &EncodeOptions) -> Result<AribString, EncodeError> {
+    code_with(text, opts).map(|coded| coded.bytes)
+}
+
+/// The same, with the gap.
+///
+/// ```
+/// use isdb_text::{EncodeOptions, code_with};
+/// assert_eq!(code_with("Ａ", &EncodeOptions::default()).unwrap().gap, 0);
+/// ```
+pub fn code_with(text: &str, opts: &EncodeOptions) -> Result<Coded, EncodeError> {
+    let options = Options {
+        initial: opts.initial.number(),
+        width: opts.width.number(),
+    };
+    let mut coding = vec![0; 9 * text.len().min(7_281)];
+    let mut store = vec![0; 4 * 2_048];
+    loop {
+        let answer = ffi::encode(&CELLS, options, text.as_bytes(), &mut store, &mut coding);
+        match answer.number {
+            0 => {
+                coding.truncate(answer.counts[1]);
+                return Ok(Coded {
+                    bytes: AribString(coding),
+                    gap: answer.counts[2],
+                });
+            }
+            7 => store = vec![0; 4 * store.len()],
+            _ => return Err(error(text, &answer)),
+        }
+    }
+}
+
+/// The error of a refusal other than 7. 8 does not come: a character takes at most nine bytes.
+fn error(text: &str, answer: &Answer<3>) -> EncodeError {
+    let index = answer.counts[0];
+    let ch = text[index..].chars().next().unwrap_or('\0');
+    match answer.number {
+        5 => EncodeError::NoBase { index, ch },
+        6 => EncodeError::Unencodable { index, ch },
+        3 => EncodeError::TooLong,
+        number => unreachable!("refused {number}"),
+    }
+}
