@@ -49,7 +49,7 @@ module _ (k : Cands) where
   matched f =
       record {
         many = length-from 0 (k .count);
-        each = λ j h. let e : 0 + j ≡ j = omega arith in rw (at-from 0 (k .count) j (plain 0 0) h, e) (matches (getD (k .sets) j 0) (getD (k .codes) j 0) (getD (k .sizes) j 0) (f j h))
+        each = λ j h. let e : 0 + j ≡ j = omega arith in rw (at-from 0 (k .count) j (plain 0 0) h, e) (matches (getD (k .sets) j 0) (getD (k .codes) j 0) (getD (k .sizes) j 0) (f j h));
       }
 
 -- the next layer, for the character

@@ -172,14 +172,14 @@ module _ (chs ks ss : List ℕ) (n : ℕ) (annexE : Bool) (rest : ℕ) (s₀ : L
             left-le = omega (arith, g .left-le, t .less);
             able = subst (λ (m : ℕ). All (Able m) (entriesOf s′ (from + count) count′)) (omega arith) (abled (t .sound (9 * j) (g .able)));
             going = λ cells cs h k initial b.
-                  let css = candidatesOf cells annexE cs in
-                  let hk = h .kanji j (omega arith) in
-                  let hs = h .symbols j (omega arith) in
-                  let ca = cands-at lt cells cs h k in
-                  let nx = t .kept cells hk hs ef (lastOf css j) in
-                  let er : rest′ ≡ left - shortest (getD css j []) = t .left cells hk hs ∙ ap (λ (l : List Cand). left - shortest l) ca in
-                  let a = at-next css initial rest s s′ j from count left floor (inside lt cells cs h k) (g .inside) (here lt cells cs h k initial b) count′ rest′ floor′ (9 * j + 9) (t .before) (omega (arith, t .inside)) er (t .sound (9 * j) (g .able)) (rw ca at nx) in
-                  rw (add-one, ← g .same) a
+                let css = candidatesOf cells annexE cs in
+                let hk = h .kanji j (omega arith) in
+                let hs = h .symbols j (omega arith) in
+                let ca = cands-at lt cells cs h k in
+                let nx = t .kept cells hk hs ef (lastOf css j) in
+                let er : rest′ ≡ left - shortest (getD css j []) = t .left cells hk hs ∙ ap (λ (l : List Cand). left - shortest l) ca in
+                let a = at-next css initial rest s s′ j from count left floor (inside lt cells cs h k) (g .inside) (here lt cells cs h k initial b) count′ rest′ floor′ (9 * j + 9) (t .before) (omega (arith, t .inside)) er (t .sound (9 * j) (g .able)) (rw ca at nx) in
+                rw (add-one, ← g .same) a;
           }
 
       pub going-full : (e : fits ≡ false) (cells cs : List ℕ) (h : Holds cells cs chs ks ss) (k : n ≡ length cs) (initial : ℕ) → Begins initial s₀ → length s₀ / 4 < found (candidatesOf cells annexE cs) initial .most

@@ -59,11 +59,7 @@ fn room(len: usize, from: usize) -> usize
     ensures { λ r. ⌜ Capped len from r ⌝ }
 {
     let all = len / 4 - from;
-    if all < 48385 {
-        all
-    } else {
-        48385
-    }
+    if all < 48385 { all } else { 48385 }
 }
 
 // The next layer: whether it fits the store, how many of its states are kept, and the floor.
@@ -92,7 +88,17 @@ fn advance<'a>(
 {
     let from = pfrom + pcount;
     let cap = room(store.len(), from);
-    let n = reach(&mut *store, &mut *index, pfrom, pcount, cap, m, sets, codes, sizes);
+    let n = reach(
+        &mut *store,
+        &mut *index,
+        pfrom,
+        pcount,
+        cap,
+        m,
+        sets,
+        codes,
+        sizes,
+    );
     if cap < n {
         return Step {
             fits: false,
@@ -113,11 +119,7 @@ fn advance<'a>(
 fn less(a: usize, b: usize) -> usize
     ensures { λ r. ⌜ r ≡ a - b ⌝ }
 {
-    if b < a {
-        a - b
-    } else {
-        0
-    }
+    if b < a { a - b } else { 0 }
 }
 
 // The same for a character, with what is left of the shortest codes after it.
@@ -199,7 +201,18 @@ fn run(
         let c = chars[j];
         let k = kanji[j];
         let s = symbols[j];
-        let next = turn(&mut *store, &mut *index, from, count, c, k, s, annex, left, floor);
+        let next = turn(
+            &mut *store,
+            &mut *index,
+            from,
+            count,
+            c,
+            k,
+            s,
+            annex,
+            left,
+            floor,
+        );
         let fits = next.fits;
         if !fits {
             return Last {
@@ -249,5 +262,14 @@ pub fn search(
     let mut index = [0u16; 98304];
     let a = states::start(initial);
     layer::put_node(&mut *store, 0, a, 0, 0, 0);
-    run(&mut *store, &mut index[..], chars, kanji, symbols, n, annex, rest)
+    run(
+        &mut *store,
+        &mut index[..],
+        chars,
+        kanji,
+        symbols,
+        n,
+        annex,
+        rest,
+    )
 }

@@ -25,7 +25,7 @@ unpack a =
       g3 = setOf (a / 32 % 8);
       gl = a / 2 % 4;
       gr = a / 8 % 4;
-      narrow = a % 2
+      narrow = a % 2;
     }
 
 -- a state that the coder can reach: sets of candidates in G0 to G2, and in G3 one of them or Macro

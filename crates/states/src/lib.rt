@@ -1,6 +1,5 @@
 // The coder's state in one number, and how a character was written in another: encode.rs, `State`
-// and what it pushes. The sets are codes of three
-// bits: specs/Packed.antt.
+// and what it pushes. A set is a code of three bits: specs/Packed.antt.
 ghost use mathlib.Core.Path.{_≡_};
 ghost use Prim.Native.Nat.{ℕ, _+_, _*_, _/_, _%_, _≤_, _<_};
 ghost use lib.ListN.{length};
@@ -13,11 +12,7 @@ ghost use Rattle.states.specs.Written.{howOf};
 pub fn start(initial: u32) -> u32
     ensures { λ r. ⌜ Packs r (start initial) ⌝ }
 {
-    if initial == 0 {
-        2672
-    } else {
-        2768
-    }
+    if initial == 0 { 2672 } else { 2768 }
 }
 
 // The code of the set in the code element n.
@@ -104,9 +99,5 @@ pub fn designation_length(x: u32, n: u32) -> u32
 pub fn lock_length(n: u32) -> u32
     ensures { λ r. ⌜ r ≡ length (lockGL n) ⌝ }
 {
-    if n < 2 {
-        1
-    } else {
-        2
-    }
+    if n < 2 { 1 } else { 2 }
 }

@@ -96,7 +96,7 @@ module _ (cs ks : List Cand) (n : Node) (a b x size len cost link z c back : ℕ
       record {
         costs = omega arith;
         prev = place cs (graphic s code w) ks link z at h (q .small);
-        bytes = λ e d v he hd. how cs (graphic s code w) ks link z at h (q .small) e d v he hd ∙ (λ j. q .is j ++ ((cond (eqb d 1) (designation (sym es j) e) [] ++ invocation v e) ++ map (λ b. b + half v) code))
+        bytes = λ e d v he hd. how cs (graphic s code w) ks link z at h (q .small) e d v he hd ∙ (λ j. q .is j ++ ((cond (eqb d 1) (designation (sym es j) e) [] ++ invocation v e) ++ map (λ b. b + half v) code));
       }
 
   pub graphic-nodes : (s w : ℕ) (code : List ℕ) → setOf x ≡ s → size ≡ w → byWays cost (link % 131072) (sizeBytes (unpack a) size) code (ways (unpack b) (setOf x)) ≡ byCand n (link % 131072) (graphic s code w)
@@ -114,7 +114,7 @@ module _ (cs ks : List Cand) (n : Node) (a b x size len cost link z c back : ℕ
       let eb : sizeBytes (unpack a) size ++ (y ∷ []) ≡ sizeBytes (n .state) w ++ (y ∷ []) = λ j. sizeBytes (sym (i .state) j) (ew j) ++ (y ∷ []) in
       let ep : (link + z * 2097152) % 131072 ≡ link % 131072 = ap (λ (v : ℕ). v % 131072) e0 ∙ place cs (plain y w) ks link z at h (q .small) 0 in
       let ew : written cs ((link + z * 2097152) / 131072) ≡ sizeBytes (n .state) w ++ (y ∷ []) =
-            ap (λ (v : ℕ). written cs (v / 131072)) e0 ∙ (how cs (plain y w) ks link z at h (q .small) 0 0 0 (omega arith) (omega arith) ∙ (ap (λ (v : List ℕ). v ++ (y ∷ [])) (q .is) ∙ eb)) in
+      ap (λ (v : ℕ). written cs (v / 131072)) e0 ∙ (how cs (plain y w) ks link z at h (q .small) 0 0 0 (omega arith) (omega arith) ∙ (ap (λ (v : List ℕ). v ++ (y ∷ [])) (q .is) ∙ eb)) in
       let m : length (sizeBytes (unpack a) size) ≡ c = ap length (sym (q .is)) ∙ sym lc in
       let ec : cost + c + 1 ≡ n .cost + length (sizeBytes (n .state) w ++ (y ∷ [])) = omega (arith, i .costs, ap length eb, length-append (sizeBytes (unpack a) size) (y ∷ [])) in
       λ j. record { state = es j; cost = ec j; prev = ep j; bytes = ew j }
@@ -170,5 +170,5 @@ module _ (sets codes sizes : List ℕ) where
   any-all m =
       record {
         many = length-any 0 m;
-        each = λ j h. let e : 0 + j ≡ j = omega arith in rw (any-get 0 m j (plain 0 0) h, e) (any-matches (getD sets j 0) (getD sizes j 0) (lengthOf (getD codes j 0)) (decLt (getD sets j 0) 6))
+        each = λ j h. let e : 0 + j ≡ j = omega arith in rw (any-get 0 m j (plain 0 0) h, e) (any-matches (getD sets j 0) (getD sizes j 0) (lengthOf (getD codes j 0)) (decLt (getD sets j 0) 6));
       }

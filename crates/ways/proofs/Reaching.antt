@@ -59,7 +59,7 @@ module _ (cs : List Cand) (t : Turn) (x cost link : ℕ) (w : By cs t x cost lin
       record {
         costs = omega (arith, w .costs);
         prev = λ v. let e : k + v * 67108864 ≡ link + (n + 4 * (d + 2 * v)) * 8388608 = omega arith in ap (λ (y : ℕ). y % 131072) e ∙ w .prev (n + 4 * (d + 2 * v));
-        bytes = λ v. let e : k + v * 67108864 ≡ link + (n + 4 * (d + 2 * v)) * 8388608 = omega arith in ap (λ (y : ℕ). written cs (y / 131072)) e ∙ w .bytes n d v hn hd
+        bytes = λ v. let e : k + v * 67108864 ≡ link + (n + 4 * (d + 2 * v)) * 8388608 = omega arith in ap (λ (y : ℕ). written cs (y / 131072)) e ∙ w .bytes n d v hn hd;
       }
 
   pub through-standing : (n : ℕ) → n < 4 → Through cs t [] n cost (link + n * 8388608)

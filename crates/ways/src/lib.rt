@@ -17,14 +17,20 @@ ghost use Rattle.ways.specs.Turn.{Apart, Invoked, Sized, Small, Turn, Th
 // What the invocations add to a link: as the code element stands in GR, by a locking shift to GL, by
 // one to GR, by a single shift.
 const IN_GR: u32 = 67108864;
+
 const TO_GL: u32 = 134217728;
+
 const TO_GR: u32 = 201326592;
+
 const SINGLE: u32 = 268435456;
 
 // What a candidate adds for each before it, MSZ, and NSZ twice; a code element for each before it; a designation.
 const CANDIDATE: u32 = 131072;
+
 const CONTROL: u32 = 2097152;
+
 const ELEMENT: u32 = 8388608;
+
 const DESIGNATED: u32 = 33554432;
 
 // Pushes the ways through the code element n of the state a, in which it is not invoked.
@@ -45,16 +51,46 @@ fn by_shift(
 {
     let left = states::to_gl(a, n);
     let lock = cost + states::lock_length(n);
-    let c = layer::push(&mut *store, &mut *index, from, cap, count, left, lock, link + TO_GL, back);
+    let c = layer::push(
+        &mut *store,
+        &mut *index,
+        from,
+        cap,
+        count,
+        left,
+        lock,
+        link + TO_GL,
+        back,
+    );
     if n == 0 {
         return c;
     }
     let right = states::to_gr(a, n);
-    let d = layer::push(&mut *store, &mut *index, from, cap, c, right, cost + 2, link + TO_GR, back);
+    let d = layer::push(
+        &mut *store,
+        &mut *index,
+        from,
+        cap,
+        c,
+        right,
+        cost + 2,
+        link + TO_GR,
+        back,
+    );
     if n < 2 {
         return d;
     }
-    layer::push(&mut *store, &mut *index, from, cap, d, a, cost + 1, link + SINGLE, back)
+    layer::push(
+        &mut *store,
+        &mut *index,
+        from,
+        cap,
+        d,
+        a,
+        cost + 1,
+        link + SINGLE,
+        back,
+    )
 }
 
 // Pushes the ways through the code element n of the state a, in which l is in GL and r in GR.
@@ -76,16 +112,57 @@ fn through(
     ensures { λ c. ⌜ ((cs : List Cand) (most : ℕ) (t : Turn) (p : List ℕ) → Through cs t p n cost link → cost + 2 ≤ most → Pushes cs (room from cap back most) (now (store .entry)) (now (index .entry)) count (now (store .exit)) (now (index .exit)) c (byWays (t .base) (t .place) (t .pre) (t .code) (through p (unpack a) n))) ⌝ }
 {
     if l == n {
-        let c = layer::push(&mut *store, &mut *index, from, cap, count, a, cost, link, back);
+        let c = layer::push(
+            &mut *store,
+            &mut *index,
+            from,
+            cap,
+            count,
+            a,
+            cost,
+            link,
+            back,
+        );
         if r == n {
-            return layer::push(&mut *store, &mut *index, from, cap, c, a, cost, link + IN_GR, back);
+            return layer::push(
+                &mut *store,
+                &mut *index,
+                from,
+                cap,
+                c,
+                a,
+                cost,
+                link + IN_GR,
+                back,
+            );
         }
         return c;
     }
     if r == n {
-        return layer::push(&mut *store, &mut *index, from, cap, count, a, cost, link + IN_GR, back);
+        return layer::push(
+            &mut *store,
+            &mut *index,
+            from,
+            cap,
+            count,
+            a,
+            cost,
+            link + IN_GR,
+            back,
+        );
     }
-    by_shift(&mut *store, &mut *index, from, cap, count, a, n, cost, link, back)
+    by_shift(
+        &mut *store,
+        &mut *index,
+        from,
+        cap,
+        count,
+        a,
+        n,
+        cost,
+        link,
+        back,
+    )
 }
 
 // Pushes the ways through the code element n, to which the set of code x is designated unless it
@@ -115,7 +192,20 @@ fn by_element(
         more = cost + states::designation_length(x, n);
         k = k + DESIGNATED;
     }
-    through(&mut *store, &mut *index, from, cap, count, b, l, r, n, more, k, back)
+    through(
+        &mut *store,
+        &mut *index,
+        from,
+        cap,
+        count,
+        b,
+        l,
+        r,
+        n,
+        more,
+        k,
+        back,
+    )
 }
 
 // Pushes the ways through each code element.
@@ -139,7 +229,21 @@ fn by_elements(
     let mut c = count;
     let mut n: u32 = 0;
     while n < 4 {
-        c = by_element(&mut *store, &mut *index, from, cap, c, a, l, r, n, x, cost, link, back);
+        c = by_element(
+            &mut *store,
+            &mut *index,
+            from,
+            cap,
+            c,
+            a,
+            l,
+            r,
+            n,
+            x,
+            cost,
+            link,
+            back,
+        );
         n += 1;
     }
     c
@@ -164,16 +268,57 @@ fn by_ways(
     let left = states::set_in(a, states::gl(a));
     let right = states::set_in(a, states::gr(a));
     if left == x {
-        let c = layer::push(&mut *store, &mut *index, from, cap, count, a, cost, link, back);
+        let c = layer::push(
+            &mut *store,
+            &mut *index,
+            from,
+            cap,
+            count,
+            a,
+            cost,
+            link,
+            back,
+        );
         if right == x {
-            return layer::push(&mut *store, &mut *index, from, cap, c, a, cost, link + IN_GR, back);
+            return layer::push(
+                &mut *store,
+                &mut *index,
+                from,
+                cap,
+                c,
+                a,
+                cost,
+                link + IN_GR,
+                back,
+            );
         }
         return c;
     }
     if right == x {
-        return layer::push(&mut *store, &mut *index, from, cap, count, a, cost, link + IN_GR, back);
+        return layer::push(
+            &mut *store,
+            &mut *index,
+            from,
+            cap,
+            count,
+            a,
+            cost,
+            link + IN_GR,
+            back,
+        );
     }
-    by_elements(&mut *store, &mut *index, from, cap, count, a, x, cost, link, back)
+    by_elements(
+        &mut *store,
+        &mut *index,
+        from,
+        cap,
+        count,
+        a,
+        x,
+        cost,
+        link,
+        back,
+    )
 }
 
 // The size control before a candidate of a size: none (0), MSZ (1) or NSZ (2).
@@ -200,11 +345,7 @@ fn size_control(a: u32, size: u32) -> u32
 fn control_length(z: u32) -> u32
     ensures { λ r. ⌜ r ≡ length (sizeControl z) ⌝ }
 {
-    if z == 0 {
-        0
-    } else {
-        1
-    }
+    if z == 0 { 0 } else { 1 }
 }
 
 // The state after it.
@@ -245,20 +386,37 @@ fn by_candidate(
     let control = cost + control_length(z);
     let k = link + z * CONTROL;
     if x < 6 {
-        return by_ways(&mut *store, &mut *index, from, cap, count, b, x, control + len, k, back);
+        return by_ways(
+            &mut *store,
+            &mut *index,
+            from,
+            cap,
+            count,
+            b,
+            x,
+            control + len,
+            k,
+            back,
+        );
     }
-    layer::push(&mut *store, &mut *index, from, cap, count, b, control + 1, k, back)
+    layer::push(
+        &mut *store,
+        &mut *index,
+        from,
+        cap,
+        count,
+        b,
+        control + 1,
+        k,
+        back,
+    )
 }
 
 // The bytes of a code: one, or row and cell.
 fn code_length(code: u16) -> u32
     ensures { λ r. ⌜ r ≡ lengthOf code ⌝ }
 {
-    if code < 256 {
-        1
-    } else {
-        2
-    }
+    if code < 256 { 1 } else { 2 }
 }
 
 fn wide(x: u8) -> u32
@@ -294,7 +452,20 @@ pub fn by_candidates<'a>(
         let size = wide(sizes[k]);
         let len = code_length(codes[k]);
         let link = i + (k as u32) * CANDIDATE;
-        c = by_candidate(&mut *store, &mut *index, from, cap, c, a, x, size, len, cost, link, back);
+        c = by_candidate(
+            &mut *store,
+            &mut *index,
+            from,
+            cap,
+            c,
+            a,
+            x,
+            size,
+            len,
+            cost,
+            link,
+            back,
+        );
         k += 1;
     }
     c

@@ -81,4 +81,3 @@ floor-spec =
     loop-less
     loop-again
     returns)
-

@@ -130,4 +130,3 @@ keep-spec =
     loop-again
     same-length
     returns)
-

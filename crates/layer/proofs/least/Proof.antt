@@ -119,4 +119,3 @@ least-spec =
     loop-less-2
     loop-again-2
     returns-2)
-

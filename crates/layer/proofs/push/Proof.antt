@@ -164,4 +164,3 @@ push-spec =
     same-length-2
     same-length-3
     returns-5)
-

@@ -80,4 +80,3 @@ advance-spec =
     same-length-3
     same-length-4
     returns-2)
-

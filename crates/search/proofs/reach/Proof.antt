@@ -83,14 +83,19 @@ loop-less c = omega arith
 
 -- src/lib.rt:32:5
 loop-again : tie.Need-loop-again Inv-loop μ-loop
-loop-again c = 
+loop-again c =
     let a = c .before .before .before .before .before .before .before .before .before .before .before .before .before .args in
     let i = c .before .before .before .before .before .before .before .before .before .before .loop .i in
-    let q = c .before .before .before .before .by-candidates .ensures in
-    (omega arith, omega arith, omega arith, q .0 ∙ c .before .before .before .before .before .before .before .before .before .before .loop .inv .3, λ cs cs₀ b most m x h.
-    let l = length-layer cs₀ (a .store .now) (a .pfrom) (a .pcount) (omega arith) in
-    subst (Stands cs (room (a .pfrom + a .pcount) (a .cap) (a .pfrom) most) _ _ _) (reach-more cs (layerOf cs₀ (a .store .now) (a .pfrom) (a .pcount)) i (nodeOf cs₀ blank) (omega arith))
-    (q .1 cs most (nodeAt (c .before .before .before .before .before .before .before .before .before .before .before .before .before .args .store .now) (c .before .before .before .before .before .before .before .before .before .before .loop .store) (c .before .before .before .before .before .before .before .before .before .before .before .before .before .args .pfrom) (c .before .before .before .before .before .before .before .before .before .before .before .before .before .args .pcount) (c .before .before .before .before .before .before .before .before .before .before .loop .i) (omega arith) (c .before .before .before .before .before .before .before .before .before .before .loop .inv .3) (omega arith) cs₀) m (is-node (c .before .before .before .before .before .before .before .before .before .before .before .before .before .args .store .now) (c .before .before .before .before .before .before .before .before .before .before .loop .store) (c .before .before .before .before .before .before .before .before .before .before .before .before .before .args .pfrom) (c .before .before .before .before .before .before .before .before .before .before .before .before .before .args .pcount) (c .before .before .before .before .before .before .before .before .before .before .loop .i) (omega arith) (c .before .before .before .before .before .before .before .before .before .before .loop .inv .3) (omega arith) cs₀) (omega (arith, cheap (c .before .before .before .before .before .before .before .before .before .before .before .before .before .args .store .now) (c .before .before .before .before .before .before .before .before .before .before .loop .store) (c .before .before .before .before .before .before .before .before .before .before .before .before .before .args .pfrom) (c .before .before .before .before .before .before .before .before .before .before .before .before .before .args .pcount) (c .before .before .before .before .before .before .before .before .before .before .loop .i) (omega arith) (c .before .before .before .before .before .before .before .before .before .before .loop .inv .3) (omega arith) b x)) .stands _ (c .before .before .before .before .before .before .before .before .before .before .loop .inv .4 cs cs₀ b most m x h)))
+    let q = c .before .before .before .before .by-candidates .ensures in (
+      omega arith,
+      omega arith,
+      omega arith,
+      q .0 ∙ c .before .before .before .before .before .before .before .before .before .before .loop .inv .3,
+      λ cs cs₀ b most m x h.
+          let l = length-layer cs₀ (a .store .now) (a .pfrom) (a .pcount) (omega arith) in
+          subst (Stands cs (room (a .pfrom + a .pcount) (a .cap) (a .pfrom) most) _ _ _) (reach-more cs (layerOf cs₀ (a .store .now) (a .pfrom) (a .pcount)) i (nodeOf cs₀ blank) (omega arith))
+          (q .1 cs most (nodeAt (c .before .before .before .before .before .before .before .before .before .before .before .before .before .args .store .now) (c .before .before .before .before .before .before .before .before .before .before .loop .store) (c .before .before .before .before .before .before .before .before .before .before .before .before .before .args .pfrom) (c .before .before .before .before .before .before .before .before .before .before .before .before .before .args .pcount) (c .before .before .before .before .before .before .before .before .before .before .loop .i) (omega arith) (c .before .before .before .before .before .before .before .before .before .before .loop .inv .3) (omega arith) cs₀) m (is-node (c .before .before .before .before .before .before .before .before .before .before .before .before .before .args .store .now) (c .before .before .before .before .before .before .before .before .before .before .loop .store) (c .before .before .before .before .before .before .before .before .before .before .before .before .before .args .pfrom) (c .before .before .before .before .before .before .before .before .before .before .before .before .before .args .pcount) (c .before .before .before .before .before .before .before .before .before .before .loop .i) (omega arith) (c .before .before .before .before .before .before .before .before .before .before .loop .inv .3) (omega arith) cs₀) (omega (arith, cheap (c .before .before .before .before .before .before .before .before .before .before .before .before .before .args .store .now) (c .before .before .before .before .before .before .before .before .before .before .loop .store) (c .before .before .before .before .before .before .before .before .before .before .before .before .before .args .pfrom) (c .before .before .before .before .before .before .before .before .before .before .before .before .before .args .pcount) (c .before .before .before .before .before .before .before .before .before .before .loop .i) (omega arith) (c .before .before .before .before .before .before .before .before .before .before .loop .inv .3) (omega arith) b x)) .stands _ (c .before .before .before .before .before .before .before .before .before .before .loop .inv .4 cs cs₀ b most m x h)),
+    )
 
 -- src/lib.rt:14:1
 same-length : tie.Need-same-length Inv-loop μ-loop
@@ -102,13 +107,13 @@ same-length-2 c = c .before .loop .inv .2
 
 -- src/lib.rt:14:1
 returns : tie.Need-returns Inv-loop μ-loop
-returns c = 
+returns c =
     let a = c .before .before .before .before .args in
     record {
       before = c .before .loop .inv .3;
       stands = λ cs cs₀ b most m x h.
-            let l = length-layer cs₀ (a .store .now) (a .pfrom) (a .pcount) (omega arith) in
-            subst (Stands cs (room (a .pfrom + a .pcount) (a .cap) (a .pfrom) most) _ _ _) (reach-all cs (layerOf cs₀ (a .store .now) (a .pfrom) (a .pcount)) (c .before .loop .i) (omega arith)) (c .before .loop .inv .4 cs cs₀ b most m x h)
+          let l = length-layer cs₀ (a .store .now) (a .pfrom) (a .pcount) (omega arith) in
+          subst (Stands cs (room (a .pfrom + a .pcount) (a .cap) (a .pfrom) most) _ _ _) (reach-all cs (layerOf cs₀ (a .store .now) (a .pfrom) (a .pcount)) (c .before .loop .i) (omega arith)) (c .before .loop .inv .4 cs cs₀ b most m x h);
     }
 
 pub reach-spec : {M : Type 1} → statement M
@@ -135,4 +140,3 @@ reach-spec =
     same-length
     same-length-2
     returns)
-

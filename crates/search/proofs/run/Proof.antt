@@ -116,4 +116,3 @@ run-spec =
     same-length-3
     same-length-4
     returns-2)
-

@@ -54,4 +54,3 @@ search-spec =
     run-requires
     same-length
     returns-2)
-

@@ -41,7 +41,7 @@ same-length-2 c = search needs
 
 -- src/lib.rt:133:1
 returns : tie.Need-returns
-returns c = 
+returns c =
     let a = c .before .before .before .before .before .before .before .before .before .before .before .before .before .before .before .before .args in
     turned (a .store .now) _ (a .pfrom) (a .pcount) (a .c) (a .kanji) (a .symbol) (a .annex) (a .rest) (a .floor) (c .before .before .before .before .before .before .before .before .before .before .before .less .result) (c .before .before .before .before .before .before .before .before .before .before .before .before .before .candidates .result) _ _ _ (c .before .before .before .before .before .before .before .before .before .before .before .before .before .candidates .ensures) (c .before .before .before .before .before .before .before .before .before .before .before .less .ensures ∙ ap (λ (x : ℕ). a .rest - x) (c .before .before .before .before .before .before .before .before .before .before .before .before .shortest .ensures)) (c .before .before .before .before .advance .ensures)
 
@@ -57,4 +57,3 @@ turn-spec =
     same-length
     same-length-2
     returns)
-

@@ -53,7 +53,7 @@ same-length-2 c = search needs
 
 -- src/lib.rt:248:9
 returns : tie.Need-returns
-returns c = 
+returns c =
     let a = c .before .before .before .before .before .before .before .before .before .before .before .before .before .args in
     λ cs k ks most n at m i h.
     as-graphic cs ks n (a .a) (c .before .before .before .before .before .before .before .before .before .before .sized .result) (a .x) (a .size) (a .len) (a .cost) (a .link) (c .before .before .before .before .before .before .before .before .before .size-control .result) (c .before .before .before .before .before .before .before .before .control-length .result) (a .back) (c .before .before .before .before .before .before .before .before .before .before .before .before .before .pre .4) i (c .before .before .before .before .before .before .before .before .before .size-control .ensures) (c .before .before .before .before .before .before .before .before .control-length .ensures) (c .before .before .before .before .before .before .before .before .before .before .sized .ensures .is) k at m (c .before .before .before .before .before .before .before .if1 .taken) (λ t w. c .before .before .before .before .by-ways .ensures cs most t w (omega (arith, c .before .before .before .before .before .before .before .before .control-length .ensures, few-bytes (c .before .before .before .before .before .before .before .before .before .size-control .result))))
@@ -76,7 +76,7 @@ same-length-4 c = search needs
 
 -- src/lib.rt:226:1
 returns-2 : tie.Need-returns-2
-returns-2 c = 
+returns-2 c =
     let a = c .before .before .before .before .before .before .before .before .before .before .before .before .before .args in
     λ cs k ks most n at m i h.
     as-plain cs ks n (a .a) (c .before .before .before .before .before .before .before .before .before .before .sized .result) (a .x) (a .size) (a .len) (a .cost) (a .link) (c .before .before .before .before .before .before .before .before .before .size-control .result) (c .before .before .before .before .before .before .before .before .control-length .result) (a .back) (c .before .before .before .before .before .before .before .before .before .before .before .before .before .pre .4) i (c .before .before .before .before .before .before .before .before .before .size-control .ensures) (c .before .before .before .before .before .before .before .before .control-length .ensures) (c .before .before .before .before .before .before .before .before .before .before .sized .ensures .is) k at m (c .before .before .before .before .before .before .before .if1 .left) (c .before .before .before .before .push .ensures cs most (omega (arith, c .before .before .before .before .before .before .before .before .control-length .ensures, few-bytes (c .before .before .before .before .before .before .before .before .before .size-control .result))))
@@ -101,4 +101,3 @@ by-candidate-spec =
     same-length-3
     same-length-4
     returns-2)
-

@@ -84,17 +84,22 @@ loop-less c = omega arith
 
 -- src/lib.rt:292:5
 loop-again : tie.Need-loop-again Inv-loop μ-loop
-loop-again c = 
+loop-again c =
     let a = c .before .before .before .before .before .before .before .before .before .before .before .before .before .before .before .before .before .args in
     let k = c .before .before .before .before .before .before .before .before .before .before .before .before .before .before .loop .k in
     let d = decLt (c .before .before .before .before .before .before .before .before .before .before .before .wide .result) 6 in
     let o : Cand = any (c .before .before .before .before .before .before .before .before .before .before .before .wide .result) (c .before .before .before .before .before .before .before .before .before .wide2 .result) (c .before .before .before .before .before .before .before .code-length .result) d in
     let j : ℕ = (a .i + k * 131072) / 131072 in
-    let q = c .before .before .before .before .by-candidate .ensures (replicate (suc j) o) o [] (a .cost + 9) (record { state = unpack (a .a); cost = a .cost; prev = 0; bytes = [] }) (any-at o j) (any-matches (c .before .before .before .before .before .before .before .before .before .before .before .wide .result) (c .before .before .before .before .before .before .before .before .before .wide2 .result) (c .before .before .before .before .before .before .before .code-length .result) d) (record { state = refl; costs = refl }) (omega arith) in
-    (omega arith, omega arith, omega arith, q .before ∙ c .before .before .before .before .before .before .before .before .before .before .before .before .before .before .loop .inv .3, λ cs most n m i h.
-    let lt : k < length cs = omega (arith, m .many) in
-    changes-as _ _ (λ l. ap (λ (j : ℕ). pushAll (byCands n (a .i) l (take k cs)) (byCand n j (getD cs k (plain 0 0)))) (place-link (a .i) k (c .before .before .before .before .before .before .before .before .before .before .before .before .before .before .before .before .before .pre .3)) ∙ one-more n (a .i) cs k lt l)
-    (then _ _ (c .before .before .before .before .before .before .before .before .before .before .before .before .before .before .loop .inv .4 cs most n m i h) (c .before .before .before .before .by-candidate .ensures cs (getD cs k (plain 0 0)) (drop (suc k) cs) most n (at-link cs (a .i) k (c .before .before .before .before .before .before .before .before .before .before .before .before .before .before .before .before .before .pre .3) lt) (rw (c .before .before .before .before .before .before .before .before .before .before .before .wide .ensures, c .before .before .before .before .before .before .before .before .before .wide2 .ensures, c .before .before .before .before .before .before .before .code-length .ensures) (m .each k (omega arith))) i h)))
+    let q = c .before .before .before .before .by-candidate .ensures (replicate (suc j) o) o [] (a .cost + 9) (record { state = unpack (a .a); cost = a .cost; prev = 0; bytes = [] }) (any-at o j) (any-matches (c .before .before .before .before .before .before .before .before .before .before .before .wide .result) (c .before .before .before .before .before .before .before .before .before .wide2 .result) (c .before .before .before .before .before .before .before .code-length .result) d) (record { state = refl; costs = refl }) (omega arith) in (
+      omega arith,
+      omega arith,
+      omega arith,
+      q .before ∙ c .before .before .before .before .before .before .before .before .before .before .before .before .before .before .loop .inv .3,
+      λ cs most n m i h.
+          let lt : k < length cs = omega (arith, m .many) in
+          changes-as _ _ (λ l. ap (λ (j : ℕ). pushAll (byCands n (a .i) l (take k cs)) (byCand n j (getD cs k (plain 0 0)))) (place-link (a .i) k (c .before .before .before .before .before .before .before .before .before .before .before .before .before .before .before .before .before .pre .3)) ∙ one-more n (a .i) cs k lt l)
+          (then _ _ (c .before .before .before .before .before .before .before .before .before .before .before .before .before .before .loop .inv .4 cs most n m i h) (c .before .before .before .before .by-candidate .ensures cs (getD cs k (plain 0 0)) (drop (suc k) cs) most n (at-link cs (a .i) k (c .before .before .before .before .before .before .before .before .before .before .before .before .before .before .before .before .before .pre .3) lt) (rw (c .before .before .before .before .before .before .before .before .before .before .before .wide .ensures, c .before .before .before .before .before .before .before .before .before .wide2 .ensures, c .before .before .before .before .before .before .before .code-length .ensures) (m .each k (omega arith))) i h)),
+    )
 
 -- src/lib.rt:271:1
 same-length : tie.Need-same-length Inv-loop μ-loop
@@ -132,4 +137,3 @@ by-candidates-spec =
     same-length
     same-length-2
     returns)
-

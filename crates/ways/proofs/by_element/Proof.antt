@@ -49,17 +49,20 @@ add-k-2 c = search needs
 
 -- src/lib.rt:116:5
 through-requires : tie.Need-through-requires
-through-requires c κs = 
+through-requires c κs =
     let a = c .before .before .before .before .before .before .before .args in
     let q = c .before .before .before .before .designate .ensures .is in
     let g : Sized (c .before .before .if1 .more) (c .before .before .if1 .k) =
-          ⊎-elim
-          (λ z. record { cost-small = omega (arith, z .1 .ensures, designation-most (a .x) (a .n) (c .before .before .before .before .before .before .before .pre .5)); link-small = omega arith })
-          (λ z. record { cost-small = omega arith; link-small = omega arith })
-          (c .before .before .if1 .came) in
-    (record { store = omega arith; index = omega arith; few = c .before .before .before .before .before .before .before .pre .0 .few }, c .before .before .before .before .designate .ensures .proper,
-    record { left = c .before .before .before .before .before .before .before .pre .2 .left ∙ sym (ap (λ (s : State). s .gl) q ∙ same-gl (unpack (a .a)) (a .n) (setOf (a .x))); right = c .before .before .before .before .before .before .before .pre .2 .right ∙ sym (ap (λ (s : State). s .gr) q ∙ same-gr (unpack (a .a)) (a .n) (setOf (a .x))) },
-    g, c .before .before .before .before .before .before .before .pre .4)
+    ⊎-elim
+    (λ z. record { cost-small = omega (arith, z .1 .ensures, designation-most (a .x) (a .n) (c .before .before .before .before .before .before .before .pre .5)); link-small = omega arith })
+    (λ z. record { cost-small = omega arith; link-small = omega arith })
+    (c .before .before .if1 .came) in (
+      record { store = omega arith; index = omega arith; few = c .before .before .before .before .before .before .before .pre .0 .few },
+      c .before .before .before .before .designate .ensures .proper,
+      record { left = c .before .before .before .before .before .before .before .pre .2 .left ∙ sym (ap (λ (s : State). s .gl) q ∙ same-gl (unpack (a .a)) (a .n) (setOf (a .x))); right = c .before .before .before .before .before .before .before .pre .2 .right ∙ sym (ap (λ (s : State). s .gr) q ∙ same-gr (unpack (a .a)) (a .n) (setOf (a .x))) },
+      g,
+      c .before .before .before .before .before .before .before .pre .4,
+    )
 
 -- src/lib.rt:91:1
 same-length : tie.Need-same-length
@@ -71,7 +74,7 @@ same-length-2 c = search needs
 
 -- src/lib.rt:91:1
 returns : tie.Need-returns
-returns c = 
+returns c =
     let a = c .before .before .before .before .before .before .before .before .before .before .before .before .args in
     λ cs most t w h.
     ⊎-elim
@@ -94,4 +97,3 @@ by-element-spec =
     same-length
     same-length-2
     returns)
-

@@ -81,4 +81,3 @@ by-elements-spec =
     same-length
     same-length-2
     returns)
-

@@ -142,5 +142,3 @@ by-shift-spec =
     same-length-5
     same-length-6
     returns-3)
-
-

@@ -53,7 +53,7 @@ same-length-2 c = search needs
 
 -- src/lib.rt:168:13
 returns : tie.Need-returns
-returns c = 
+returns c =
     let a = c .before .before .before .before .before .before .before .before .before .before .before .before .before .before .before .before .before .before .before .before .before .before .args in
     let b = unpack (a .a) in
     let cl = codes-at (c .before .before .before .before .before .before .before .before .before .before .before .before .before .before .before .before .before .before .set-in .result) (c .before .before .before .before .before .before .before .before .before .before .before .before .before .before .before .before .before .before .before .gl .result) (b .gl) b (c .before .before .before .before .before .before .before .before .before .before .before .before .before .before .before .before .before .before .before .gl .ensures .is) (c .before .before .before .before .before .before .before .before .before .before .before .before .before .before .before .before .before .before .set-in .ensures) in
@@ -74,7 +74,7 @@ same-length-4 c = search needs
 
 -- src/lib.rt:170:9
 returns-2 : tie.Need-returns-2
-returns-2 c = 
+returns-2 c =
     let a = c .before .before .before .before .before .before .before .before .before .before .before .before .before .before .before .args in
     let b = unpack (a .a) in
     let cl = codes-at (c .before .before .before .before .before .before .before .before .before .before .before .set-in .result) (c .before .before .before .before .before .before .before .before .before .before .before .before .gl .result) (b .gl) b (c .before .before .before .before .before .before .before .before .before .before .before .before .gl .ensures .is) (c .before .before .before .before .before .before .before .before .before .before .before .set-in .ensures) in
@@ -102,7 +102,7 @@ same-length-6 c = search needs
 
 -- src/lib.rt:173:9
 returns-3 : tie.Need-returns-3
-returns-3 c = 
+returns-3 c =
     let a = c .before .before .before .before .before .before .before .before .before .before .before .before .before .before .before .args in
     let b = unpack (a .a) in
     let cl = codes-at (c .before .before .before .before .before .before .before .before .before .before .before .set-in .result) (c .before .before .before .before .before .before .before .before .before .before .before .before .gl .result) (b .gl) b (c .before .before .before .before .before .before .before .before .before .before .before .before .gl .ensures .is) (c .before .before .before .before .before .before .before .before .before .before .before .set-in .ensures) in
@@ -126,7 +126,7 @@ same-length-8 c = search needs
 
 -- src/lib.rt:148:1
 returns-4 : tie.Need-returns-4
-returns-4 c = 
+returns-4 c =
     let a = c .before .before .before .before .before .before .before .before .before .before .before .before .before .before .before .args in
     let b = unpack (a .a) in
     let cl = codes-at (c .before .before .before .before .before .before .before .before .before .before .before .set-in .result) (c .before .before .before .before .before .before .before .before .before .before .before .before .gl .result) (b .gl) b (c .before .before .before .before .before .before .before .before .before .before .before .before .gl .ensures .is) (c .before .before .before .before .before .before .before .before .before .before .before .set-in .ensures) in
@@ -161,4 +161,3 @@ by-ways-spec =
     same-length-7
     same-length-8
     returns-4)
-

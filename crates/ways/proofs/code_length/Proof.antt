@@ -14,4 +14,3 @@ returns-2 c = two-byte-code (c .before .args .code) (c .if1 .left)
 
 pub code-length-spec : {M : Type 1} → statement M
 code-length-spec = tie.close (tie.spec returns returns-2)
-

@@ -14,4 +14,3 @@ returns-2 c = one-byte (c .before .args .z) (c .if1 .left)
 
 pub control-length-spec : {M : Type 1} → statement M
 control-length-spec = tie.close (tie.spec returns returns-2)
-

@@ -35,4 +35,3 @@ returns-5 c = no-size (unpack (c .before .before .before .args .a)) (c .before .
 pub size-control-spec : {M : Type 1} → statement M
 size-control-spec =
     tie.close (tie.spec narrow-requires returns returns-2 returns-3 returns-4 returns-5)
-

@@ -28,4 +28,3 @@ returns-3 c = to-wide (c .before .before .before .args .a) (c .resize2 .result) 
 
 pub sized-spec : {M : Type 1} → statement M
 sized-spec = tie.close (tie.spec returns resize-requires returns-2 resize-requires-2 returns-3)
-

@@ -122,5 +122,3 @@ through-spec =
     same-length-7
     same-length-8
     returns-4)
-
-
