@@ -30,7 +30,7 @@ use Rattle.macros.proofs.Laws.{builtin-bare}
 use Rattle.plain.specs.Contracts.{CharOf, ShiftOf, StopAt}
 use Rattle.plain.proofs.Dispatch.{step-char, step-shift}
 use Rattle.decode.specs.Contracts.{below, Ready, Grown, Ran, RanStep}
-use Rattle.decode.proofs.Loops.{kept-grown, below-run}
+use Rattle.decode.proofs.Loops.{kept-grown, below-run, along-start, along-end}
 
 -- what a state that a decoder holds has in common with it
 pub record Alike (a l : List ℕ) (c : Core) (s : State) : Type 0 where
@@ -150,6 +150,14 @@ module _ (g : Given) (left : ℕ) (R : Run) (body : List ℕ) (base at : ℕ) (s
   unfolding runBody
   body-runs h k = rw (ne-eqb left 0 h, le-ltb _ _ k)
 
+pub ready-body : {n e m : ℕ} {c : Core} → Ready n (suc e) c → c .charged + m ≤ n → Ready n m (withCharged c (c .charged + m))
+ready-body h k = record {
+  gl = h .gl;
+  gr = h .gr;
+  within = k;
+  room = record { ordered = h .room .ordered; repeat = h .room .repeat; text = omega (arith, h .room .text, k); issues = omega (arith, h .room .issues, k) };
+}
+
 module _ (cells input starts lens body : List ℕ) (left base at : ℕ) (c : Core) (t i : List ℕ) where
   -- a body that runs: its length is charged, and it runs one deeper
   pub ran-body : {r : Core} {t′ i′ : List ℕ} → (left ≡ 0 → ⊥) → c .charged + length body ≤ limit input
@@ -167,13 +175,14 @@ module _ (cells input starts lens body : List ℕ) (left base at : ℕ) (c : Cor
         record { gl = w .gl; gr = w .gr; within = w .within; ordered = w .ordered; repeat = w .repeat; text = omega (arith, w .text, k); issues = omega (arith, w .issues, k) };
   }
 
-pub ready-body : {n e m : ℕ} {c : Core} → Ready n (suc e) c → c .charged + m ≤ n → Ready n m (withCharged c (c .charged + m))
-ready-body h k = record {
-  gl = h .gl;
-  gr = h .gr;
-  within = k;
-  room = record { ordered = h .room .ordered; repeat = h .room .repeat; text = omega (arith, h .room .text, k); issues = omega (arith, h .room .issues, k) };
-}
+  -- an empty one: nothing is charged, and nothing runs
+  pub ran-empty : (left ≡ 0 → ⊥) → length body ≡ 0 → Ready (limit input) 1 c → Ran cells input 1 (λ g. runBody g left (below g left) body base at) starts lens c t i c t i
+  ran-empty h e p =
+      let q : c .charged + length body ≡ c .charged = omega (arith, e) in
+      let k : c .charged + length body ≤ limit input = omega (arith, e, p .within) in
+      let d : Core = withCharged c (c .charged + length body) in
+      subst (λ (n : ℕ). Ran cells input 1 (λ g. runBody g left (below g left) body base at) starts lens c t i (withCharged c n) t i) q
+      (ran-body h k (along-end cells input (left - 1) base (at + 1) body starts lens d t i 0 d t i (along-start cells input (left - 1) base (at + 1) body starts lens d t i (ready-body p k)) (omega (arith, e))))
 
 -- ---- `run_macro`
 

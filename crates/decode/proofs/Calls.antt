@@ -57,6 +57,7 @@ module _ (o : Output) (charge : ℕ) (t₀ i₀ : List ℕ) (out : Out) (t i : L
   refusing q r t′ i′ e v = record {
     number = ap numberOf (v .answer) ∙ sym e;
     place = ap placeOf (v .answer);
+    case = λ z. absurd (omega (arith, sym (ap numberOf (v .answer)) ∙ z));
     accepted = λ z. absurd (omega (arith, sym (ap numberOf (v .answer)) ∙ z));
     refused = λ z. (ap textOf (v .answer), ap issuesOf (v .answer), ap chargedOf (v .answer), v .text ∙ ap (λ (n : ℕ). padded n []) as-long, v .issues ∙ ap (λ (n : ℕ). padded n []) as-many);
   }
@@ -87,6 +88,7 @@ module _ (o : Output) (charge : ℕ) (t₀ i₀ : List ℕ) (out : Out) (t i : L
       record {
         number = rw (le-leb _ _ p, le-leb _ _ q);
         place = refl;
+        case = λ z. refl;
         accepted = λ z. (
           text-len,
           issue-count,
@@ -114,6 +116,7 @@ answered c r t i z v = go (fitsIn (length (utf8s (reading c .out .text))) (lengt
         let x : outcome c ≡ outcomeOf zero c = ap (λ (q : ℕ). outcomeOf q c) (same zero e) in
         record {
           number = v .number ∙ e ∙ sym (ap (λ (z : Outcome). z .refused) x);
+          case = v .case;
           place = v .place;
           counted = w .0 ∙ sym (ap (λ (z : Outcome). z .text) x);
           reported = w .1 ∙ sym (ap (λ (z : Outcome). z .issues) x);
@@ -127,6 +130,7 @@ answered c r t i z v = go (fitsIn (length (utf8s (reading c .out .text))) (lengt
         let x : outcome c ≡ outcomeOf (suc q) c = ap (λ (k : ℕ). outcomeOf k c) (same (suc q) e) in
         record {
           number = n ∙ sym (ap (λ (z : Outcome). z .refused) x);
+          case = v .case;
           place = v .place;
           counted = w .0 ∙ sym (ap (λ (z : Outcome). z .text) x);
           reported = w .1 ∙ sym (ap (λ (z : Outcome). z .issues) x);
@@ -145,6 +149,7 @@ refused c (suc q) r ti ii t i z k a b v =
     let x : outcome c ≡ outcomeOf (suc q) c = ap (λ (n : ℕ). outcomeOf n c) f in
     record {
       number = ap numberOf (v .answer) ∙ sym (ap (λ (y : Outcome). y .refused) x);
+      case = λ y. absurd (omega (arith, sym (ap numberOf (v .answer)) ∙ y));
       place = ap placeOf (v .answer);
       counted = ap textOf (v .answer) ∙ sym (ap (λ (y : Outcome). y .text) x);
       reported = ap issuesOf (v .answer) ∙ sym (ap (λ (y : Outcome). y .issues) x);

@@ -48,6 +48,7 @@ pub record Refuses (number : ℕ) (t i : List ℕ) (r : Answer) (t′ i′ : Lis
 pub record Answers (o : Output) (charge textRoom issueRoom : ℕ) (r : Answer) (t i : List ℕ) : Type 0 where
   pub number : numberOf r ≡ fitsIn (length (utf8s (o .text))) (length (issuesNumbers (o .issues))) textRoom issueRoom
   pub place : placeOf r ≡ 0
+  pub case : numberOf r ≡ 0 → r ≡ Decoded (textOf r) (issuesOf r) (chargedOf r)
   pub accepted : numberOf r ≡ 0 → (textOf r ≡ length (utf8s (o .text))) × (issuesOf r ≡ length (o .issues)) × (chargedOf r ≡ charge) × (t ≡ padded textRoom (utf8s (o .text))) × (i ≡ padded issueRoom (issuesNumbers (o .issues)))
   pub refused : (numberOf r ≡ 0 → ⊥) → (textOf r ≡ 0) × (issuesOf r ≡ 0) × (chargedOf r ≡ 0) × (t ≡ padded textRoom []) × (i ≡ padded issueRoom [])
 
@@ -55,9 +56,10 @@ pub record Answers (o : Output) (charge textRoom issueRoom : ℕ) (r : Answer) (
 abbrev pub lent : List ℕ → ℕ → ℕ → List ℕ → List ℕ → List ℕ → Lent
 lent cells initial width input text issues = record { cells = cells; initial = initial; width = width; input = input; textRoom = length text; issueRoom = length issues }
 
--- every number of the answer, and every element of both buffers
+-- every number of the answer, which is `Decoded` where none is refused, and every element of both buffers
 pub record Answered (c : Lent) (r : Answer) (text issues : List ℕ) : Type 0 where
   pub number : numberOf r ≡ outcome c .refused
+  pub case : numberOf r ≡ 0 → r ≡ Decoded (textOf r) (issuesOf r) (chargedOf r)
   pub place : placeOf r ≡ 0
   pub counted : textOf r ≡ outcome c .text
   pub reported : issuesOf r ≡ outcome c .issues

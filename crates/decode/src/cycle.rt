@@ -45,6 +45,9 @@ fn run_body<'a>(
     if after > input.len() * 64 + 4096 {
         return characters::report(at, IssueKind::MacroLimit, s, issues);
     }
+    if body.len() == 0 {
+        return s;
+    }
     let mut t = s;
     t.charged = after;
     run(

@@ -25,6 +25,7 @@ refused-as {number} {place} {r = r} f k e h q =
     let n : numberOf r ≡ number = ap numberOf (q .answer) in
     record {
       number = n ∙ sym (ap (λ (x : Refusal). x .number) e);
+      case = λ z. absurd (omega (arith, z, n, h));
       accepted = λ z. absurd (omega (arith, z, n, h));
       refused = λ z. (ap placeOf (q .answer) ∙ sym (ap (λ (x : Refusal). x .place) e), ap lengthOf (q .answer), ap gapOf (q .answer), q .zeros .buffer);
       store = q .zeros .store;
@@ -44,6 +45,7 @@ wrote-nothing {s} {b} {s′} {b′} k eo eg q =
     let g : length (k .out) ≤ length b = omega (arith, ap length eo) in
     record {
       number = rw (le-leb _ _ g) refl;
+      case = λ z. refl;
       accepted = λ z. (refl, sym (ap length eo), sym eg, q .buffer ∙ ap (padded (length b)) (sym eo));
       refused = λ z. absurd (z refl);
       store = q .store;
@@ -55,6 +57,7 @@ wrote {s} {b} {b₁} {b₂} {s′} {len} {gap} k el eg h e₁ e₂ es =
     let g : length (k .out) ≤ length b = omega (arith, h, el) in
     record {
       number = rw (le-leb _ _ g) refl;
+      case = λ z. refl;
       accepted = λ z. (refl, el, eg, e₂ ∙ ap (λ (x : List ℕ). cleared x len) e₁ ∙ ap (cleared (sets b 0 (k .out))) el ∙ clear-past b (k .out) g);
       refused = λ z. absurd (z refl);
       store = es ∙ clear-all s;
@@ -83,10 +86,11 @@ rejected-as : (f : Refusal) (c : Lent) (n : ℕ) → f .number ≡ suc n → out
 unfolding outcomeOf
 rejected-as f c n e = rw (e, outcomeOf) refl
 
-same-as : (c : Lent) (r : Answer) (s′ b′ : List ℕ) (o : Outcome) → outcome c ≡ o → numberOf r ≡ o .refused → placeOf r ≡ o .place → lengthOf r ≡ o .length → gapOf r ≡ o .gap → b′ ≡ o .buffer → s′ ≡ o .store → Answered c r s′ b′
-same-as c r s′ b′ o e n p l g b s =
+same-as : (c : Lent) (r : Answer) (s′ b′ : List ℕ) (o : Outcome) → outcome c ≡ o → (numberOf r ≡ 0 → r ≡ answer.Coded (lengthOf r) (gapOf r)) → numberOf r ≡ o .refused → placeOf r ≡ o .place → lengthOf r ≡ o .length → gapOf r ≡ o .gap → b′ ≡ o .buffer → s′ ≡ o .store → Answered c r s′ b′
+same-as c r s′ b′ o e k n p l g b s =
     record {
       number = n ∙ sym (ap (λ (x : Outcome). x .refused) e);
+      case = k;
       place = p ∙ sym (ap (λ (x : Outcome). x .place) e);
       counted = l ∙ sym (ap (λ (x : Outcome). x .length) e);
       gap = g ∙ sym (ap (λ (x : Outcome). x .gap) e);
@@ -107,10 +111,10 @@ outcome-as c s b {r} {s′} {b′} f e es eb q = go (f .number) refl
     go : (n : ℕ) → f .number ≡ n → Answered c r s′ b′
     go zero z =
         let a = q .accepted (q .number ∙ z) in
-        same-as c r s′ b′ (acceptance c) (o ∙ accepted-as f c z) (q .number ∙ z) (a .0) (a .1) (a .2) (a .3 ∙ ap (λ (x : ℕ). padded x (coding c .out)) (sym eb)) store
+        same-as c r s′ b′ (acceptance c) (o ∙ accepted-as f c z) (q .case) (q .number ∙ z) (a .0) (a .1) (a .2) (a .3 ∙ ap (λ (x : ℕ). padded x (coding c .out)) (sym eb)) store
     go (suc n) z =
         let a = q .refused (λ h. absurd (omega (arith, h, q .number, z))) in
-        same-as c r s′ b′ (rejection c (suc n) (f .place)) (o ∙ rejected-as f c n z) (q .number ∙ z) (a .0) (a .1) (a .2) (a .3 ∙ ap (λ (x : ℕ). padded x []) (sym eb)) store
+        same-as c r s′ b′ (rejection c (suc n) (f .place)) (o ∙ rejected-as f c n z) (q .case) (q .number ∙ z) (a .0) (a .1) (a .2) (a .3 ∙ ap (λ (x : ℕ). padded x []) (sym eb)) store
 
 -- questions 1 to 3
 first-three : (cells : List ℕ) (initial width : ℕ) (text s b : List ℕ) → firstRefusal cells initial width 7281 (length text) ≡ 0 → refusal (lent cells initial width text s b) ≡ question4 (lent cells initial width text s b)

@@ -40,6 +40,7 @@ pub record Refuses (number place : ℕ) (s b : List ℕ) (r : Answer) (s′ b′
 -- the answer f to the questions, and the coding k, as the answer of a call with a store s and a buffer b
 pub record Answers (f : Refusal) (k : Coded) (s b : List ℕ) (r : Answer) (s′ b′ : List ℕ) : Type 0 where
   pub number : numberOf r ≡ f .number
+  pub case : numberOf r ≡ 0 → r ≡ Written (lengthOf r) (gapOf r)
   pub accepted : numberOf r ≡ 0 → (placeOf r ≡ 0) × (lengthOf r ≡ length (k .out)) × (gapOf r ≡ k .gap) × (b′ ≡ padded (length b) (k .out))
   pub refused : (numberOf r ≡ 0 → ⊥) → (placeOf r ≡ f .place) × (lengthOf r ≡ 0) × (gapOf r ≡ 0) × (b′ ≡ padded (length b) [])
   pub store : s′ ≡ padded (length s) []
@@ -48,9 +49,10 @@ pub record Answers (f : Refusal) (k : Coded) (s b : List ℕ) (r : Answer) (s′
 abbrev pub lent : List ℕ → ℕ → ℕ → List ℕ → List ℕ → List ℕ → Lent
 lent cells initial width text store buffer = asked cells initial width text store (length buffer)
 
--- every number of the answer, and every element of buffer and store
+-- every number of the answer, which is `Coded` where none is refused, and every element of buffer and store
 pub record Answered (c : Lent) (r : Answer) (store buffer : List ℕ) : Type 0 where
   pub number : numberOf r ≡ outcome c .refused
+  pub case : numberOf r ≡ 0 → r ≡ Written (lengthOf r) (gapOf r)
   pub place : placeOf r ≡ outcome c .place
   pub counted : lengthOf r ≡ outcome c .length
   pub gap : gapOf r ≡ outcome c .gap

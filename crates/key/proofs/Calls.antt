@@ -82,11 +82,10 @@ module _ (c : Lent) where
 
 -- ---- the answer
 
--- a text without bytes has no characters
-none-written : (cs : List ℕ) → length (utf8s cs) ≡ 0 → cs ≡ []
-unfolding utf8s
-none-written [] e = refl
-none-written (x ∷ cs) e = absurd (omega (arith, length-append (utf8 x) (utf8s cs), length-utf8 x))
+-- which case an answer is
+abbrev variant : Answer → ℕ
+variant (Decoded text issues charge) = 0
+variant (Refused q place) = 1
 
 -- a key has no more bytes than its text
 key-shorter : (cs : List ℕ) → length (utf8s (keyText cs)) ≤ length (utf8s cs)
@@ -180,42 +179,15 @@ module _ (c : Lent) where
     pub inside : text ≤ length b
     inside = omega (arith, counted, passed-0 accepted .1, d .room)
 
-  -- what was refused; a decoding without text may be said to be refused with 0
+  -- what was refused
   module _ (q place : ℕ) (b : List ℕ) (d : Decodes c (Refused q place) b) where
     same : number ≡ q
     same = sym number-of ∙ sym (d .answered .number)
 
-    -- 0: there is no text, and so no key
-    module _ (e : q ≡ 0) where
-      zero-outcome : decoding.outcome (decodingOf c) ≡ decoding.outcomeOf 0 (decodingOf c)
-      zero-outcome = decoded-as 0 (same ∙ e)
+    -- a refusal has a number
+    some-number : q ≡ 0 → ⊥
+    some-number e = omega (arith, ap variant (d .answered .case e))
 
-      no-text : reading c .out .text ≡ []
-      unfolding decoding.outcomeOf reading decoding.textBytes
-      no-text = none-written (reading c .out .text) (sym (d .answered .counted ∙ ap (λ (o : decoding.Outcome). o .text) zero-outcome))
-
-      no-key : keyBytes c ≡ []
-      unfolding keyBytes keyText utf8s
-      no-key = rw no-text
-
-      zeros : b ≡ padded (c .room) []
-      unfolding decoding.outcomeOf decoding.textBytes reading utf8s
-      zeros = d .answered .written ∙ (ap (λ (o : decoding.Outcome). o .textBuffer) zero-outcome ∙ ap (λ (l : List ℕ). padded (c .room) (utf8s l)) no-text)
-
-      no-charge : 0 ≡ reading c .charged
-      unfolding decoding.outcomeOf reading
-      no-charge = d .answered .charged ∙ ap (λ (o : decoding.Outcome). o .charged) zero-outcome
-
-      refused-0 : Answered c (refusedOf q place) b
-      unfolding outcomeOf
-      refused-0 =
-          let o = outcome-as 0 (same ∙ e) in
-          record {
-            answer = rw e (ap₂ key.Keyed (ap length (sym no-key)) no-charge ∙ sym (ap (λ (x : Outcome). answerOf (x .refused) x) o));
-            written = zeros ∙ (ap (padded (c .room)) (sym no-key) ∙ sym (ap (λ (x : Outcome). x .buffer) o));
-          }
-
-    -- any other number
     module _ (n : ℕ) (e : q ≡ suc n) where
       cleared : b ≡ padded (c .room) []
       unfolding decoding.outcomeOf
@@ -231,7 +203,7 @@ module _ (c : Lent) where
           }
 
       refused-suc : Answered c (refusedOf q place) b
-      refused-suc = rw (ne-eqb q 0 (λ z. omega arith)) (go (eqb q 9) refl)
+      refused-suc = go (eqb q 9) refl
         where
           go : (t : Bool) → eqb q 9 ≡ t → Answered c (key.Refused (questionOf q) place) b
           go true p = refused-more 9 (ap (λ (u : Bool). cond u 10 q) p)
@@ -241,7 +213,7 @@ module _ (c : Lent) where
     refused = go q refl
       where
         go : (n : ℕ) → q ≡ n → Answered c (refusedOf q place) b
-        go zero e = refused-0 e
+        go zero e = absurd (some-number e)
         go (suc n) e = refused-suc n e
 
 -- ---- the same of an answer that is known by an equation

@@ -38,12 +38,12 @@ abbrev pub answerOf : ℕ → Outcome → KeyAnswer
 answerOf zero o = Keyed (o .len) (o .charged)
 answerOf (suc q) o = Refused (suc q) 0
 
--- A decoding's refusal as a key's: with no room for issues its 9 is a key's 10. What decoding promises leaves 0 open, for an empty text.
+-- A decoding's refusal as a key's: with no room for issues its 9 is a key's 10.
 abbrev pub questionOf : ℕ → ℕ
 questionOf q = cond (eqb q 9) 10 q
 
 abbrev pub refusedOf : ℕ → ℕ → KeyAnswer
-refusedOf q place = cond (eqb q 0) (Keyed 0 0) (Refused (questionOf q) place)
+refusedOf q place = Refused (questionOf q) place
 
 -- what a call is lent
 abbrev pub lent : List ℕ → ℕ → ℕ → List ℕ → List ℕ → Lent

@@ -73,7 +73,6 @@ fn refuse(number: u32, place: usize) -> KeyAnswer
     ensures { λ r. ⌜ r ≡ refusedOf number place ⌝ }
 {
     match number {
-        0 => KeyAnswer::Keyed { len: 0, charged: 0 },
         9 => KeyAnswer::Refused { number: 10, place },
         _ => KeyAnswer::Refused { number, place },
     }

@@ -11,10 +11,7 @@ returns : tie.Need-returns
 returns c = rw (c .match .keys1)
 
 returns-2 : tie.Need-returns-2
-returns-2 c = rw (c .match .keys2)
-
-returns-3 : tie.Need-returns-3
-returns-3 c = rw (ne-eqb (c .before .args .number) 0 (c .match .rest .0 .1), ne-eqb (c .before .args .number) 9 (c .match .rest .1))
+returns-2 c = rw (ne-eqb (c .before .args .number) 9 (c .match .rest .1))
 
 pub refuse-spec : {M : Type 1} → statement M
-refuse-spec = tie.close (tie.spec returns returns-2 returns-3)
+refuse-spec = tie.close (tie.spec returns returns-2)

@@ -11,7 +11,7 @@ use Rattle.reading.specs.Macros.{Run, runBody, endOf, limit}
 use Rattle.reading.specs.Steps.{offset}
 use Rattle.decode.specs.Contracts.{below}
 use Rattle.decode.proofs.Loops.{Along, along-start, along-stretch, along-step, along-end, inside-offset, offset-as, limit-is, ready-good, ready-left, ready-less}
-use Rattle.decode.proofs.Bodies.{ran-as, step-as, did-ran, took-ran, did-ran-by, took-ran-by, one-step, shift-step, char1-macro, graphic-two, graphic-one, body-deep, body-dear, ran-body, ready-body, macro-defined, macro-built-in, macro-none, shift-char, char-graphic, part-short, told-char, told-macro, told-shift, told-end, shift-element, built-test, built-none, built-bare, built-short}
+use Rattle.decode.proofs.Bodies.{ran-as, step-as, did-ran, took-ran, did-ran-by, took-ran-by, one-step, shift-step, char1-macro, graphic-two, graphic-one, body-deep, body-dear, ran-body, ran-empty, ready-body, macro-defined, macro-built-in, macro-none, shift-char, char-graphic, part-short, told-char, told-macro, told-shift, told-end, shift-element, built-test, built-none, built-bare, built-short}
 use Rattle.plain.proofs.Dispatch.{step-char, step-shift, step-macro}
 use Prim.Native.Nat.{ℕ, _<_}
 use borrow.Fn.Kinds.{In}
@@ -439,13 +439,21 @@ run-body-returns-2 t c =
     let p : limit (c .before .before .before .before .before .before .before .before .before .before .before .before .args .input .now) < c .before .before .before .before .before .before .before .before .before .before .before .before .args .s .charged + length (c .before .before .before .before .before .before .before .before .before .before .before .before .args .body .now) = omega (arith, limit-is (c .before .before .before .before .before .before .before .before .before .before .before .before .args .input .now), c .before .before .before .before .if2 .taken) in
     ran-as (λ g y s h. body-dear g _ _ _ _ _ s (c .before .before .before .before .before .before .if1 .left) (rw (h .charged, y) p)) (did-ran (c .before .before .before .before .before .before .before .before .before .before .before .before .pre .1 .1 .1 .0 .within) (c .before .before .report2 .ensures (c .before .before .before .before .before .before .before .before .before .before .before .before .args .cells .now) _))
 
+run-body-returns-3 : (t : ℕ) → run-body-lts.Need-returns-3 (
+  report-reads.Asked,
+  report-reads.Learnt,
+  run-below t,
+  run.Post,
+) (run-body-at t) run-body.Post
+run-body-returns-3 t c = ran-empty _ _ _ _ _ _ _ _ _ _ _ (c .before .before .before .if1 .left) (c .if3 .taken) (c .before .before .before .before .before .before .before .before .before .pre .1 .1 .1 .0)
+
 run-body-add-run : (t : ℕ) → run-body-lts.Need-add-run (
   report-reads.Asked,
   report-reads.Learnt,
   run-below t,
   run.Post,
 ) (run-body-at t) run-body.Post
-run-body-add-run t c = omega (arith, c .before .before .before .before .before .before .before .before .pre .1 .0 .3)
+run-body-add-run t c = omega (arith, c .before .before .before .before .before .before .before .before .before .pre .1 .0 .3)
 
 run-body-sub-run : (t : ℕ) → run-body-lts.Need-sub-run (
   report-reads.Asked,
@@ -453,7 +461,7 @@ run-body-sub-run : (t : ℕ) → run-body-lts.Need-sub-run (
   run-below t,
   run.Post,
 ) (run-body-at t) run-body.Post
-run-body-sub-run t c = omega (arith, c .before .before .if1 .left)
+run-body-sub-run t c = omega (arith, c .before .before .before .if1 .left)
 
 run-body-run-requires : (t : ℕ) → run-body-lts.Need-run-requires (
   report-reads.Asked,
@@ -462,8 +470,8 @@ run-body-run-requires : (t : ℕ) → run-body-lts.Need-run-requires (
   run.Post,
 ) (run-body-at t) run-body.Post
 run-body-run-requires t c κs =
-    let k : c .before .before .before .before .before .before .before .before .before .before .args .s .charged + length (c .before .before .before .before .before .before .before .before .before .before .args .body .now) ≤ limit (c .before .before .before .before .before .before .before .before .before .before .args .input .now) = omega (arith, limit-is (c .before .before .before .before .before .before .before .before .before .before .args .input .now), c .before .before .if2 .left) in
-    (omega (arith, c .before .before .before .before .before .before .before .before .before .before .pre .0, c .before .before .before .before .if1 .left), ((c .before .before .before .before .before .before .before .before .before .before .pre .1 .0 .0, c .before .before .before .before .before .before .before .before .before .before .pre .1 .0 .1, c .before .before .before .before .before .before .before .before .before .before .pre .1 .0 .2, omega arith, omega (arith, c .before .before .before .before .before .before .before .before .before .before .pre .1 .0 .3)), (c .before .before .before .before .before .before .before .before .before .before .pre .1 .1 .0, (ready-body (c .before .before .before .before .before .before .before .before .before .before .pre .1 .1 .1 .0) k, c .before .before .before .before .before .before .before .before .before .before .pre .1 .1 .1 .1))))
+    let k : c .before .before .before .before .before .before .before .before .before .before .before .args .s .charged + length (c .before .before .before .before .before .before .before .before .before .before .before .args .body .now) ≤ limit (c .before .before .before .before .before .before .before .before .before .before .before .args .input .now) = omega (arith, limit-is (c .before .before .before .before .before .before .before .before .before .before .before .args .input .now), c .before .before .before .if2 .left) in
+    (omega (arith, c .before .before .before .before .before .before .before .before .before .before .before .pre .0, c .before .before .before .before .before .if1 .left), ((c .before .before .before .before .before .before .before .before .before .before .before .pre .1 .0 .0, c .before .before .before .before .before .before .before .before .before .before .before .pre .1 .0 .1, c .before .before .before .before .before .before .before .before .before .before .before .pre .1 .0 .2, omega arith, omega (arith, c .before .before .before .before .before .before .before .before .before .before .before .pre .1 .0 .3)), (c .before .before .before .before .before .before .before .before .before .before .before .pre .1 .1 .0, (ready-body (c .before .before .before .before .before .before .before .before .before .before .before .pre .1 .1 .1 .0) k, c .before .before .before .before .before .before .before .before .before .before .before .pre .1 .1 .1 .1))))
 
 run-body-same-length-3 : (t : ℕ) → run-body-lts.Need-same-length-3 (
   report-reads.Asked,
@@ -481,15 +489,15 @@ run-body-same-length-4 : (t : ℕ) → run-body-lts.Need-same-length-4 (
 ) (run-body-at t) run-body.Post
 run-body-same-length-4 t c = search needs
 
-run-body-returns-3 : (t : ℕ) → run-body-lts.Need-returns-3 (
+run-body-returns-4 : (t : ℕ) → run-body-lts.Need-returns-4 (
   report-reads.Asked,
   report-reads.Learnt,
   run-below t,
   run.Post,
 ) (run-body-at t) run-body.Post
-run-body-returns-3 t c =
-    let k : c .before .before .before .before .before .before .before .before .before .before .before .before .before .before .before .args .s .charged + length (c .before .before .before .before .before .before .before .before .before .before .before .before .before .before .before .args .body .now) ≤ limit (c .before .before .before .before .before .before .before .before .before .before .before .before .before .before .before .args .input .now) = omega (arith, limit-is (c .before .before .before .before .before .before .before .before .before .before .before .before .before .before .before .args .input .now), c .before .before .before .before .before .before .before .if2 .left) in
-    ran-body _ _ _ _ _ _ _ _ _ _ _ (c .before .before .before .before .before .before .before .before .before .if1 .left) k (c .before .before .before .before .run .ensures)
+run-body-returns-4 t c =
+    let k : c .before .before .before .before .before .before .before .before .before .before .before .before .before .before .before .before .args .s .charged + length (c .before .before .before .before .before .before .before .before .before .before .before .before .before .before .before .before .args .body .now) ≤ limit (c .before .before .before .before .before .before .before .before .before .before .before .before .before .before .before .before .args .input .now) = omega (arith, limit-is (c .before .before .before .before .before .before .before .before .before .before .before .before .before .before .before .before .args .input .now), c .before .before .before .before .before .before .before .before .if2 .left) in
+    ran-body _ _ _ _ _ _ _ _ _ _ _ (c .before .before .before .before .before .before .before .before .before .before .if1 .left) k (c .before .before .before .before .run .ensures)
 
 run-macro-mul-start : (t : ℕ) → run-macro-lts.Need-mul-start (
   run-body-below t,
@@ -1015,12 +1023,13 @@ pub +char1+graphic+run+run-body+run-macro+turn-spec : {M : Type 1} → statement
     (run-body-report-requires-2 t)
     (run-body-same-length-2 t)
     (run-body-returns-2 t)
+    (run-body-returns-3 t)
     (run-body-add-run t)
     (run-body-sub-run t)
     (run-body-run-requires t)
     (run-body-same-length-3 t)
     (run-body-same-length-4 t)
-    (run-body-returns-3 t))
+    (run-body-returns-4 t))
     (λ t. run-macro-lts.spec (
       run-body-below t,
       run-body.Post,
