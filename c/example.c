@@ -31,7 +31,7 @@ static void reads(void)
     assert(refused == 0);
     assert(counts[0] == 0 && counts[1] == 3 && counts[2] == 1 && counts[3] == 0);
     assert(memcmp(text, "あ\0\0\0\0\0\0\0\0\0\0\0\0\0", 16) == 0);
-    assert(issues[0] == 0 && issues[1] == 4 && issues[2] == 0 && issues[3] == 0);
+    assert(issues[0] == 0 && issues[1] == ARIB_TRUNCATED && issues[2] == 0 && issues[3] == 0);
     printf("24 A2 reads as %s, with %zu issue\n", (const char *)text, counts[2]);
 
     refused = arib_decode(cells, 8836, 0, 0, title, 2, text, 2, issues, 8, counts, 4);

@@ -35,9 +35,47 @@
 extern "C" {
 #endif
 
+/* Kinds of issues, with the two fields of each; a field that is not named is 0. A code is in GL
+ * form, two bytes as row + 0x20 and cell + 0x20; a set is one of enum arib_set. */
+enum arib_kind {
+    ARIB_UNKNOWN_ESCAPE = 1,      /* an escape that no table lists: start in the input, length */
+    ARIB_UNDEFINED_CONTROL,       /* a control code that the tables leave blank: the code */
+    ARIB_MALFORMED_CONTROL,       /* parameters that no table lists: the code */
+    ARIB_TRUNCATED,               /* the input or a macro's body ends within a code */
+    ARIB_UNDEFINED_CODE,          /* blank in its set, U+FFFD stands for it: set, code */
+    ARIB_UNSUPPORTED_CODE,        /* of a set that is not mapped, U+FFFD likewise: set, code */
+    ARIB_DRCS,                    /* a character of DRCS-n, U+FFFD likewise: n, code */
+    ARIB_MOSAIC,                  /* a mosaic, for which nothing stands: set, code */
+    ARIB_UNDEFINED_MACRO,         /* a macro that has no body: the code */
+    ARIB_MACRO_LIMIT,             /* a body that was not run: too deep, or over the budget */
+    ARIB_LONE_SINGLE_SHIFT,       /* SS2 or SS3 before a byte that is no character */
+    ARIB_DANGLING_NON_SPACING,    /* marks before a newline or the end: they stand alone */
+    ARIB_REPEAT_TO_END_OF_LINE    /* RPC 04/0: the character stands once */
+};
+
+/* Graphic sets; DRCS-n is 16 + n. */
+enum arib_set {
+    ARIB_KANJI,
+    ARIB_ALPHANUMERIC,
+    ARIB_HIRAGANA,
+    ARIB_KATAKANA,
+    ARIB_MOSAIC_A,
+    ARIB_MOSAIC_B,
+    ARIB_MOSAIC_C,
+    ARIB_MOSAIC_D,
+    ARIB_PROPORTIONAL_ALPHANUMERIC,
+    ARIB_PROPORTIONAL_HIRAGANA,
+    ARIB_PROPORTIONAL_KATAKANA,
+    ARIB_JIS_X0201_KATAKANA,
+    ARIB_JIS_KANJI_PLANE1,
+    ARIB_JIS_KANJI_PLANE2,
+    ARIB_ADDITIONAL_SYMBOLS,
+    ARIB_MACRO
+};
+
 /* Decodes a string to UTF-8. counts: place, bytes of text, issues, charge (the bytes of the macro
- * bodies that ran). An issue is four numbers: offset, kind (1 to 13), and two fields; so the buffer
- * holds a quarter of its length. Questions 1, 2, 3, 8, 9. */
+ * bodies that ran). An issue is four numbers, offset, kind and two fields, so the buffer holds a
+ * quarter of its length; issues are in order of report. Questions 1, 2, 3, 8, 9. */
 uint32_t arib_decode(const uint16_t *cells, size_t cells_len, uint32_t initial, uint32_t width,
                      const uint8_t *input, size_t input_len, uint8_t *text, size_t text_len,
                      uint32_t *issues, size_t issues_len, size_t *counts, size_t counts_len);
@@ -49,9 +87,9 @@ uint32_t arib_decode_checked(const uint16_t *cells, size_t cells_len, uint32_t i
                              size_t text_len, uint32_t *issues, size_t issues_len, size_t *counts,
                              size_t counts_len);
 
-/* The bytes of an unknown escape (issue of kind 1, whose fields are start and length) as a part of
- * the input. part: start, length. A start and length that leave the input get the empty part at
- * its beginning. Answers the part's length; puts no question. */
+/* The bytes of an unknown escape, by the fields of its issue, as a part of the input. part: start,
+ * length. A start and length that leave the input get the empty part at its beginning. Answers the
+ * part's length; puts no question. */
 size_t arib_unknown_escape(const uint8_t *input, size_t input_len, size_t start, size_t length,
                            size_t *part, size_t part_len);
 
@@ -68,6 +106,12 @@ uint32_t arib_encode(const uint16_t *cells, size_t cells_len, uint32_t initial, 
 uint32_t arib_key(const uint16_t *cells, size_t cells_len, uint32_t initial, uint32_t width,
                   const uint8_t *input, size_t input_len, uint8_t *key, size_t key_len,
                   size_t *counts, size_t counts_len);
+
+/* The same without questions 1 to 3, for many titles with one table: only where arib_key would not
+ * answer 1, 2 or 3. With other arguments nothing is promised. */
+uint32_t arib_key_checked(const uint16_t *cells, size_t cells_len, uint32_t initial, uint32_t width,
+                          const uint8_t *input, size_t input_len, uint8_t *key, size_t key_len,
+                          size_t *counts, size_t counts_len);
 
 #ifdef __cplusplus
 }

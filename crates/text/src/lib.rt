@@ -148,6 +148,24 @@ pub extern "C" fn arib_key(
     report_key(answer, counts)
 }
 
+// The same where questions 1 to 3 were put and passed: for whoever keys many titles with one cell
+// table.
+#[no_mangle]
+pub extern "C" fn arib_key_checked(
+    cells: &[u16],
+    initial: u32,
+    width: u32,
+    input: &[u8],
+    buffer: &mut [u8],
+    counts: &mut [usize],
+) -> u32
+    requires { ⌜ firstRefusal (now cells) initial width 65535 (length (now input)) ≡ 0 ⌝ }
+    ensures { λ r. ⌜ Keys (keys.lent (now (cells .entry)) initial width (now (input .entry)) (now (buffer .entry))) (now (counts .entry)) r (now (buffer .exit)) (now (counts .exit)) ⌝ }
+{
+    let answer = key::key_checked(cells, initial, width, input, buffer);
+    report_key(answer, counts)
+}
+
 // The counts of a coding: the place of a refusal, then the coding's bytes and the gap.
 fn report_coding(answer: encode::call::Answer, counts: &mut [usize]) -> u32
     ensures { λ r. ⌜ CodingReports answer (now (counts .entry)) r (now (counts .exit)) ⌝ }
