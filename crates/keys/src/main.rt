@@ -2,11 +2,8 @@
 // NUMBER TAB and `refused`, number and place, or `line` and its number and `: malformed`, one line for each. How many
 // lines were malformed is said on standard error. The cell table is `jis.tab`, or zeros if absent; question 1 is put
 // once. `keyline::print` is the work on one line.
-mod files;
 mod lines;
 
-use files::cell_table;
-use files::read_table;
 use libc::STDERR_FILENO;
 use lines::all_lines;
 
@@ -18,8 +15,12 @@ fn summary(malformed: u64) {
     }
 }
 
+// The file's buffer has room for one byte more than a cell table has, so that a longer one shows.
 fn main() {
-    let mut t = cell_table();
-    let m = read_table(&mut t);
+    let mut bytes = [0u8; 17673];
+    let file = files::read_table(&mut bytes);
+    let mut t = [0u16; 8836];
+    let n = file.len;
+    let m = celltable::fill(file.present, &bytes[..n], &mut t);
     summary(all_lines(&t[..m]));
 }

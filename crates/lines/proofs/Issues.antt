@@ -6,9 +6,9 @@ use native.Mathlib.Omega.{arith}
 use lib.ListN.{length, getD, drop, length-append, length-drop}
 use lib.Seq.{drop-cons}
 use Rattle.lines.specs.Lines.{firstLine, issueLine, issueLines}
-use Rattle.lines.specs.Contracts.{Put}
-use Rattle.lines.proofs.Writing.{Rest, rest-less}
-use Rattle.lines.proofs.Digits.{decimal-few}
+use Rattle.ascii.specs.Contracts.{Put}
+use Rattle.ascii.proofs.Writing.{Rest, rest-less}
+use Rattle.ascii.proofs.Digits.{decimal-few}
 
 -- ---- the loop
 

@@ -1,5 +1,2 @@
-pub mod Writing
-pub mod Digits
 pub mod Issues
-pub mod Table
 pub mod Outcomes

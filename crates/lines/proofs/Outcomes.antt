@@ -13,8 +13,12 @@ use Rattle.laws.proofs.Reading.{charge-bound, question-8-9}
 use Rattle.decode.specs.declared.call.Answer.{Answer}
 use Rattle.decode.specs.Answers.{numberOf, textOf, issuesOf, chargedOf, lent, Answered}
 use Rattle.questions.proofs.Refusals.{passed}
-use Rattle.lines.specs.Lines.{hexadecimal, newline, firstLine, issueLines, refusedLine, answerLines, call, decodedLines}
-use Rattle.lines.specs.Contracts.{Printed}
+use Rattle.celltable.specs.CellTable.{cellTable}
+use Rattle.ascii.proofs.Writing.{printed-as}
+use Rattle.ascii.specs.Ascii.{hexadecimal, newline, refusedLine}
+use Rattle.ascii.specs.Contracts.{Put, Printed}
+use Rattle.lines.specs.Lines.{firstLine, issueLines, answerLines, call, decodedLines, listing}
+use Rattle.lines.specs.Contracts.{greatest}
 
 -- ---- counts
 
@@ -56,8 +60,9 @@ bounds c = go (firstRefusal (c .cells) (c .initial) (c .width) decodeLimit (leng
 
 -- ---- lines
 
-pub printed-as : {l xs ys l′ : List ℕ} {r : ℕ} → ys ≡ xs → Printed l xs l′ r → Printed l ys l′ r
-printed-as {l} {xs} {ys} {l′} {r} e p = subst (λ (x : List ℕ). Printed l x l′ r) (sym e) p
+-- a refusal
+pub printed-refused : {l xs ys l′ : List ℕ} {r : ℕ} → ys ≡ xs → Put l 0 xs l′ r → r ≤ 50 → Printed greatest l ys l′ r
+printed-refused e p h = printed-as e (record { put = p; long = omega arith })
 
 -- buffers of the program's rooms
 pub answered-as : (cells input : List ℕ) {a : Answer} {t i : List ℕ} → Answered (lent cells 0 0 input (replicate 65536 0) (replicate 1024 0)) a t i → Answered (call cells input) a t i
@@ -81,7 +86,7 @@ pub record Within (n k g : ℕ) (t i : List ℕ) : Type 0 where
 
 module _ (cells input : List ℕ) where
   -- question 1, or more than 4,096 bytes
-  pub lines-first : (q : ℕ) → q ≡ firstRefusal cells 0 0 4096 (length input) → 0 < q → decodedLines cells input ≡ refusedLine q
+  pub lines-first : (q : ℕ) → q ≡ firstRefusal cells 0 0 4096 (length input) → 0 < q → decodedLines cells input ≡ refusedLine q 0
   unfolding decodedLines
   lines-first zero e h = absurd (omega arith)
   lines-first (suc q) e h = rw (sym e)
@@ -93,11 +98,11 @@ module _ (cells input : List ℕ) where
   lines-next (suc q) e h = absurd (omega arith)
 
   -- the call refuses
-  pub lines-refused : {q n : ℕ} {a : Answer} {t i : List ℕ} → q ≡ firstRefusal cells 0 0 4096 (length input) → q ≤ 0 → Answered (call cells input) a t i → n ≡ numberOf a → 0 < n → decodedLines cells input ≡ refusedLine n
+  pub lines-refused : {q n : ℕ} {a : Answer} {t i : List ℕ} → q ≡ firstRefusal cells 0 0 4096 (length input) → q ≤ 0 → Answered (call cells input) a t i → n ≡ numberOf a → 0 < n → decodedLines cells input ≡ refusedLine n 0
   unfolding answerLines
   lines-refused {q} {n} {a} e h v m k = lines-next q e h ∙ go n (m ∙ v .number) k
     where
-      go : (n : ℕ) → n ≡ outcome (call cells input) .refused → 0 < n → answerLines (outcome (call cells input) .refused) (outcome (call cells input)) ≡ refusedLine n
+      go : (n : ℕ) → n ≡ outcome (call cells input) .refused → 0 < n → answerLines (outcome (call cells input) .refused) (outcome (call cells input)) ≡ refusedLine n 0
       go zero x y = absurd (omega arith)
       go (suc n) x y = rw (sym x)
 
@@ -122,3 +127,8 @@ module _ (cells input : List ℕ) where
         text-long = p;
         issues-long = r;
       }
+
+-- a cell table
+pub listing-as : (present : Bool) (table input cells : List ℕ) → cells ≡ cellTable present table → listing present table input ≡ decodedLines cells input
+unfolding listing
+listing-as present table input cells e = ap (λ (l : List ℕ). decodedLines l input) (sym e)

@@ -4,12 +4,7 @@ use mathlib.Core.Bool.{true, false}
 use mathlib.Core.List.{[], _∷_}
 use lib.ListN.{replicate}
 use Rattle.questions.specs.Questions.{all, cellsHold}
-use Rattle.lines.specs.Lines.{decimal, hexadecimal, listing}
-
--- 0, 10, the greatest number of an issue, and two bytes
-numbers : (decimal 0 ≡ 0x30 ∷ []) × (decimal 10 ≡ 0x31 ∷ 0x30 ∷ []) × (decimal 4294967295 ≡ 0x34 ∷ 0x32 ∷ 0x39 ∷ 0x34 ∷ 0x39 ∷ 0x36 ∷ 0x37 ∷ 0x32 ∷ 0x39 ∷ 0x35 ∷ []) × (hexadecimal (0xE3 ∷ 0x09 ∷ []) ≡ 0x45 ∷ 0x33 ∷ 0x30 ∷ 0x39 ∷ [])
-unfolding decimal hexadecimal
-numbers = (refl, refl, refl, refl)
+use Rattle.lines.specs.Lines.{listing}
 
 -- "For 24 A2 it prints in full": text 3 issues 1 charged 0, E38182, 0 4 0 0
 in-full :

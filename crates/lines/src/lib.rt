@@ -1,16 +1,17 @@
 // The lines that the program `listing` prints.
-mod numbers;
 mod values;
 
-use numbers::decimal;
-use numbers::hexadecimal;
-use numbers::word;
-ghost use Prim.Native.Nat.{_+_, _*_, _≤_};
-ghost use mathlib.Core.Path.{_≡_};
+use ascii::decimal;
+use ascii::hexadecimal;
+use ascii::refused;
+use ascii::word;
+ghost use Prim.Native.Nat.{_+_, _≤_};
 ghost use mathlib.Core.List.{_++_};
 ghost use lib.ListN.{length};
-ghost use Rattle.lines.specs.Lines.{hexadecimal, newline, firstLine, issueLine, issueLines, refusedLine, bigEndian, decodedLines, listing};
-ghost use Rattle.lines.specs.Contracts.{Put, Printed};
+ghost use Rattle.ascii.specs.Ascii.{hexadecimal, newline};
+ghost use Rattle.ascii.specs.Contracts.{Put, Printed};
+ghost use Rattle.lines.specs.Lines.{firstLine, issueLine, issueLines, decodedLines, listing};
+ghost use Rattle.lines.specs.Contracts.{greatest};
 
 // The most bytes that `listing` prints.
 pub const GREATEST: usize = 142374;
@@ -65,21 +66,10 @@ fn issue_lines(out: &mut [u8], at: usize, numbers: &[u32]) -> usize
     next
 }
 
-// The number of a refusal, and its place, which is 0.
-fn refused(out: &mut [u8], number: u32) -> usize
-    ensures { λ r. ⌜ Printed (now (out .entry)) (refusedLine number) (now (out .exit)) r ⌝ }
-{
-    let mut at = word(out, 0, b"refused ");
-    at = decimal(out, at, number as usize);
-    at = word(out, at, b" ");
-    at = decimal(out, at, 0);
-    word(out, at, b"\n")
-}
-
 // The lines of a decoding: n bytes of text, k issues and the charge.
 fn decoded(out: &mut [u8], n: usize, k: usize, charged: usize, text: &[u8], issues: &[u32]) -> usize
     requires { ⌜ (n ≤ 65536) × (k ≤ 256) × (charged ≤ 266240) × (length (now text) ≤ 65536) × (length (now issues) ≤ 1024) ⌝ }
-    ensures { λ r. ⌜ Printed (now (out .entry)) (firstLine n k charged ++ hexadecimal (now (text .entry)) ++ newline ++ issueLines (now (issues .entry))) (now (out .exit)) r ⌝ }
+    ensures { λ r. ⌜ Printed greatest (now (out .entry)) (firstLine n k charged ++ hexadecimal (now (text .entry)) ++ newline ++ issueLines (now (issues .entry))) (now (out .exit)) r ⌝ }
 {
     let mut at = first_line(out, n, k, charged);
     at = hexadecimal(out, at, text);
@@ -89,18 +79,18 @@ fn decoded(out: &mut [u8], n: usize, k: usize, charged: usize, text: &[u8], issu
 
 // The lines of an input, with a cell table.
 fn decoded_lines(cells: &[u16], input: &[u8], out: &mut [u8]) -> usize
-    ensures { λ r. ⌜ Printed (now (out .entry)) (decodedLines (now (cells .entry)) (now (input .entry))) (now (out .exit)) r ⌝ }
+    ensures { λ r. ⌜ Printed greatest (now (out .entry)) (decodedLines (now (cells .entry)) (now (input .entry))) (now (out .exit)) r ⌝ }
 {
     let q = questions::first(cells, 0, 0, 4096, input.len());
     if q > 0 {
-        return refused(out, q);
+        return refused(out, q, 0);
     }
     let mut text = [0u8; 65536];
     let mut issues = [0u32; 1024];
     let answer = decode::call::decode_with(cells, 0, 0, input, &mut text, &mut issues);
     let number = values::number(answer);
     if number > 0 {
-        return refused(out, number);
+        return refused(out, number, 0);
     }
     let n = values::text(answer);
     let k = values::issues(answer);
@@ -115,30 +105,12 @@ fn decoded_lines(cells: &[u16], input: &[u8], out: &mut [u8]) -> usize
     )
 }
 
-// The numbers of `jis.tab`, which are big-endian.
-fn big_endian(bytes: &[u8], cells: &mut [u16])
-    requires { ⌜ length (now bytes) ≡ 2 * length (now cells) ⌝ }
-    ensures { λ _. ⌜ now (cells .exit) ≡ bigEndian (now (bytes .entry)) ⌝ }
-{
-    let mut i = 0;
-    while i < cells.len() {
-        cells[i] = bytes[2 * i] as u16 * 256 + bytes[2 * i + 1] as u16;
-        i += 1;
-    }
-}
-
 // All that `listing` prints: whether there is a `jis.tab`, its bytes, the input, and room for what is
 // printed. The answer is the length.
 pub fn listing(present: bool, table: &[u8], input: &[u8], out: &mut [u8]) -> usize
-    ensures { λ r. ⌜ Printed (now (out .entry)) (listing present (now (table .entry)) (now (input .entry))) (now (out .exit)) r ⌝ }
+    ensures { λ r. ⌜ Printed greatest (now (out .entry)) (listing present (now (table .entry)) (now (input .entry))) (now (out .exit)) r ⌝ }
 {
     let mut cells = [0u16; 8836];
-    if !present {
-        return decoded_lines(&cells, input, out);
-    }
-    if table.len() != 17672 {
-        return decoded_lines(&cells[..0], input, out);
-    }
-    big_endian(table, &mut cells);
-    decoded_lines(&cells, input, out)
+    let n = celltable::fill(present, table, &mut cells);
+    decoded_lines(&cells[..n], input, out)
 }

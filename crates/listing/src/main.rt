@@ -1,8 +1,6 @@
 // Decodes standard input, at most 4,096 bytes, and prints text and issues: docs/01-scope.md, below
 // "The table of twelve". The cell table is `jis.tab` in the working directory, or zeros if there is
 // none. All that is printed is `lines::listing` of what was read.
-mod files;
-
 use files::read;
 use files::read_table;
 use libc::STDIN_FILENO;

@@ -1,43 +1,20 @@
 // `decode.bin` against `decode_with`: the number, the place, the counts, and every element of both
 // buffers, which hold a pattern before the call.
-use crate::case::Case;
-use crate::case::case_at;
-use crate::case::count;
-use crate::case::number;
+use crate::buffers::byte_room;
+use crate::buffers::number_room;
+use crate::buffers::same_bytes;
+use crate::buffers::same_numbers;
+use crate::compared::Compared;
+use crate::decoding_case::DecodingCase;
+use crate::decoding_case::case_at;
+use crate::numbers::count;
 use decode::call::Answer;
 use vectors::tally::Tally;
-ghost use mathlib.Core.Path.{_≡_};
 ghost use Prim.Native.Nat.{_≤_};
 ghost use lib.ListN.{length};
 
-// The text's bytes, and zeros behind them.
-fn same_text(buffer: &[u8], want: &[u8]) -> bool {
-    let mut same = want.len() <= buffer.len();
-    let mut i = 0;
-    while i < buffer.len() {
-        let mut x: u8 = 0;
-        if i < want.len() {
-            x = want[i];
-        }
-        same = same & (buffer[i] == x);
-        i += 1;
-    }
-    same
-}
-
-// The issues' numbers, and zeros behind them.
-fn same_issues(buffer: &[u32], want: &[u8]) -> bool {
-    let mut same = want.len() / 4 <= buffer.len();
-    let mut i = 0;
-    while i < buffer.len() {
-        same = same & (buffer[i] == number(want, 4 * i));
-        i += 1;
-    }
-    same
-}
-
 // The number, the place and the counts.
-fn same_answer(answer: Answer, case: Case) -> bool {
+fn same_answer(answer: Answer, case: DecodingCase) -> bool {
     match answer {
         Answer::Decoded {
             text,
@@ -63,7 +40,7 @@ fn same_answer(answer: Answer, case: Case) -> bool {
 
 // One call, in the buffers that are lent.
 fn same(
-    case: Case,
+    case: DecodingCase,
     cells: &[u16],
     input: &[u8],
     text: &[u8],
@@ -72,25 +49,17 @@ fn same(
     numbers: &mut [u32],
 ) -> bool {
     let answer = decode::call::decode_with(cells, case.initial, case.width, input, bytes, numbers);
-    same_answer(answer, case) & same_text(bytes, text) & same_issues(numbers, issues)
-}
-
-// 4,096 bytes of a pattern.
-fn byte_room() -> [u8; 4096]
-    ensures { λ r. ⌜ 4096 ≡ length r ⌝ }
-{
-    [0xA5; 4096]
-}
-
-// 1,024 numbers of a pattern.
-fn number_room() -> [u32; 1024]
-    ensures { λ r. ⌜ 1024 ≡ length r ⌝ }
-{
-    [0xA5A5A5A5; 1024]
+    same_answer(answer, case) & same_bytes(bytes, text) & same_numbers(numbers, issues)
 }
 
 // One call, in buffers of the stated lengths.
-fn same_in_rooms(case: Case, cells: &[u16], input: &[u8], text: &[u8], issues: &[u8]) -> bool {
+fn same_in_rooms(
+    case: DecodingCase,
+    cells: &[u16],
+    input: &[u8],
+    text: &[u8],
+    issues: &[u8],
+) -> bool {
     let mut bytes = byte_room();
     let mut numbers = number_room();
     let n = case.text_room;
@@ -98,7 +67,7 @@ fn same_in_rooms(case: Case, cells: &[u16], input: &[u8], text: &[u8], issues: &
     if n > 4096 {
         return false;
     }
-    if k > 1024 {
+    if k > 65536 {
         return false;
     }
     same(
@@ -110,13 +79,6 @@ fn same_in_rooms(case: Case, cells: &[u16], input: &[u8], text: &[u8], issues: &
         &mut bytes[..n],
         &mut numbers[..k],
     )
-}
-
-// Whether the answers of a case are the same, and where the next case starts: 0 where the file ends
-// before the case does.
-struct Compared {
-    next: usize,
-    same: bool,
 }
 
 // The case at a place.

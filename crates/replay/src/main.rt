@@ -1,8 +1,13 @@
-// Holds the library to calls whose answers are known. `decode.bin` has calls of `decode_with` and
-// `jis.tab` the cell table (compare/README.md has the layout). A line for each file says how many
-// answers were compared and how many differ.
-mod case;
+// Holds the library to calls whose answers are known. `decode.bin` has calls of `decode_with`,
+// `encode.bin` of `encode_with`, and `jis.tab` the cell table (compare/README.md has the layout). A
+// line for each file of calls says how many answers were compared and how many differ.
+mod buffers;
+mod coding;
+mod coding_case;
+mod compared;
 mod decoding;
+mod decoding_case;
+mod numbers;
 
 use libc::STDOUT_FILENO;
 use vectors::files::cells;
@@ -10,7 +15,7 @@ use vectors::files::read;
 use vectors::tally::line;
 
 // The buffer of the cell table has room for one byte more, so that a longer file shows; that of the
-// cases is longer than the file, whose end is looked at.
+// cases is longer than either file, whose end is looked at.
 fn main() {
     let mut table = [0u8; 17673];
     let m = read(b"jis.tab", &mut table);
@@ -23,4 +28,6 @@ fn main() {
     let mut file = [0u8; 0x80000];
     let n = read(b"decode.bin", &mut file);
     line(b"decode", decoding::replay(&file[..n], &t));
+    let n = read(b"encode.bin", &mut file);
+    line(b"encode", coding::replay(&file[..n], &t));
 }

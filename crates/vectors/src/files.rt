@@ -32,22 +32,9 @@ pub fn byte(bytes: &[u8], i: usize) -> usize
     if i < bytes.len() { value(bytes[i]) } else { 0 }
 }
 
-// Number i of `jis.tab`, of two bytes; 0 past the end.
-fn cell(table: &[u8], i: usize) -> u16 {
-    if i < table.len() / 2 {
-        (byte(table, 2 * i) * 256 + byte(table, 2 * i + 1)) as u16
-    } else {
-        0
-    }
-}
-
 // Fills the cell table from `jis.tab`.
 pub fn cells(table: &[u8], t: &mut [u16])
     ensures { λ _. ⌜ length (now (t .exit)) ≡ length (now (t .entry)) ⌝ }
 {
-    let mut i = 0;
-    while i < t.len() {
-        t[i] = cell(table, i);
-        i += 1;
-    }
+    celltable::numbers(table, t);
 }

@@ -1,7 +1,7 @@
 -- `decoded` meets its contract: the lines stand one after another, and each has its greatest length. Assumes nothing.
 use native.Mathlib.Omega.{arith}
-use Rattle.lines.proofs.Writing.{put-then}
-use Rattle.lines.proofs.Digits.{hexadecimal-long}
+use Rattle.ascii.proofs.Writing.{put-then}
+use Rattle.ascii.proofs.Digits.{hexadecimal-long}
 use Rattle.lines.proofs.Issues.{first-few, issues-few}
 use borrow.Author.Needs.{needs}
 use Rattle.lines.proofs.decoded.Statement.{statement}

@@ -5,8 +5,9 @@ use native.Mathlib.Omega.{arith}
 use denote.Ref.{now}
 use lib.ListN.{length-replicate}
 use lib.Seq.{length-take-le}
+use Rattle.ascii.proofs.Writing.{printed-as}
 use Rattle.lines.specs.Lines.{call}
-use Rattle.lines.proofs.Outcomes.{bounds, printed-as, answered-as, lines-first, lines-refused, lines-decoded, Within, within}
+use Rattle.lines.proofs.Outcomes.{bounds, printed-refused, answered-as, lines-first, lines-refused, lines-decoded, Within, within}
 use borrow.Author.Needs.{needs}
 use Rattle.lines.proofs.decoded_lines.Statement.{statement}
 use Rattle.lines.proofs.decoded_lines.Tie as tie
@@ -21,7 +22,7 @@ same-length : tie.Need-same-length
 same-length c = search needs
 
 returns : tie.Need-returns
-returns c = printed-as (lines-first _ _ _ (c .before .before .before .before .before .first .ensures) (c .before .before .before .before .if1 .taken)) (c .before .before .refused .ensures)
+returns c = printed-refused (lines-first _ _ _ (c .before .before .before .before .before .first .ensures) (c .before .before .before .before .if1 .taken)) (c .before .before .refused .ensures .0) (c .before .before .refused .ensures .1)
 
 slice-aggregate-decode-with : tie.Need-slice-aggregate-decode-with
 slice-aggregate-decode-with c = search needs
@@ -42,7 +43,7 @@ same-length-2 : tie.Need-same-length-2
 same-length-2 c = search needs
 
 returns-2 : tie.Need-returns-2
-returns-2 c = printed-as (lines-refused _ _ (c .before .before .before .before .before .before .before .before .before .before .before .before .first .ensures) (c .before .before .before .before .before .before .before .before .before .before .before .if1 .left) (answered-as _ _ (c .before .before .before .before .before .before .before .before .decode-with .ensures)) (c .before .before .before .before .before .number .ensures) (c .before .before .before .before .if2 .taken)) (c .before .before .refused2 .ensures)
+returns-2 c = printed-refused (lines-refused _ _ (c .before .before .before .before .before .before .before .before .before .before .before .before .first .ensures) (c .before .before .before .before .before .before .before .before .before .before .before .if1 .left) (answered-as _ _ (c .before .before .before .before .before .before .before .before .decode-with .ensures)) (c .before .before .before .before .before .number .ensures) (c .before .before .before .before .if2 .taken)) (c .before .before .refused2 .ensures .0) (c .before .before .refused2 .ensures .1)
 
 text-requires : tie.Need-text-requires
 text-requires c κs = search needs

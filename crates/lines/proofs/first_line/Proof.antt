@@ -1,6 +1,6 @@
 -- `first_line` meets its contract: words and numbers stand one after another. Assumes nothing.
 use Rattle.lines.specs.Lines.{firstLine}
-use Rattle.lines.proofs.Writing.{put-then}
+use Rattle.ascii.proofs.Writing.{put-then}
 use borrow.Author.Needs.{needs}
 use Rattle.lines.proofs.first_line.Statement.{statement}
 use Rattle.lines.proofs.first_line.Tie as tie

@@ -2,7 +2,7 @@
 use mathlib.Core.Path.{_∙_}
 use native.Mathlib.Omega.{arith}
 use Rattle.lines.specs.Lines.{issueLine}
-use Rattle.lines.proofs.Writing.{put-then}
+use Rattle.ascii.proofs.Writing.{put-then}
 use borrow.Author.Needs.{needs}
 use Rattle.lines.proofs.issue_line.Statement.{statement}
 use Rattle.lines.proofs.issue_line.Tie as tie

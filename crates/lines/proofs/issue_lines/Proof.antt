@@ -5,7 +5,7 @@ use native.Mathlib.Omega.{arith}
 use borrow.Author.Needs.{needs}
 use lib.ListN.{length, drop}
 use Rattle.lines.specs.Lines.{issueLines}
-use Rattle.lines.proofs.Writing.{Rest, rest-all, rest-none}
+use Rattle.ascii.proofs.Writing.{Rest, rest-all, rest-none}
 use Rattle.lines.proofs.Issues.{issues-turn, issues-none}
 use Rattle.lines.proofs.issue_lines.Statement.{statement}
 use Rattle.lines.proofs.issue_lines.Tie as tie

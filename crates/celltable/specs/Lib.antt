@@ -1,0 +1,2 @@
+pub mod CellTable
+pub mod Contracts

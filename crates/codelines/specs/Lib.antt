@@ -1,0 +1,4 @@
+pub mod Lines
+pub mod Contracts
+pub mod Laws
+pub mod Examples
