@@ -36,6 +36,11 @@ pub struct CodingRooms {
 /// All four pairs of options.
 pub const OPTIONS: [(u32, u32); 4] = [(0, 0), (0, 1), (1, 0), (1, 1)];
 
+/// The calls of an input under all options.
+pub fn under_all<'a>(cells: &'a [u16], input: &'a [u8]) -> [Call<'a>; 4] {
+    OPTIONS.map(|(initial, width)| Call { cells, initial, width, input })
+}
+
 impl<'a> Call<'a> {
     /// Questions 1 to 3 of decoding: the refusal's number, or 0.
     pub fn questions(&self) -> u32 {

@@ -13,7 +13,6 @@ pub mod vectors;
 
 use std::thread::available_parallelism;
 
-use crate::call::{Call, OPTIONS};
 use crate::hold::Held;
 use crate::parts::{self, Part};
 use crate::share;
@@ -70,9 +69,4 @@ impl Runs {
     fn each(&self, total: u64, work: impl Fn(&mut Holder, u64) -> Held + Sync) -> Found {
         share::each(|| Holder::new(self.subject), self.threads, total, work)
     }
-}
-
-/// The calls of a text under all options.
-fn under_all<'a>(cells: &'a [u16], text: &'a [u8]) -> [Call<'a>; 4] {
-    OPTIONS.map(|(initial, width)| Call { cells, initial, width, input: text })
 }

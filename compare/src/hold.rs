@@ -1,6 +1,8 @@
 //! One call held: the model against the Rust, then the subject against the model, so that the
 //! subject is held against both.
 
+mod key;
+
 use oracle::options::Options;
 use oracle::reading;
 
@@ -83,11 +85,13 @@ impl<'a> Holder<'a> {
         self.look(asked.call(), rooms, refusal, rooms.questions(&self.reading))
     }
 
-    /// `arib_decode` on a call that one of questions 1 to 3 refuses with this number.
+    /// `arib_decode` and `arib_key` on a call that one of questions 1 to 3 refuses with this
+    /// number.
     pub fn refused(&mut self, call: Call, rooms: Rooms, number: u32) -> Held {
         assert_eq!(call.questions(), number, "the model's own answer");
         let refusal = self.subject.decode(call, self.buffers.lend(rooms));
-        self.look(call, rooms, refusal, number)
+        self.look(call, rooms, refusal, number)?;
+        self.key_answer(call, rooms.text, number)
     }
 
     /// `arib_unknown_escape`: the part of the input, or the empty part at its beginning.

@@ -56,6 +56,24 @@ fn length(random: &mut Random) -> usize {
     }
 }
 
+/// How many inputs have at most two bytes.
+pub const TO_TWO: u64 = 1 + (1 << 8) + (1 << 16);
+
+/// The input of this index among those, the shortest first.
+pub fn to_two(index: u64) -> Vec<u8> {
+    match index {
+        0 => vec![],
+        1..=0x100 => numbered(index - 1, 1)[..1].to_vec(),
+        _ => numbered(index - 0x101, 2)[..2].to_vec(),
+    }
+}
+
+/// 01's table, the corners, and small spent budgets.
+pub fn every_corner() -> Vec<Vec<u8>> {
+    let corners = corners::table().chain(corners::corners()).map(|(_, _, input)| input);
+    corners.chain(bombs::small()).collect()
+}
+
 /// The input of this index among those of `length` bytes, at most 4.
 pub fn numbered(index: u64, length: usize) -> [u8; 4] {
     let mut bytes = [0; 4];

@@ -50,15 +50,37 @@ impl Buffers {
             Answer::Accepted(reading) => (0, reading),
         };
         let counts = [0, reading.text.len(), reading.issues.len(), reading.charge];
+        let issues = reading.issues.as_flattened();
+        self.first_fault(refusal, number, counts, &reading.text)
+            .or_else(|| place("issue number", &self.issues, issues, self.rooms.issues, NUMBERS))
+    }
+
+    /// The same of a key in the place of the text. It has three counts: the fourth stays.
+    pub fn key_fault(
+        &self,
+        refusal: u32,
+        number: u32,
+        key: &[u8],
+        charge: usize,
+    ) -> Option<String> {
+        self.first_fault(refusal, number, [0, key.len(), charge, usize::MAX], key)
+    }
+
+    /// In the refusal, the counts or the text.
+    fn first_fault(
+        &self,
+        refusal: u32,
+        number: u32,
+        counts: [usize; 4],
+        text: &[u8],
+    ) -> Option<String> {
         if refusal != number {
             return Some(format!("refusal {refusal}, expected {number}"));
         }
         if self.counts != counts {
             return Some(format!("counts {:?}, expected {counts:?}", self.counts));
         }
-        let issues = reading.issues.as_flattened();
-        place("text byte", &self.text, &reading.text, self.rooms.text, PATTERN)
-            .or_else(|| place("issue number", &self.issues, issues, self.rooms.issues, NUMBERS))
+        place("text byte", &self.text, text, self.rooms.text, PATTERN)
     }
 
     pub fn text(&self) -> &[u8] {

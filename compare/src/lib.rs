@@ -1,7 +1,10 @@
-//! Decoding and coding by the static library of crates/text, held against the Rust and against a model of
-//! docs/01-scope.md ("01"), and measured against the Rust.
+//! Decoding, keys and coding by the static library of crates/text, and by the crate in rust/ over
+//! it, held against the Rust and against a model of docs/01-scope.md ("01"), and measured against
+//! the Rust.
 
 pub mod bench;
+#[cfg(feature = "library")]
+pub mod binding;
 pub mod call;
 pub mod cells;
 pub mod coding;
@@ -10,6 +13,7 @@ pub mod difference;
 pub mod encode;
 pub mod hold;
 pub mod inputs;
+pub mod key;
 pub mod lent;
 pub mod model;
 pub mod parts;

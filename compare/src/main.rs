@@ -1,4 +1,5 @@
-//! `compare decode`, `encode`, `vectors`, `encode-vectors` or `bench`; README.md has what each prints.
+//! `compare decode`, `encode`, `crate`, `vectors`, `encode-vectors` or `bench`; README.md has what
+//! each prints.
 
 use std::io::{self, Write};
 use std::process::ExitCode;
@@ -12,6 +13,7 @@ use compare::{decode, encode};
 const USAGE: &str = "usage:
 compare decode [--seed N] [--random N] [--every N] [--threads N] [--greatest] [--subject model]
 compare encode [--seed N] [--random N] [--every N] [--threads N] [--greatest] [--subject model]
+compare crate [--seed N] [--inputs N] [--texts N] [--threads N]
 compare vectors N
 compare encode-vectors N
 compare bench [--subject model]
@@ -23,6 +25,7 @@ fn main() -> ExitCode {
     let done = match words.take().as_deref() {
         Some("decode") => run_decode(words),
         Some("encode") => run_encode(words),
+        Some("crate") => run_crate(words),
         Some("vectors") => write_file(words, vectors::file),
         Some("encode-vectors") => write_file(words, encode::vectors::file),
         Some("bench") => measure(words),
@@ -68,8 +71,29 @@ fn run_encode(mut words: Words) -> Result<bool, String> {
         ..usual
     };
     words.end()?;
-    println!("subject: {}, decoded again by {name}", subject::coder(name));
+    println!("subject: {name}");
     Ok(runs.all())
+}
+
+/// All differential runs of the crate in rust/; false at a difference.
+#[cfg(feature = "library")]
+fn run_crate(mut words: Words) -> Result<bool, String> {
+    use compare::binding::{CALLS, Runs};
+    let usual = Runs::new(CALLS);
+    let runs = Runs {
+        seed: words.number("--seed", usual.seed)?,
+        threads: words.number("--threads", usual.threads as u64)?.max(1) as usize,
+        inputs: words.number("--inputs", usual.inputs)?,
+        texts: words.number("--texts", usual.texts)?,
+        ..usual
+    };
+    words.end()?;
+    Ok(runs.all())
+}
+
+#[cfg(not(feature = "library"))]
+fn run_crate(_: Words) -> Result<bool, String> {
+    Err("no library is linked".into())
 }
 
 /// A file of vectors, on standard output.
@@ -92,7 +116,7 @@ fn measure(mut words: Words) -> Result<bool, String> {
         let passes = number(&words.take().ok_or("how many passes?")?)?;
         bench::only(subject, side, &case, passes)?;
     } else {
-        println!("subject: {name}, of coding: {}", subject::coder(name));
+        println!("subject: {name}");
         bench::print(subject);
     }
     words.end()?;

@@ -34,11 +34,13 @@ pub trait Subject: Sync {
 
     /// `arib_encode`: the refusal's number, or 0.
     fn encode(&self, call: Call, lent: CodingLent) -> u32;
-}
 
-/// Who codes where that subject is asked to: the model, unless the library has `arib_encode`.
-pub fn coder(name: &'static str) -> &'static str {
-    if cfg!(feature = "coding") { name } else { "model" }
+    /// `arib_key`: the refusal's number, or 0. The first three counts are place, length and
+    /// charge.
+    fn key(&self, call: Call, key: &mut [u8], counts: &mut [usize]) -> u32;
+
+    /// `arib_key_checked`: the same where questions 1 to 3 were put before.
+    fn key_checked(&self, asked: Asked, key: &mut [u8], counts: &mut [usize]) -> u32;
 }
 
 /// The subject of that name, `library` or `model`; with none, the library where it is linked.

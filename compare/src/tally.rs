@@ -11,7 +11,7 @@ pub trait Sum: Default + Display {
 pub struct Tally {
     /// Inputs read by the model, once for each pair of options.
     pub readings: u64,
-    /// Calls of the subject.
+    /// Calls of the subject that decode.
     pub calls: u64,
     /// Readings held against the Rust.
     pub rust: u64,
@@ -21,6 +21,8 @@ pub struct Tally {
     pub kinds: [u64; 14],
     /// Answers by refusal number; 0 for accepted calls.
     pub answers: [u64; 11],
+    /// Calls of `arib_key` by refusal number, likewise.
+    pub keys: [u64; 11],
     /// Bytes of the longest text, and the greatest charge.
     pub longest: usize,
     pub charge: usize,
@@ -34,12 +36,13 @@ impl Sum for Tally {
         self.parts += other.parts;
         self.kinds.iter_mut().zip(other.kinds).for_each(|(sum, n)| *sum += n);
         self.answers.iter_mut().zip(other.answers).for_each(|(sum, n)| *sum += n);
+        self.keys.iter_mut().zip(other.keys).for_each(|(sum, n)| *sum += n);
         self.longest = self.longest.max(other.longest);
         self.charge = self.charge.max(other.charge);
     }
 }
 
-/// Three lines: the counts, the calls by refusal number, the issues by kind.
+/// The counts, the calls by refusal number, the issues by kind.
 impl Display for Tally {
     fn fmt(&self, f: &mut std::fmt::Formatter<'_>) -> std::fmt::Result {
         let Tally { readings, calls, rust, parts, longest, charge, .. } = self;
@@ -49,6 +52,8 @@ impl Display for Tally {
         )?;
         writeln!(f, "  longest text {longest}, greatest charge {charge}")?;
         write!(f, "  calls by number:{}", by_number(&self.answers))?;
+        let keys = self.keys.iter().sum::<u64>();
+        write!(f, "\n  {keys} calls for keys, by number:{}", by_number(&self.keys))?;
         write!(f, "\n  issues by kind:{}", by_number(&self.kinds))
     }
 }

@@ -38,6 +38,10 @@ impl Subject for Faulty {
         (self.fault)(&mut lent, &mut refusal);
         refusal
     }
+
+    fn key(&self, _: Call, _: &mut [u8], _: &mut [usize]) -> u32 {
+        unreachable!("no key is made here")
+    }
 }
 
 /// A text in these rooms.

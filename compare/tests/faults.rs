@@ -8,11 +8,14 @@ use compare::subject::{self, CodingLent, Lent, Subject};
 /// The model, and then a fault in what it left.
 struct Faulty(fn(&mut Lent, &mut u32));
 
+fn model() -> &'static dyn Subject {
+    subject::named(Some("model")).unwrap().1
+}
+
 impl Subject for Faulty {
     fn decode(&self, call: Call, mut lent: Lent) -> u32 {
-        let (_, model) = subject::named(Some("model")).unwrap();
-        let mut refusal =
-            model.decode(call, Lent { text: lent.text, issues: lent.issues, counts: lent.counts });
+        let mut refusal = model()
+            .decode(call, Lent { text: lent.text, issues: lent.issues, counts: lent.counts });
         (self.0)(&mut lent, &mut refusal);
         refusal
     }
@@ -27,6 +30,13 @@ impl Subject for Faulty {
 
     fn encode(&self, _: Call, _: CodingLent) -> u32 {
         unreachable!("nothing is coded here")
+    }
+
+    fn key(&self, call: Call, key: &mut [u8], counts: &mut [usize]) -> u32 {
+        let mut refusal = model().key(call, key, counts);
+        let counts = counts.try_into().unwrap();
+        (self.0)(&mut Lent { text: key, issues: &mut [], counts }, &mut refusal);
+        refusal
     }
 }
 
@@ -77,6 +87,51 @@ fn faults_in_a_refused_call() {
     for (n, fault) in faults.into_iter().enumerate() {
         assert!(run(fault, TOO_SMALL).is_some(), "fault {n}");
     }
+}
+
+/// あ い: seven bytes of text, the key has six.
+fn key(fault: fn(&mut Lent, &mut u32), input: &[u8], room: usize) -> Option<String> {
+    let (subject, cells) = (Faulty(fault), cells::rusts());
+    let mut holder = Holder::new(&subject);
+    let call = Call { cells: &cells, initial: 0, width: 1, input };
+    holder.read(call);
+    holder.key(call, room).err().map(|difference| difference.to_string())
+}
+
+const SPACED: [u8; 3] = [0xA2, 0x20, 0xA4];
+
+#[test]
+fn no_fault_in_a_key() {
+    assert_eq!(key(|_, _| {}, &SPACED, 7), None);
+    assert_eq!(key(|_, _| {}, &SPACED, 6), None);
+    assert_eq!(key(|_, _| {}, &[0x24, 0xA2], 3), None);
+}
+
+#[test]
+fn faults_in_a_key() {
+    let faults: [fn(&mut Lent, &mut u32); 7] = [
+        |lent, _| lent.text[5] ^= 1,
+        |lent, _| lent.text[6] = 0xA5,
+        |lent, _| lent.counts[0] = 1,
+        |lent, _| lent.counts[1] = 7,
+        |lent, _| lent.counts[2] = 1,
+        |lent, _| lent.counts[3] = 0,
+        |_, refusal| *refusal = 8,
+    ];
+    for (n, fault) in faults.into_iter().enumerate() {
+        let difference = key(fault, &SPACED, 7).unwrap_or_else(|| panic!("fault {n}"));
+        assert!(difference.contains("input 3 bytes: A220A4\n"), "{difference}");
+    }
+}
+
+/// The key would fit where its text does not; 8 comes before 10.
+#[test]
+fn faults_in_a_refused_key() {
+    assert!(key(|_, refusal| *refusal = 0, &SPACED, 6).is_some());
+    assert!(key(|lent, _| lent.text[0] = 0xE3, &SPACED, 6).is_some());
+    assert!(key(|lent, _| lent.counts[1] = 6, &SPACED, 6).is_some());
+    assert!(key(|_, refusal| *refusal = 8, &[0x24, 0xA2], 3).is_some());
+    assert!(key(|_, refusal| *refusal = 10, &[0x24, 0xA2], 2).is_some());
 }
 
 /// 1B 21 40 is unknown; the Rust has its bytes.

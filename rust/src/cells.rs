@@ -29,9 +29,7 @@ mod tests {
             initial: 0,
             width: 0,
         };
-        assert_eq!(
-            ffi::decode(&CELLS, options, b"", &mut [], &mut []).number,
-            0
-        );
+        let refused = ffi::encode(&CELLS, options, b"", &mut [0; 4], &mut []).number;
+        assert_eq!(refused, 0);
     }
 }

@@ -6,37 +6,7 @@ pub struct Answer<const N: usize> {
     pub counts: [usize; N],
 }
 
-type Reads = unsafe extern "C" fn(
-    *const u16,
-    usize,
-    u32,
-    u32,
-    *const u8,
-    usize,
-    *mut u8,
-    usize,
-    *mut u32,
-    usize,
-    *mut usize,
-    usize,
-) -> u32;
-
 unsafe extern "C" {
-    fn arib_decode(
-        cells: *const u16,
-        cells_len: usize,
-        initial: u32,
-        width: u32,
-        input: *const u8,
-        input_len: usize,
-        text: *mut u8,
-        text_len: usize,
-        issues: *mut u32,
-        issues_len: usize,
-        counts: *mut usize,
-        counts_len: usize,
-    ) -> u32;
-
     fn arib_decode_checked(
         cells: *const u16,
         cells_len: usize,
@@ -67,7 +37,7 @@ unsafe extern "C" {
         counts_len: usize,
     ) -> u32;
 
-    fn arib_key(
+    fn arib_key_checked(
         cells: *const u16,
         cells_len: usize,
         initial: u32,
@@ -88,18 +58,8 @@ pub struct Options {
     pub width: u32,
 }
 
-/// Counts: place, bytes of text, issues, charge.
-pub fn decode(
-    cells: &[u16],
-    options: Options,
-    input: &[u8],
-    text: &mut [u8],
-    issues: &mut [u32],
-) -> Answer<4> {
-    read(arib_decode, cells, options, input, text, issues)
-}
-
-/// The same, where `cells` passes question 1, and `input` has at most 65,535 bytes.
+/// Counts: place, bytes of text, issues, charge. `cells` passes question 1, and `input` has at most
+/// 65,535 bytes.
 pub fn decode_checked(
     cells: &[u16],
     options: Options,
@@ -108,21 +68,10 @@ pub fn decode_checked(
     issues: &mut [u32],
 ) -> Answer<4> {
     assert!(options.initial < 2 && options.width < 2 && input.len() <= 65_535);
-    read(arib_decode_checked, cells, options, input, text, issues)
-}
-
-fn read(
-    call: Reads,
-    cells: &[u16],
-    options: Options,
-    input: &[u8],
-    text: &mut [u8],
-    issues: &mut [u32],
-) -> Answer<4> {
     let mut counts = [0; 4];
     // SAFETY: each pointer comes with the length of its slice, and no two slices overlap.
     let number = unsafe {
-        call(
+        arib_decode_checked(
             cells.as_ptr(),
             cells.len(),
             options.initial,
@@ -169,12 +118,14 @@ pub fn encode(
     Answer { number, counts }
 }
 
-/// Counts: place, bytes of the key, charge.
-pub fn key(cells: &[u16], options: Options, input: &[u8], key: &mut [u8]) -> Answer<3> {
+/// Counts: place, bytes of the key, charge. `cells` passes question 1, and `input` has at most 65,535
+/// bytes.
+pub fn key_checked(cells: &[u16], options: Options, input: &[u8], key: &mut [u8]) -> Answer<3> {
+    assert!(options.initial < 2 && options.width < 2 && input.len() <= 65_535);
     let mut counts = [0; 3];
     // SAFETY: each pointer comes with the length of its slice, and no two slices overlap.
     let number = unsafe {
-        arib_key(
+        arib_key_checked(
             cells.as_ptr(),
             cells.len(),
             options.initial,

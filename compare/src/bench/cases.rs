@@ -4,7 +4,7 @@ use crate::call::{LONGEST, Rooms};
 use crate::inputs::bombs;
 use crate::titles;
 
-/// Inputs that are decoded one after another, under CharacterSize, with the Rust's table.
+/// Inputs that are decoded or keyed one after another, under CharacterSize, with the Rust's table.
 pub struct Case {
     pub name: &'static str,
     pub initial: u32,
@@ -20,12 +20,16 @@ const TITLE: Rooms = Rooms { text: 256, issues: 64 };
 const PLAIN: Rooms = Rooms { text: 3 * LONGEST, issues: 64 };
 const MACROS: Rooms = Rooms { text: 3 * (65 * LONGEST + 4_096), issues: 4_096 };
 
-/// All cases.
+pub const TITLES: Case =
+    Case { name: "titles", initial: 0, inputs: titles::all, rooms: TITLE, passes: 50 };
+pub const MIXED: Case = large("mixed", || vec![mixed()], PLAIN, 5);
+
+/// All cases of decoding.
 pub const CASES: [Case; 7] = [
-    Case { name: "titles", initial: 0, inputs: titles::all, rooms: TITLE, passes: 50 },
+    TITLES,
     large("kanji", || vec![kanji()], PLAIN, 5),
     large("kana", || vec![kana()], PLAIN, 5),
-    large("mixed", || vec![mixed()], PLAIN, 5),
+    MIXED,
     large("macro-kana", || vec![bombs::called(&[0xA2; 65], LONGEST)], MACROS, 1),
     large("macro-one-byte", || vec![bombs::chain(&[&[0xA2], &[0x21; 32]], LONGEST)], MACROS, 1),
     large("macro-empty", || vec![bombs::chain(&[&[], &[0x21; 64]], LONGEST)], MACROS, 1),

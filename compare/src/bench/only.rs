@@ -1,13 +1,13 @@
 //! What a count of instructions needs: the list of cases, and one side of one case.
 
-use super::{CASES, CODING, Side};
+use super::{CASES, CODING, KEYS, Side};
 use crate::cells;
 use crate::subject::Subject;
 
 /// Prints each case's name, its passes, its calls a pass, and the numbers of the store that its
 /// calls are lent.
 pub fn list() {
-    for case in &CASES {
+    for case in CASES.iter().chain(&KEYS) {
         println!("{} {} {} -", case.name, case.passes, (case.inputs)().len());
     }
     let cells = cells::rusts();
@@ -24,6 +24,10 @@ pub fn only(subject: &dyn Subject, side: Side, name: &str, passes: u64) -> Resul
     if let Some(case) = CASES.iter().find(|case| case.name == name) {
         let inputs = (case.inputs)();
         let mut run = side.runner(subject, &cells, case, &inputs);
+        (0..=passes).for_each(|_| run());
+    } else if let Some(case) = KEYS.iter().find(|case| case.name == name) {
+        let inputs = (case.inputs)();
+        let mut run = case.keys(side, subject, &cells, &inputs);
         (0..=passes).for_each(|_| run());
     } else if let Some(case) = CODING.iter().find(|case| case.name == name) {
         let texts = (case.texts)();

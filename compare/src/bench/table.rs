@@ -2,7 +2,7 @@
 
 use std::time::Instant;
 
-use super::{CASES, CODING, Case, CodingCase, Side};
+use super::{CASES, CODING, Case, CodingCase, KEYS, Side};
 use crate::call::CodingRooms;
 use crate::cells;
 use crate::subject::Subject;
@@ -18,6 +18,7 @@ pub fn print(subject: &dyn Subject) {
     println!("nanoseconds a call, medians of {SAMPLES}");
     line(["case", "calls", "bytes", "text room", "issue room", "rust", "subject", "ratio"]);
     CASES.iter().for_each(|case| decoding(subject, &cells, case));
+    KEYS.iter().for_each(|case| keys(subject, &cells, case));
     line(["case", "calls", "bytes", "store", "coding room", "rust", "subject", "ratio"]);
     CODING.iter().for_each(|case| coding(subject, &cells, case));
 }
@@ -34,6 +35,16 @@ fn decoding(subject: &dyn Subject, cells: &[u16], case: &Case) {
         let question = format!("{:.0}", with - own);
         line(["question-1", &calls.to_string(), "-", "-", "-", "-", &question, "-"]);
     }
+}
+
+/// No issues are lent.
+fn keys(subject: &dyn Subject, cells: &[u16], case: &Case) {
+    let inputs = (case.inputs)();
+    let calls = inputs.len();
+    let runners = [Side::Rust, Side::Subject].map(|side| case.keys(side, subject, cells, &inputs));
+    let [rust, own] = times(runners, calls);
+    let bytes = inputs.iter().map(Vec::len).sum::<usize>() / calls;
+    row(case.name, [calls, bytes, case.rooms.text, 0], rust, own);
 }
 
 fn coding(subject: &dyn Subject, cells: &[u16], case: &CodingCase) {

@@ -11,7 +11,7 @@ pub fn ample(holder: &Holder, random: &mut Random) -> Rooms {
 }
 
 /// `arib_decode` in exact rooms; with remainders of the issue buffer; with one byte, one number
-/// and one issue less.
+/// and one issue less. Then `arib_key`.
 pub fn all_rooms(holder: &mut Holder, call: Call) -> Held {
     let Rooms { text, issues } = Rooms::exact(holder.reading());
     let rooms = |text, issues| Rooms { text, issues };
@@ -29,5 +29,14 @@ pub fn all_rooms(holder: &mut Holder, call: Call) -> Held {
     if text > 0 && issues > 0 {
         holder.run(call, rooms(text - 1, issues - 1))?;
     }
-    Ok(())
+    key_rooms(holder, call)
+}
+
+/// `arib_key` in a buffer for the text before removal: one byte less, exactly full, with more. Then
+/// `arib_key_checked` where it is full.
+pub fn key_rooms(holder: &mut Holder, call: Call) -> Held {
+    let text = holder.reading().text.len();
+    let less = text.checked_sub(1).into_iter();
+    less.chain([text, text + 5]).try_for_each(|room| holder.key(call, room))?;
+    call.asked().map_or(Ok(()), |asked| holder.key_checked(asked, text))
 }

@@ -1,25 +1,19 @@
 //! The corners, and every input of up to three bytes.
 
-use super::rooms::all_rooms;
+use super::rooms::{all_rooms, key_rooms};
 use super::{Found, Runs, asked};
-use crate::call::{Call, OPTIONS, Rooms};
-use crate::cells;
-use crate::inputs::{self, bombs, corners};
-use crate::tally::{Sum, Tally};
+use crate::call::{Call, Rooms, under_all};
+use crate::{cells, inputs};
 
 /// The room for inputs of up to three bytes: 63 repeats of three bytes, and four issues.
 const SMALL: Rooms = Rooms { text: 200, issues: 18 };
 
-/// The corners, 01's table and small spent budgets under all options, with the Rust's table and with zeros, in all
-/// rooms.
+/// The corners under all options, with the Rust's table and with zeros, in all rooms.
 pub fn corners(runs: &Runs) -> Found {
-    let corners = corners::table().chain(corners::corners()).map(|(_, _, input)| input);
-    let list: Vec<_> = corners.chain(bombs::small()).collect();
+    let list = inputs::every_corner();
     let (rusts, zeros) = (cells::rusts(), cells::zeros());
     runs.each(list.len() as u64, |holder, index| {
-        let input = &list[index as usize];
-        for (initial, width) in OPTIONS {
-            let call = Call { cells: &rusts, initial, width, input };
+        for call in under_all(&rusts, &list[index as usize]) {
             holder.read_both(call)?;
             all_rooms(holder, call)?;
             let call = Call { cells: &zeros, ..call };
@@ -33,19 +27,14 @@ pub fn corners(runs: &Runs) -> Found {
 /// Every input of up to two bytes.
 pub fn to_two(runs: &Runs) -> Found {
     let cells = cells::rusts();
-    let mut sum = Tally::default();
-    for length in 0..=2 {
-        sum.add(&runs.each(1 << (8 * length), |holder, index| {
-            let bytes = inputs::numbered(index, length);
-            for (initial, width) in OPTIONS {
-                let call = Call { cells: &cells, initial, width, input: &bytes[..length] };
-                holder.read_both(call)?;
-                holder.run(call, SMALL)?;
-            }
-            Ok(())
-        })?);
-    }
-    Ok(sum)
+    runs.each(inputs::TO_TWO, |holder, index| {
+        for call in under_all(&cells, &inputs::to_two(index)) {
+            holder.read_both(call)?;
+            holder.run(call, SMALL)?;
+            key_rooms(holder, call)?;
+        }
+        Ok(())
+    })
 }
 
 /// Every input of three bytes, through the call that puts no question.

@@ -1,6 +1,6 @@
 //! Other cell tables that question 1 lets through, against the model.
 
-use super::rooms::all_rooms;
+use super::rooms::{all_rooms, key_rooms};
 use super::{Found, Runs};
 use crate::call::{Call, OPTIONS, Rooms};
 use crate::hold::{Held, Holder};
@@ -36,6 +36,7 @@ fn every_cell(holder: &mut Holder, cells: &[u16]) -> Held {
         let call = Call { cells, initial: 0, width: 0, input: &input };
         holder.read(call);
         holder.run(call, Rooms::exact(holder.reading()))?;
+        key_rooms(holder, call)?;
     }
     Ok(())
 }

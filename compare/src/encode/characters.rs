@@ -1,7 +1,8 @@
 //! Single characters: those of the repertoire, and all.
 
 use super::rooms::{in_all, in_two};
-use super::{Found, Runs, under_all};
+use super::{Found, Runs};
+use crate::call::under_all;
 use crate::cells;
 use crate::random::Random;
 use crate::texts::Alphabet;

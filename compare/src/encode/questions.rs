@@ -2,8 +2,8 @@
 
 use super::hold::Holder;
 use super::rooms::in_all;
-use super::{Found, Runs, under_all};
-use crate::call::{CELLS, Call, CodingRooms, LONGEST_TEXT};
+use super::{Found, Runs};
+use crate::call::{CELLS, Call, CodingRooms, LONGEST_TEXT, under_all};
 use crate::cells;
 use crate::hold::Held;
 

@@ -1,8 +1,8 @@
 //! The titles and random texts, and long ones.
 
 use super::rooms::{self, in_all, in_two};
-use super::{Found, Runs, under_all};
-use crate::call::{Call, LONGEST_TEXT};
+use super::{Found, Runs};
+use crate::call::{Call, LONGEST_TEXT, under_all};
 use crate::random::Random;
 use crate::tally::Sum;
 use crate::texts::{self, Alphabet, long};

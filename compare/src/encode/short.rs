@@ -1,7 +1,8 @@
 //! The corners, sequences of samples, marks, and bytes that are not well-formed.
 
 use super::rooms::{in_all, in_two};
-use super::{Found, Runs, Tally, under_all};
+use super::{Found, Runs, Tally};
+use crate::call::under_all;
 use crate::random::Random;
 use crate::tally::Sum;
 use crate::texts::alphabet::MARKS;

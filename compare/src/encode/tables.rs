@@ -1,7 +1,8 @@
 //! Other cell tables that question 1 lets through, against the model.
 
 use super::rooms::in_two;
-use super::{Found, Runs, under_all};
+use super::{Found, Runs};
+use crate::call::under_all;
 use crate::cells;
 use crate::random::Random;
 use crate::texts::{self, Alphabet};

@@ -1,11 +1,12 @@
-//! target/staticlib/libtext.a: numbers go as themselves, a slice as pointer and length.
+//! target/staticlib/libtext.a, which the crate in rust/ links: numbers go as themselves, a slice as
+//! pointer and length.
 
 use super::{CodingLent, Lent, Subject};
 use crate::call::{Asked, Call};
 
-/// Declares functions with the arguments of decoding.
-macro_rules! decoding {
-    ($($name:ident)*) => {
+/// Declares functions with the arguments of decoding, or of keys.
+macro_rules! reading {
+    ($($name:ident ($($buffer:ident $len:ident: $type:ty),*))*) => {
         unsafe extern "C" {
             $(fn $name(
                 cells: *const u16,
@@ -14,20 +15,21 @@ macro_rules! decoding {
                 width: u32,
                 input: *const u8,
                 input_len: usize,
-                text: *mut u8,
-                text_len: usize,
-                issues: *mut u32,
-                issues_len: usize,
-                counts: *mut usize,
-                counts_len: usize,
+                $($buffer: *mut $type,
+                $len: usize,)*
             ) -> u32;)*
         }
     };
 }
 
-decoding! { arib_decode arib_decode_checked }
+reading! {
+    arib_decode(text text_len: u8, issues issues_len: u32, counts counts_len: usize)
+    arib_decode_checked(text text_len: u8, issues issues_len: u32, counts counts_len: usize)
+    arib_key(key key_len: u8, counts counts_len: usize)
+    arib_key_checked(key key_len: u8, counts counts_len: usize)
+}
 
-/// The type of both.
+/// The types of both.
 type Decode = unsafe extern "C" fn(
     *const u16,
     usize,
@@ -38,6 +40,18 @@ type Decode = unsafe extern "C" fn(
     *mut u8,
     usize,
     *mut u32,
+    usize,
+    *mut usize,
+    usize,
+) -> u32;
+type Key = unsafe extern "C" fn(
+    *const u16,
+    usize,
+    u32,
+    u32,
+    *const u8,
+    usize,
+    *mut u8,
     usize,
     *mut usize,
     usize,
@@ -54,7 +68,6 @@ unsafe extern "C" {
     ) -> usize;
 }
 
-#[cfg(feature = "coding")]
 unsafe extern "C" {
     fn arib_encode(
         cells: *const u16,
@@ -92,7 +105,6 @@ impl Subject for Library {
         (returned, part)
     }
 
-    #[cfg(feature = "coding")]
     fn encode(&self, call: Call, lent: CodingLent) -> u32 {
         // SAFETY: each pointer comes with the length of its slice, and no two slices overlap.
         unsafe {
@@ -113,9 +125,30 @@ impl Subject for Library {
         }
     }
 
-    #[cfg(not(feature = "coding"))]
-    fn encode(&self, call: Call, lent: CodingLent) -> u32 {
-        super::standin::StandIn.encode(call, lent)
+    fn key(&self, call: Call, key: &mut [u8], counts: &mut [usize]) -> u32 {
+        run_key(arib_key, call, key, counts)
+    }
+
+    fn key_checked(&self, asked: Asked, key: &mut [u8], counts: &mut [usize]) -> u32 {
+        run_key(arib_key_checked, asked.call(), key, counts)
+    }
+}
+
+fn run_key(function: Key, call: Call, key: &mut [u8], counts: &mut [usize]) -> u32 {
+    // SAFETY: each pointer comes with the length of its slice, and no two slices overlap.
+    unsafe {
+        function(
+            call.cells.as_ptr(),
+            call.cells.len(),
+            call.initial,
+            call.width,
+            call.input.as_ptr(),
+            call.input.len(),
+            key.as_mut_ptr(),
+            key.len(),
+            counts.as_mut_ptr(),
+            counts.len(),
+        )
     }
 }
 

@@ -7,6 +7,7 @@ use oracle::coding::Refusal;
 use super::{CodingLent, Lent, Subject};
 use crate::call::{Asked, Call, CodingRooms, Rooms};
 use crate::coding::{Coder, Coding};
+use crate::key;
 use crate::model::Reading;
 
 pub struct StandIn;
@@ -35,6 +36,27 @@ impl Subject for StandIn {
             Err(refusal) => refuse_coding(refusal, lent),
         }
     }
+
+    fn key(&self, call: Call, buffer: &mut [u8], counts: &mut [usize]) -> u32 {
+        match call.asked() {
+            Some(asked) => self.key_checked(asked, buffer, counts),
+            None => give_key(call.questions(), &Reading::default(), buffer, counts),
+        }
+    }
+
+    fn key_checked(&self, asked: Asked, buffer: &mut [u8], counts: &mut [usize]) -> u32 {
+        let mut reading = Reading::default();
+        asked.call().read(&mut reading);
+        give_key(key::questions(buffer.len(), &reading), &reading, buffer, counts)
+    }
+}
+
+fn give_key(number: u32, reading: &Reading, buffer: &mut [u8], counts: &mut [usize]) -> u32 {
+    let (key, charge) = key::of(number, reading);
+    buffer.fill(0);
+    buffer[..key.len()].copy_from_slice(key.as_bytes());
+    counts[..3].copy_from_slice(&[0, key.len(), charge]);
+    number
 }
 
 fn read(call: Call, lent: Lent) -> u32 {

@@ -1,0 +1,122 @@
+//! One call of the crate held: against isdb-text, and what that does not answer against 01 (the
+//! key) and the model (the gap).
+
+use std::fmt::Debug;
+use std::panic::{AssertUnwindSafe, catch_unwind};
+
+use isdb_text::{decode_with, encode_with};
+use oracle::options::Options;
+use ours::{Coded, Decoded, EncodeError, Refused};
+
+use super::types::{coded, decode_options, decoded, encode_options};
+use super::{Calls, Runs, Tally};
+use crate::call::{Call, under_all};
+use crate::coding::Coder;
+use crate::difference::Difference;
+use crate::hold::Held;
+use crate::key::key;
+use crate::share::Worker;
+
+/// What a thread keeps from call to call.
+pub struct Holder<'a> {
+    calls: Calls,
+    cells: &'a [u16],
+    model: Coder,
+    pub tally: Tally,
+}
+
+impl Worker for Holder<'_> {
+    type Tally = Tally;
+
+    fn tally(self) -> Tally {
+        self.tally
+    }
+}
+
+impl<'a> Holder<'a> {
+    pub fn new(runs: &'a Runs) -> Self {
+        let (model, tally) = Default::default();
+        Holder { calls: runs.calls, cells: &runs.cells, model, tally }
+    }
+
+    /// The calls of an input or a text under all options.
+    pub fn under_all<'b>(&self, input: &'b [u8]) -> [Call<'b>; 4]
+    where
+        'a: 'b,
+    {
+        under_all(self.cells, input)
+    }
+
+    /// An input.
+    pub fn read(&mut self, call: Call) -> Held {
+        self.reading(call).map(drop)
+    }
+
+    /// Text, issues with all their fields, and the key.
+    fn reading(&mut self, call: Call) -> Result<Decoded, Box<Difference>> {
+        let (calls, own) = (self.calls, decode_options(&call));
+        let reading = decoded(decode_with(call.input, &options(&call).into()));
+        same("reading", &call, &reading, || (calls.decode)(call.input, &own))?;
+        let key = if reading.issues.is_empty() { Ok(key(&reading.text)) } else { refused(10) };
+        same("key", &call, &key, || (calls.key)(call.input, &own))?;
+        self.tally.readings += 1;
+        self.tally.issues += reading.issues.len() as u64;
+        self.tally.keys += u64::from(key.is_ok());
+        Ok(reading)
+    }
+
+    /// A text: the coding or the error with its place and character, the gap, and the coding
+    /// decoded again. What is not well-formed is no text of this crate.
+    pub fn code(&mut self, call: Call) -> Held {
+        let Ok(text) = str::from_utf8(call.input) else { return Ok(()) };
+        let (calls, own) = (self.calls, encode_options(&call));
+        let coding = coded(encode_with(text, &options(&call).into()));
+        same("coding", &call, &coding, || (calls.encode)(text, &own))?;
+        let gap = self.model.code(&call).map_or(0, |coding| coding.gap);
+        let with_gap = coding.clone().map(|bytes| Coded { bytes, gap });
+        same("coding with its gap", &call, &with_gap, || (calls.code)(text, &own))?;
+        self.tally.codings += 1;
+        self.tally.gaps += u64::from(gap > 0);
+        coding.map_or(Ok(()), |bytes| self.again(call, text, &bytes.0))
+    }
+
+    /// The coding is read as the text, without issue.
+    fn again(&mut self, call: Call, text: &str, coding: &[u8]) -> Held {
+        let again = self.reading(Call { input: coding, ..call })?;
+        self.tally.again += 1;
+        same("coding read again", &call, &Decoded { text: text.into(), issues: vec![] }, || again)
+    }
+
+    /// An input and a text that are too long.
+    pub fn too_long(&mut self, call: Call, text: &str) -> Held {
+        let (calls, own) = (self.calls, decode_options(&call));
+        same("reading", &call, &refused(3), || (calls.try_decode)(call.input, &own))?;
+        same("key", &call, &refused(3), || (calls.key)(call.input, &own))?;
+        let (call, own) = (Call { input: text.as_bytes(), ..call }, encode_options(&call));
+        same("coding", &call, &Err(EncodeError::TooLong), || (calls.encode)(text, &own))?;
+        same("coding with its gap", &call, &Err(EncodeError::TooLong), || (calls.code)(text, &own))
+    }
+}
+
+/// isdb-text's options.
+fn options(call: &Call) -> Options {
+    Options::from_numbers(call.initial, call.width).expect("0 or 1")
+}
+
+fn refused<T>(number: u32) -> Result<T, Refused> {
+    Err(Refused { number, place: 0 })
+}
+
+/// The crate's answer is the expected one, and no panic.
+fn same<T>(what: &str, call: &Call, expected: &T, answer: impl FnOnce() -> T) -> Held
+where
+    T: PartialEq + Debug,
+{
+    let found = catch_unwind(AssertUnwindSafe(answer)).ok();
+    if found.as_ref() == Some(expected) {
+        return Ok(());
+    }
+    let found = found.map_or("a panic".into(), |found| format!("{found:?}"));
+    let difference = Difference::new(what, call).line("expected", format!("{expected:?}"));
+    Err(Box::new(difference.line("crate", found)))
+}

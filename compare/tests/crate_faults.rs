@@ -1,0 +1,134 @@
+//! A crate with a fault is found out.
+#![cfg(feature = "library")]
+
+use compare::binding::{CALLS, Calls, Holder, Runs};
+use ours::{
+    AribString, Coded, Decoded, EncodeError, EncodeOptions, GraphicSet, IssueKind, Refused,
+};
+
+/// The first difference on this input under Si and CharacterSize.
+fn read(calls: Calls, input: &[u8]) -> Option<String> {
+    let runs = Runs::new(calls);
+    let mut holder = Holder::new(&runs);
+    let [call, ..] = holder.under_all(input);
+    holder.read(call).err().map(|difference| difference.to_string())
+}
+
+fn code(calls: Calls, text: &str) -> Option<String> {
+    let runs = Runs::new(calls);
+    let mut holder = Holder::new(&runs);
+    let [call, ..] = holder.under_all(text.as_bytes());
+    holder.code(call).err().map(|difference| difference.to_string())
+}
+
+/// あ; a cell without a character; an unknown escape; い.
+const INPUT: [u8; 7] = [0xA2, 0x29, 0x21, 0x1B, 0x21, 0x40, 0xA4];
+
+/// The crate with a fault in what it reads.
+macro_rules! reading {
+    ($($fault:expr,)*) => {
+        [$(Calls {
+            decode: |bytes, options| {
+                let mut found = (CALLS.decode)(bytes, options);
+                let fault: fn(&mut Decoded) = $fault;
+                fault(&mut found);
+                found
+            },
+            ..CALLS
+        }),*]
+    };
+}
+
+#[test]
+fn no_fault() {
+    assert_eq!(read(CALLS, &INPUT), None);
+    assert_eq!(read(CALLS, &[0xA2, 0x20]), None);
+    assert_eq!(code(CALLS, "あA"), None);
+    assert_eq!(code(CALLS, "あ\u{1}"), None);
+}
+
+#[test]
+fn faults_in_a_reading() {
+    let faulty = reading![
+        |found| found.text.push(' '),
+        |found| found.text = found.text.replace('い', "え"),
+        |found| drop(found.issues.pop()),
+        |found| found.issues.swap(0, 1),
+        |found| found.issues[0].offset += 1,
+        |found| found.issues[0].kind = IssueKind::Truncated,
+        |found| found.issues[0].kind = undefined(GraphicSet::JisKanjiPlane1, 0x2921),
+        |found| found.issues[0].kind = undefined(GraphicSet::Kanji, 0x2922),
+        |found| found.issues[1].kind = IssueKind::UnknownEscape(vec![0x1B, 0x21, 0x41]),
+    ];
+    for (n, calls) in faulty.into_iter().enumerate() {
+        let difference = read(calls, &INPUT).unwrap_or_else(|| panic!("fault {n}"));
+        assert!(difference.contains("input 7 bytes: A229211B2140A4\n"), "{difference}");
+    }
+}
+
+/// A panic is a difference too: its input is printed.
+#[test]
+fn a_panic() {
+    let calls = Calls { decode: |_, _| panic!("a fault"), ..CALLS };
+    assert!(read(calls, &INPUT).is_some_and(|difference| difference.contains("crate: a panic\n")));
+}
+
+fn undefined(set: GraphicSet, code: u16) -> IssueKind {
+    IssueKind::UndefinedCode { set, code }
+}
+
+#[test]
+fn faults_in_a_key() {
+    let text = Calls { key: |bytes, options| Ok((CALLS.decode)(bytes, options).text), ..CALLS };
+    let refused = Calls { key: |_, _| Err(Refused { number: 8, place: 0 }), ..CALLS };
+    assert!(read(text, &[0xA2, 0x20]).is_some());
+    assert!(read(text, &INPUT).is_some());
+    assert!(read(refused, &INPUT).is_some());
+    assert!(read(refused, &[0xA2]).is_some());
+}
+
+type Encode = fn(&str, &EncodeOptions) -> Result<AribString, EncodeError>;
+
+#[test]
+fn faults_in_a_coding() {
+    let bytes = Calls { encode: |text, _| Ok(AribString(text.into())), ..CALLS };
+    let difference = code(bytes, "あ").expect("other bytes");
+    assert!(difference.contains("input 3 bytes: E38182\n"), "{difference}");
+    let errors: [Encode; 3] = [
+        |_, _| Err(EncodeError::Unencodable { index: 0, ch: '\u{1}' }),
+        |_, _| Err(EncodeError::Unencodable { index: 3, ch: '\u{2}' }),
+        |_, _| Err(EncodeError::NoBase { index: 3, ch: '\u{1}' }),
+    ];
+    for encode in errors {
+        assert!(code(Calls { encode, ..CALLS }, "あ\u{1}").is_some());
+    }
+    let gap = Calls {
+        code: |text, options| {
+            let coded = (CALLS.code)(text, options)?;
+            Ok(Coded { gap: coded.gap + 1, ..coded })
+        },
+        ..CALLS
+    };
+    assert!(code(gap, "あ").is_some());
+}
+
+/// The whole run stops at a fault, and says so.
+#[test]
+fn a_run_that_finds_a_difference() {
+    let calls = Calls { decode: |_, _| Decoded::default(), ..CALLS };
+    assert!(!Runs { threads: 1, ..Runs::new(calls) }.all());
+}
+
+#[test]
+fn faults_in_what_is_too_long() {
+    let too_long = |calls| {
+        let (runs, input) = (Runs::new(calls), [0xA2; 65_536]);
+        let mut holder = Holder::new(&runs);
+        let [call, ..] = holder.under_all(&input);
+        holder.too_long(call, &" ".repeat(7_282)).is_err()
+    };
+    assert!(!too_long(CALLS));
+    assert!(too_long(Calls { try_decode: |_, _| Ok(Decoded::default()), ..CALLS }));
+    assert!(too_long(Calls { key: |_, _| Err(Refused { number: 8, place: 0 }), ..CALLS }));
+    assert!(too_long(Calls { encode: |_, _| Ok(AribString::default()), ..CALLS }));
+}
