@@ -13,7 +13,7 @@ use lib.Seq.{length-take-le}
 use Rattle.sets.specs.Sets.{bytesPerChar}
 use Rattle.issues.specs.declared.IssueKind.the-variants.{UndefinedMacro, MacroLimit}
 use Rattle.reading.specs.State.{Given, State, Step, took, issue, charge}
-use Rattle.reading.specs.Characters.{isGL, isGR, isGraphic, char1, graphic2, graphic, graphicOf, singleShift}
+use Rattle.reading.specs.Characters.{isGraphic, char1, graphic, graphicOf, singleShift}
 use Rattle.reading.specs.Macros.{Run, runMacro, runBody, builtin, endOf, limit}
 use Rattle.reading.specs.Steps.{step, run}
 use Rattle.decoder.specs.declared.Core.{Core}
@@ -27,7 +27,7 @@ use Rattle.decoder.specs.declared.Stop.{Stop}
 use Rattle.decoder.specs.declared.Stop.the-variants.{End, Macro, Char, Shifted}
 use Rattle.macros.specs.Contracts.{Built}
 use Rattle.macros.proofs.Laws.{builtin-bare}
-use Rattle.plain.specs.Contracts.{CharOf, ShiftOf, StopAt}
+use Rattle.plain.specs.Contracts.{StopAt}
 use Rattle.plain.proofs.Dispatch.{step-char, step-shift}
 use Rattle.decode.specs.Contracts.{below, Ready, Grown, Ran, RanStep}
 use Rattle.decode.proofs.Loops.{kept-grown, below-run, along-start, along-end}
@@ -76,20 +76,6 @@ module _ {cells input starts lens : List ℕ} {c : Core} {t i : List ℕ} where
   pub did-ran : {f : Given → State → State} {r : Core} {t′ i′ : List ℕ} → c .charged ≤ limit input → Did cells f c t i r t′ i′ → Ran cells input 1 f starts lens c t i r t′ i′
   did-ran h v = record { does = λ g x y. v .does g x starts lens; grown = kept-grown h (v .kept) }
 
-  pub took-ran : {b : List ℕ} {j : ℕ} {f : Given → State → Step} {r : Stepped} {t′ i′ : List ℕ} → c .charged ≤ limit input → TookOver cells b j f c t i r t′ i′
-      → RanStep cells input b j f starts lens c t i r t′ i′
-  took-ran h v = record {
-    does = λ g x y. v .moves g x .does starts lens;
-    used = λ g x y t₀ i₀ s k. v .moves g x .used starts lens t₀ i₀ s k;
-    some = v .some;
-    most = v .within;
-    grown = kept-grown h (v .kept);
-  }
-
-  pub did-ran-by : (B : Given → Run) {f : Given → Run → State → State} {r : Core} {t′ i′ : List ℕ} → c .charged ≤ limit input → ((R : Run) → Did cells (λ g. f g R) c t i r t′ i′)
-      → Ran cells input 1 (λ g. f g (B g)) starts lens c t i r t′ i′
-  did-ran-by B h v = record { does = λ g x y. v (B g) .does g x starts lens; grown = kept-grown h (v (λ b₁ base₁ origin₁ s₁. s₁) .kept) }
-
   pub took-ran-by : {b : List ℕ} {j : ℕ} (B : Given → Run) {f : Given → Run → State → Step} {r : Stepped} {t′ i′ : List ℕ} → c .charged ≤ limit input
       → ((R : Run) → TookOver cells b j (λ g. f g R) c t i r t′ i′) → RanStep cells input b j (λ g. f g (B g)) starts lens c t i r t′ i′
   took-ran-by B h v =
@@ -120,20 +106,16 @@ module _ {cells input starts lens : List ℕ} {c : Core} {t i : List ℕ} where
 
 -- ---- `char1`
 
-pub char1-macro : (g : Given) (left : ℕ) (R : Run) (set c at : ℕ) (s : State) → set ≡ 15 → char1 g left R set c at s ≡ runMacro g left R c at s
+pub char1-macro : (g : Given) (left : ℕ) (R : Run) (c at : ℕ) (s : State) → char1 g left R 15 c at s ≡ runMacro g left R c at s
 unfolding char1
-char1-macro g left R set c at s h = rw h
+char1-macro g left R c at s = refl
 
 -- ---- `graphic`
 
-module _ (g : Given) (left : ℕ) (R : Run) (e x : ℕ) (rest : List ℕ) (at : ℕ) (s : State) (set : ℕ) (q : getD (s .sets) e 0 ≡ set) where
-  pub graphic-two : eqb (bytesPerChar set) 2 ≡ true → graphic g left R e x rest at s ≡ graphic2 g set x rest at s
-  unfolding graphic graphicOf
-  graphic-two h = rw (q, h)
-
-  pub graphic-one : eqb (bytesPerChar set) 2 ≡ false → graphic g left R e x rest at s ≡ took 1 (char1 g left R set (x % 128) at s)
-  unfolding graphic graphicOf
-  graphic-one h = rw (q, h)
+pub graphic-macro : (g : Given) (left : ℕ) (R : Run) (e x : ℕ) (rest : List ℕ) (at : ℕ) (s : State) {sets : List ℕ} → s .sets ≡ sets → getD sets e 0 ≡ 15
+    → graphic g left R e x rest at s ≡ took 1 (char1 g left R 15 (x % 128) at s)
+unfolding graphic graphicOf bytesPerChar
+graphic-macro g left R e x rest at s p q = rw (p, q)
 
 -- ---- `run_body`
 
@@ -208,14 +190,6 @@ pub shift-char : (g : Given) (left : ℕ) (R : Run) (e : ℕ) (b : List ℕ) (j 
 unfolding singleShift
 shift-char g left R e b j at s h k = rw (drop-one b (j + 1) h, k)
 
-pub char-graphic : (x e : ℕ) (c : Core) → CharOf x e c → isGraphic x ≡ true
-unfolding isGraphic
-char-graphic x e c h = go (h .through)
-  where
-    go : ((isGL x ≡ true) × (e ≡ c .gl)) ⊎ ((isGL x ≡ false) × (isGR x ≡ true) × (e ≡ c .gr)) → (isGL x || isGR x) ≡ true
-    go (inl k) = rw (k .0)
-    go (inr k) = rw (k .0, k .1)
-
 -- a part of a list is no longer than it
 pub part-short : (l : List ℕ) (start len : ℕ) → start + len ≤ length l → length (take len (drop start l)) ≡ len
 part-short l start len h = length-take-le len (drop start l) (omega (arith, length-drop start l, h))
@@ -232,10 +206,6 @@ told-shift b i c p h = subst (λ (z : Stop). StopAt z b i c) (sym p) h
 
 pub told-end : (b : List ℕ) (i : ℕ) (c : Core) {stop : Stop} → End ≡ stop → StopAt stop b i c → length b ≤ i
 told-end b i c p h = subst (λ (z : Stop). StopAt z b i c) (sym p) h
-
-pub shift-element : (x e : ℕ) → ShiftOf x e → e < 4
-shift-element x e (inl h) = omega (arith, h .1)
-shift-element x e (inr h) = omega (arith, h .1)
 
 -- ---- a built-in body
 

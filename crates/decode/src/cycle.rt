@@ -1,18 +1,18 @@
-// The functions that call each other through macro bodies: `run`, `graphic`, `char1` and
-// `run_macro` of decode.rs. The macros stay while bodies run, since no definition ends in one.
+// The functions that call each other through macro bodies: `run`, `run_macro`, and `graphic` and
+// `char1` for the macro set, of decode.rs. The macros stay while bodies run, since no definition
+// ends in one.
 use decoder::Core;
 use decoder::Stepped;
 use decoder::Stop;
 use issues::IssueKind;
 use macros::Command;
 ghost use mathlib.Core.Path.{_≡_};
-ghost use mathlib.Core.Bool.{true};
 ghost use Prim.Native.Nat.{ℕ, _+_, _≤_, _<_};
 ghost use mathlib.Core.List.{List};
 ghost use lib.ListN.{length, drop, getD};
 ghost use Rattle.reading.specs.State.{Given, State};
 ghost use Rattle.reading.specs.Macros.{Run, runMacro, runBody, macroCmd, endOf, limit};
-ghost use Rattle.reading.specs.Characters.{isGraphic, graphic, char1};
+ghost use Rattle.reading.specs.Characters.{graphic, char1};
 ghost use Rattle.reading.specs.Steps.{step, run};
 ghost use Rattle.decoder.specs.Contracts.{Good, TookOver};
 ghost use Rattle.plain.specs.Contracts.{StopAt};
@@ -121,11 +121,10 @@ pub fn run_macro<'a>(
     }
 }
 
-// A character of a one-byte set.
+// A character of the macro set: its macro runs. Those of the other sets are in `characters`.
 fn char1<'a>(
     cells: &[u16],
     input: &[u8],
-    set: u8,
     c: u8,
     at: u32,
     left: usize,
@@ -138,33 +137,28 @@ fn char1<'a>(
     requires { ⌜ (length (now input) ≤ 65535) × (c < 128) × (at < 65535) ⌝ }
     requires { ⌜ Inside (now input) (now starts) (now lens) ⌝ }
     requires { ⌜ Ready (limit (now input)) 1 s ⌝ }
-    ensures { λ r. ⌜ Ran (now (cells .entry)) (now (input .entry)) 1 (λ g. char1 g left (below g left) set c at) (now (starts .entry)) (now (lens .entry)) s (now (text .entry)) (now (issues .entry)) r (now (text .exit)) (now (issues .exit)) ⌝ }
+    ensures { λ r. ⌜ Ran (now (cells .entry)) (now (input .entry)) 1 (λ g. char1 g left (below g left) 15 c at) (now (starts .entry)) (now (lens .entry)) s (now (text .entry)) (now (issues .entry)) r (now (text .exit)) (now (issues .exit)) ⌝ }
 {
-    if set == 15 {
-        run_macro(
-            cells,
-            input,
-            c as usize,
-            at,
-            left,
-            s,
-            starts,
-            lens,
-            text,
-            issues,
-        )
-    } else {
-        characters::char1(set, c, at, s, text, issues)
-    }
+    run_macro(
+        cells,
+        input,
+        c as usize,
+        at,
+        left,
+        s,
+        starts,
+        lens,
+        text,
+        issues,
+    )
 }
 
-// A character of the set in the code element e, starting at the byte i of b.
+// A character at the byte i of b, through a code element that has the macro set.
 pub fn graphic<'a>(
     cells: &[u16],
     input: &[u8],
     b: &[u8],
     i: usize,
-    e: usize,
     at: u32,
     left: usize,
     s: Core,
@@ -173,19 +167,14 @@ pub fn graphic<'a>(
     text: &mut [u8],
     issues: &mut [u32],
 ) -> Stepped
-    requires { ⌜ (length (now input) ≤ 65535) × (i < length (now b)) × (e < 4) × (at < 65535) × (isGraphic (getD (now b) i 0) ≡ true) ⌝ }
+    requires { ⌜ (length (now input) ≤ 65535) × (i < length (now b)) × (at < 65535) ⌝ }
     requires { ⌜ Inside (now input) (now starts) (now lens) ⌝ }
     requires { ⌜ Ready (limit (now input)) 1 s ⌝ }
-    ensures { λ r. ⌜ RanStep (now (cells .entry)) (now (input .entry)) (now (b .entry)) i (λ g. graphic g left (below g left) e (getD (now (b .entry)) i 0) (drop (i + 1) (now (b .entry))) at) (now (starts .entry)) (now (lens .entry)) s (now (text .entry)) (now (issues .entry)) r (now (text .exit)) (now (issues .exit)) ⌝ }
+    ensures { λ r. ⌜ ((e : ℕ) → getD (s .sets) e 0 ≡ 15 → RanStep (now (cells .entry)) (now (input .entry)) (now (b .entry)) i (λ g. graphic g left (below g left) e (getD (now (b .entry)) i 0) (drop (i + 1) (now (b .entry))) at) (now (starts .entry)) (now (lens .entry)) s (now (text .entry)) (now (issues .entry)) r (now (text .exit)) (now (issues .exit))) ⌝ }
 {
-    let set = s.sets[e];
-    if characters::two_bytes(set) {
-        return characters::graphic2(cells, b, i, set, at, s, text, issues);
-    }
     let core = char1(
         cells,
         input,
-        set,
         b[i] % 128,
         at,
         left,
@@ -242,27 +231,13 @@ fn turn<'a>(
     ensures { λ r. ⌜ ((place : ℕ) → RanStep (now (cells .entry)) (now (input .entry)) (now (b .entry)) i (λ g. step g left (below g left) (getD (now (b .entry)) i 0) (drop (i + 1) (now (b .entry))) place at) (now (starts .entry)) (now (lens .entry)) s (now (text .entry)) (now (issues .entry)) r (now (text .exit)) (now (issues .exit))) ⌝ }
 {
     match stop {
-        Stop::Char(e) => graphic(
-            cells,
-            input,
-            b,
-            i,
-            e,
-            at,
-            left,
-            s,
-            starts,
-            lens,
-            text,
-            issues,
-        ),
-        Stop::Shifted(e) => {
+        Stop::Char(_) => graphic(cells, input, b, i, at, left, s, starts, lens, text, issues),
+        Stop::Shifted(_) => {
             let r = graphic(
                 cells,
                 input,
                 b,
                 i + 1,
-                e,
                 at,
                 left,
                 s,

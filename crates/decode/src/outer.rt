@@ -10,8 +10,8 @@ ghost use mathlib.Core.Path.{_≡_};
 ghost use Prim.Native.Nat.{ℕ, _+_, _≤_, _<_};
 ghost use mathlib.Core.List.{List};
 ghost use lib.ListN.{length, drop, getD, set};
-ghost use mathlib.Core.Bool.{true, cond};
-ghost use Rattle.reading.specs.Characters.{isGraphic, graphic};
+ghost use mathlib.Core.Bool.{cond};
+ghost use Rattle.reading.specs.Characters.{graphic};
 ghost use Rattle.reading.specs.Macros.{runMacro, defined, macroCmd, limit};
 ghost use Rattle.decoder.specs.Contracts.{whole};
 ghost use Rattle.macros.specs.Contracts.{Defined};
@@ -38,21 +38,20 @@ fn define(d: Decoder, code: usize, start: u16, len: u16) -> Decoder
     r
 }
 
-// A character of the macro set in the code element e, at the byte i.
+// A character at the byte i, through a code element that has the macro set.
 fn call(
     cells: &[u16],
     input: &[u8],
     i: usize,
-    e: usize,
     at: u32,
     d: Decoder,
     text: &mut [u8],
     issues: &mut [u32],
 ) -> Outer
-    requires { ⌜ (length (now input) ≤ 65535) × (i < length (now input)) × (e < 4) × (at < 65535) × (isGraphic (getD (now input) i 0) ≡ true) ⌝ }
+    requires { ⌜ (length (now input) ≤ 65535) × (i < length (now input)) × (at < 65535) ⌝ }
     requires { ⌜ Inside (now input) (d .starts) (d .lens) ⌝ }
     requires { ⌜ Ready (limit (now input)) 1 (d .core) ⌝ }
-    ensures { λ r. ⌜ OuterStep (now (cells .entry)) (now (input .entry)) i (λ g. graphic g 4 (below g 4) e (getD (now (input .entry)) i 0) (drop (i + 1) (now (input .entry))) at) d (now (text .entry)) (now (issues .entry)) r (now (text .exit)) (now (issues .exit)) ⌝ }
+    ensures { λ r. ⌜ ((e : ℕ) → getD (d .core .sets) e 0 ≡ 15 → OuterStep (now (cells .entry)) (now (input .entry)) i (λ g. graphic g 4 (below g 4) e (getD (now (input .entry)) i 0) (drop (i + 1) (now (input .entry))) at) d (now (text .entry)) (now (issues .entry)) r (now (text .exit)) (now (issues .exit))) ⌝ }
 {
     let core = d.core;
     let r = crate::cycle::graphic(
@@ -60,7 +59,6 @@ fn call(
         input,
         input,
         i,
-        e,
         at,
         4,
         core,
@@ -202,9 +200,9 @@ fn step(
 {
     match stop {
         Stop::Macro => macro_cmd(cells, input, i, d, text, issues),
-        Stop::Char(e) => call(cells, input, i, e, i as u32, d, text, issues),
-        Stop::Shifted(e) => {
-            let r = call(cells, input, i + 1, e, i as u32, d, text, issues);
+        Stop::Char(_) => call(cells, input, i, i as u32, d, text, issues),
+        Stop::Shifted(_) => {
+            let r = call(cells, input, i + 1, i as u32, d, text, issues);
             let next = r.decoder;
             Outer {
                 used: r.used + 1,
@@ -235,7 +233,7 @@ pub fn top(
     let mut i: usize = 0;
     loop {
         let core = d.core;
-        let f = plain::plain(cells, input, i, 0, 0, core, text, issues);
+        let f = plain::steps(cells, input, i, 0, 0, core, text, issues);
         let after = f.core;
         d.core = after;
         i = f.at;

@@ -220,13 +220,15 @@ fn graphic(cells: &[u16], b: &[u8], i: usize, to: usize, gl: u8, gr: u8, narrow:
 {
     let x = b[i];
     let set = set_of(x, gl, gr);
-    let c = characters::letter_at(narrow, set, x % 128);
-    if c != 0 {
-        return Taken { scalar: c, used: 1 };
+    if characters::two_bytes(set) {
+        return Taken {
+            scalar: pair_at(cells, b, i, to, set),
+            used: 2,
+        };
     }
     Taken {
-        scalar: pair_at(cells, b, i, to, set),
-        used: 2,
+        scalar: characters::letter_at(narrow, set, x % 128),
+        used: 1,
     }
 }
 

@@ -21,12 +21,12 @@ pub record CharOf (x e : ℕ) (c : Core) : Type 0 where
 abbrev pub ShiftOf : ℕ → ℕ → Type 0
 ShiftOf x e = ((x ≡ 0x19) × (e ≡ 2)) ⊎ ((x ≡ 0x1D) × (e ≡ 3))
 
--- steps stop at the byte i of b, for this
+-- steps stop at the byte i of b, for this: MACRO, or a character of an element that has the macro set
 abbrev pub StopAt : Stop → List ℕ → ℕ → Core → Type 0
 StopAt End b i c = length b ≤ i
 StopAt Macro b i c = (i < length b) × (getD b i 0 ≡ 0x95)
-StopAt (Char e) b i c = (i < length b) × CharOf (getD b i 0) e c
-StopAt (Shifted e) b i c = (i + 1 < length b) × ShiftOf (getD b i 0) e × (isGraphic (getD b (i + 1) 0) ≡ true)
+StopAt (Char e) b i c = (i < length b) × CharOf (getD b i 0) e c × (getD (c .sets) e 0 ≡ 15)
+StopAt (Shifted e) b i c = (i + 1 < length b) × ShiftOf (getD b i 0) e × (isGraphic (getD b (i + 1) 0) ≡ true) × (getD (c .sets) e 0 ≡ 15)
 
 -- the step at the byte i of b concerns no macro
 pub record Passes (b : List ℕ) (i : ℕ) (c : Core) : Type 0 where

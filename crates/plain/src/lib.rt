@@ -14,8 +14,10 @@ use decoder::Stop;
 use decoder::Stretched;
 ghost use mathlib.Core.Path.{_≡_};
 ghost use Prim.Native.Nat.{ℕ, _+_, _-_, _≤_, _<_};
+ghost use mathlib.Core.Bool.{true};
 ghost use mathlib.Core.List.{List};
 ghost use lib.ListN.{length, drop, getD};
+ghost use Rattle.reading.specs.Characters.{isGraphic, graphicOf};
 ghost use Rattle.reading.specs.Macros.{Run};
 ghost use Rattle.reading.specs.State.{took, invokeGL, writes};
 ghost use Rattle.reading.specs.Steps.{step, offset, control0, space};
@@ -149,6 +151,25 @@ fn control0(
     }
 }
 
+// A character of the set in the code element e, which is not the macro set.
+fn graphic(
+    cells: &[u16],
+    b: &[u8],
+    i: usize,
+    e: usize,
+    at: u32,
+    s: Core,
+    text: &mut [u8],
+    issues: &mut [u32],
+) -> Stepped
+    requires { ⌜ (i < length (now b)) × (e < 4) × (isGraphic (getD (now b) i 0) ≡ true) × (getD (s .sets) e 0 ≡ 15 → ⊥) ⌝ }
+    requires { ⌜ Good 1 s ⌝ }
+    ensures { λ r. ⌜ ((left : ℕ) (R : Run) → TookOver (now (cells .entry)) (now (b .entry)) i (λ g. graphicOf g left R (getD (s .sets) e 0) (getD (now (b .entry)) i 0) (drop (i + 1) (now (b .entry))) at) s (now (text .entry)) (now (issues .entry)) r (now (text .exit)) (now (issues .exit))) ⌝ }
+{
+    let sets = s.sets;
+    characters::graphic(cells, b, i, sets[e], at, s, text, issues)
+}
+
 // One step that concerns no macro.
 fn simple(
     cells: &[u16],
@@ -167,25 +188,15 @@ fn simple(
 {
     let x = b[i];
     match x {
-        0x21..=0x7E => {
-            let e = s.gl as usize;
-            let sets = s.sets;
-            let set = sets[e];
-            characters::graphic(cells, b, i, set, at, s, text, issues)
-        }
-        0xA1..=0xFE => {
-            let e = s.gr as usize;
-            let sets = s.sets;
-            let set = sets[e];
-            characters::graphic(cells, b, i, set, at, s, text, issues)
-        }
+        0x21..=0x7E => graphic(cells, b, i, s.gl as usize, at, s, text, issues),
+        0xA1..=0xFE => graphic(cells, b, i, s.gr as usize, at, s, text, issues),
         0x00..=0x7F => control0(cells, b, i, place, at, s, text, issues),
         _ => controls::control1(b, i, at, s, issues),
     }
 }
 
 // Plain steps from the byte `from` of a body to its end, or to what stops them.
-fn steps(
+pub fn steps(
     cells: &[u16],
     b: &[u8],
     from: usize,

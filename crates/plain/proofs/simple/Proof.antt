@@ -15,31 +15,27 @@ use Rattle.plain.proofs.simple.Tie as tie
 shared-slice-read-x : tie.Need-shared-slice-read-x
 shared-slice-read-x c = search needs
 
-cast-e : tie.Need-cast-e
-cast-e c = search needs
-
-array-read-set : tie.Need-array-read-set
-array-read-set c = search needs
+cast-graphic : tie.Need-cast-graphic
+cast-graphic c = search needs
 
 graphic-requires : tie.Need-graphic-requires
 graphic-requires c κs =
-    let a = c .before .before .before .before .before .before .before .before .before .before .before .before .args in
+    let a = c .before .before .before .before .before .before .before .before .before .before .before .args in
+    let p = c .before .before .before .before .before .before .before .before .before .before .before .pre in
     let x = getD (a .b .now) (a .i) 0 in
     let k = gl-in x (omega arith) (omega arith) in
-    (c .before .before .before .before .before .before .before .before .before .before .before .before .pre .1 .0, (c .before .before .before .before .before .before .before .before .before .before .before .before .pre .0 .0, graphic-left x k, c .before .before .before .before .before .before .before .before .before .before .before .before .pre .1 .1 .left k))
+    ((p .0 .0, p .1 .0 .gl, graphic-left x k, p .1 .1 .left k), p .1 .0)
 
-cast-e-2 : tie.Need-cast-e-2
-cast-e-2 c = search needs
-
-array-read-set-2 : tie.Need-array-read-set-2
-array-read-set-2 c = search needs
+cast-graphic-2 : tie.Need-cast-graphic-2
+cast-graphic-2 c = search needs
 
 graphic-requires-2 : tie.Need-graphic-requires-2
 graphic-requires-2 c κs =
-    let a = c .before .before .before .before .before .before .before .before .before .before .before .before .before .before .args in
+    let a = c .before .before .before .before .before .before .before .before .before .before .before .before .before .args in
+    let p = c .before .before .before .before .before .before .before .before .before .before .before .before .before .pre in
     let x = getD (a .b .now) (a .i) 0 in
     let k = gr-in x (omega arith) (omega arith) in
-    (c .before .before .before .before .before .before .before .before .before .before .before .before .before .before .pre .1 .0, (c .before .before .before .before .before .before .before .before .before .before .before .before .before .before .pre .0 .0, graphic-right x (gl-above x (omega arith)) k, c .before .before .before .before .before .before .before .before .before .before .before .before .before .before .pre .1 .1 .right k))
+    ((p .0 .0, p .1 .0 .gr, graphic-right x (gl-above x (omega arith)) k, p .1 .1 .right k), p .1 .0)
 
 control1-requires : tie.Need-control1-requires
 control1-requires c κs = search needs
@@ -55,7 +51,7 @@ same-length-2 c = search needs
 
 returns : tie.Need-returns
 returns c =
-    let a = c .before .before .before .before .before .before .before .before .before .before .before .before .before .before .before .before .before .args in
+    let a = c .before .before .before .before .before .before .before .before .before .before .before .before .before .before .before .before .args in
     let x = getD (a .b .now) (a .i) 0 in
     let k = gl-in x (omega arith) (omega arith) in
     λ left R. took-as (λ g starts lens t₀ i₀ s h. step-left g left R _ _ _ _ s _ (set-left h) k) (c .before .before .before .before .graphic .ensures left R)
@@ -68,7 +64,7 @@ same-length-4 c = search needs
 
 returns-2 : tie.Need-returns-2
 returns-2 c =
-    let a = c .before .before .before .before .before .before .before .before .before .before .before .before .before .before .before .before .before .before .before .args in
+    let a = c .before .before .before .before .before .before .before .before .before .before .before .before .before .before .before .before .before .before .args in
     let x = getD (a .b .now) (a .i) 0 in
     let k = gr-in x (omega arith) (omega arith) in
     let n = gl-above x (omega arith) in
@@ -104,11 +100,9 @@ simple-spec =
     tie.close
     (tie.spec
     shared-slice-read-x
-    cast-e
-    array-read-set
+    cast-graphic
     graphic-requires
-    cast-e-2
-    array-read-set-2
+    cast-graphic-2
     graphic-requires-2
     control1-requires
     control0-requires

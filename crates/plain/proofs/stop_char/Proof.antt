@@ -12,7 +12,7 @@ returns c =
     λ b i l e. passes-char b i (c .before .before .args .s) (c .before .before .args .e) (rw e (c .before .before .pre)) (c .if1 .taken)
 
 returns-2 : tie.Need-returns-2
-returns-2 c = λ b i l e. (l, rw e (c .before .before .pre))
+returns-2 c = λ b i l e. (l, rw e (c .before .before .pre), c .if1 .left)
 
 pub stop-char-spec : {M : Type 1} → statement M
 stop-char-spec = tie.close (tie.spec array-read-if1 returns returns-2)

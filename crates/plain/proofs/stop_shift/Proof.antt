@@ -33,7 +33,7 @@ is-graphic-requires c κs = search needs
 
 returns-3 : tie.Need-returns-3
 returns-3 c =
-    (c .before .before .before .if2 .left, c .before .before .before .before .before .before .before .pre .2, sym (c .before .is-graphic .ensures) ∙ c .if3 .taken)
+    (c .before .before .before .if2 .left, c .before .before .before .before .before .before .before .pre .2, sym (c .before .is-graphic .ensures) ∙ c .if3 .taken, c .before .before .before .before .if1 .left)
 
 returns-4 : tie.Need-returns-4
 returns-4 c =

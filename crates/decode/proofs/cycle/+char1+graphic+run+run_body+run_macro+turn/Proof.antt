@@ -11,7 +11,7 @@ use Rattle.reading.specs.Macros.{Run, runBody, endOf, limit}
 use Rattle.reading.specs.Steps.{offset}
 use Rattle.decode.specs.Contracts.{below}
 use Rattle.decode.proofs.Loops.{Along, along-start, along-stretch, along-step, along-end, inside-offset, offset-as, limit-is, ready-good, ready-left, ready-less}
-use Rattle.decode.proofs.Bodies.{ran-as, step-as, did-ran, took-ran, did-ran-by, took-ran-by, one-step, shift-step, char1-macro, graphic-two, graphic-one, body-deep, body-dear, ran-body, ran-empty, ready-body, macro-defined, macro-built-in, macro-none, shift-char, char-graphic, part-short, told-char, told-macro, told-shift, told-end, shift-element, built-test, built-none, built-bare, built-short}
+use Rattle.decode.proofs.Bodies.{ran-as, step-as, did-ran, took-ran-by, one-step, shift-step, char1-macro, graphic-macro, body-deep, body-dear, ran-body, ran-empty, ready-body, macro-defined, macro-built-in, macro-none, shift-char, part-short, told-char, told-macro, told-shift, told-end, built-test, built-none, built-bare, built-short}
 use Rattle.plain.proofs.Dispatch.{step-char, step-shift, step-macro}
 use Prim.Native.Nat.{ℕ, _<_}
 use borrow.Fn.Kinds.{In}
@@ -34,10 +34,7 @@ use Rattle.decode.proofs.cycle.+char1+graphic+run+run_body+run_macro+tu
 use Rattle.decode.proofs.cycle.turn.Reads as turn
 use Rattle.decode.proofs.cycle.turn.Kinds as turn-kinds
 use Rattle.decode.proofs.cycle.+char1+graphic+run+run_body+run_macro+turn.Lts-turn as turn-lts
-use Rattle.characters.proofs.char1.Reads as char1-reads
-use Rattle.characters.proofs.graphic2.Reads as graphic2-reads
 use Rattle.characters.proofs.report.Reads as report-reads
-use Rattle.characters.proofs.two_bytes.Reads as two-bytes-reads
 use Rattle.decode.proofs.cycle.macro_cmd.Reads as macro-cmd-reads
 use Rattle.macros.proofs.default_macro.Reads as default-macro-reads
 use Rattle.plain.proofs.plain.Reads as plain-reads
@@ -45,10 +42,10 @@ use Rattle.decode.proofs.cycle.+char1+graphic+run+run_body+run_macro+tu
 use Rattle.decode.proofs.cycle.+char1+graphic+run+run_body+run_macro+turn.Tie.{close}
 
 abbrev μ-char1 : Measures 5 char1-kinds.ps ℕ
-μ-char1 κs a = 6 * a .1 .1 .1 .1 .1 .0 + 2
+μ-char1 κs a = 6 * a .1 .1 .1 .1 .0 + 2
 
 abbrev μ-graphic : Measures 6 graphic-kinds.ps ℕ
-μ-graphic κs a = 6 * a .1 .1 .1 .1 .1 .1 .0 + 3
+μ-graphic κs a = 6 * a .1 .1 .1 .1 .1 .0 + 3
 
 abbrev μ-run : Measures 6 run-kinds.ps ℕ
 μ-run κs a = 6 * a .1 .1 .1 .1 .1 .0 + 5
@@ -103,176 +100,58 @@ turn-below t = and 6 turn-kinds.ps (falls 6 turn-kinds.ps _<_ μ-turn t) turn.Pr
 char1-run-macro-requires : (t : ℕ) → char1-lts.Need-run-macro-requires (
   run-macro-below t,
   run-macro.Post,
-  char1-reads.Asked,
-  char1-reads.Learnt,
 ) (char1-at t) char1.Post
-char1-run-macro-requires t c κs = (omega (arith, c .before .before .before .before .before .before .before .pre .0), c .before .before .before .before .before .before .before .pre .1)
-
-char1-char1-requires : (t : ℕ) → char1-lts.Need-char1-requires (
-  run-macro-below t,
-  run-macro.Post,
-  char1-reads.Asked,
-  char1-reads.Learnt,
-) (char1-at t) char1.Post
-char1-char1-requires t c κs = (ready-good (c .before .before .before .before .before .before .before .pre .1 .1 .1), (c .before .before .before .before .before .before .before .pre .1 .0 .1, c .before .before .if1 .left))
+char1-run-macro-requires t c κs = (omega (arith, c .before .before .before .before .before .before .pre .0), c .before .before .before .before .before .before .pre .1)
 
 char1-same-length : (t : ℕ) → char1-lts.Need-same-length (
   run-macro-below t,
   run-macro.Post,
-  char1-reads.Asked,
-  char1-reads.Learnt,
 ) (char1-at t) char1.Post
 char1-same-length t c = search needs
 
 char1-same-length-2 : (t : ℕ) → char1-lts.Need-same-length-2 (
   run-macro-below t,
   run-macro.Post,
-  char1-reads.Asked,
-  char1-reads.Learnt,
 ) (char1-at t) char1.Post
 char1-same-length-2 t c = search needs
 
 char1-returns : (t : ℕ) → char1-lts.Need-returns (
   run-macro-below t,
   run-macro.Post,
-  char1-reads.Asked,
-  char1-reads.Learnt,
 ) (char1-at t) char1.Post
-char1-returns t c = ran-as (λ g y s h. char1-macro g _ _ _ _ _ s (c .before .before .before .before .before .before .before .if1 .taken)) (c .before .before .before .before .run-macro .ensures)
-
-char1-same-length-3 : (t : ℕ) → char1-lts.Need-same-length-3 (
-  run-macro-below t,
-  run-macro.Post,
-  char1-reads.Asked,
-  char1-reads.Learnt,
-) (char1-at t) char1.Post
-char1-same-length-3 t c = search needs
-
-char1-same-length-4 : (t : ℕ) → char1-lts.Need-same-length-4 (
-  run-macro-below t,
-  run-macro.Post,
-  char1-reads.Asked,
-  char1-reads.Learnt,
-) (char1-at t) char1.Post
-char1-same-length-4 t c = search needs
-
-char1-returns-2 : (t : ℕ) → char1-lts.Need-returns-2 (
-  run-macro-below t,
-  run-macro.Post,
-  char1-reads.Asked,
-  char1-reads.Learnt,
-) (char1-at t) char1.Post
-char1-returns-2 t c = did-ran-by (λ g. below g (c .before .before .before .before .before .before .before .before .before .before .before .before .args .left)) (c .before .before .before .before .before .before .before .before .before .before .before .before .pre .1 .1 .1 .within) (λ R. c .before .before .before .before .char1 .ensures (c .before .before .before .before .before .before .before .before .before .before .before .before .args .cells .now) (c .before .before .before .before .before .before .before .before .before .before .before .before .args .left) R)
-
-graphic-element-copy-out-set : (t : ℕ) → graphic-lts.Need-element-copy-out-set (
-  two-bytes-reads.Asked,
-  two-bytes-reads.Learnt,
-  graphic2-reads.Asked,
-  graphic2-reads.Learnt,
-  char1-below t,
-  char1.Post,
-) (graphic-at t) graphic.Post
-graphic-element-copy-out-set t c = omega (arith, c .before .before .before .before .before .pre .1 .0 .2)
-
-graphic-two-bytes-requires : (t : ℕ) → graphic-lts.Need-two-bytes-requires (
-  two-bytes-reads.Asked,
-  two-bytes-reads.Learnt,
-  graphic2-reads.Asked,
-  graphic2-reads.Learnt,
-  char1-below t,
-  char1.Post,
-) (graphic-at t) graphic.Post
-graphic-two-bytes-requires t c κs = search needs
-
-graphic-graphic2-requires : (t : ℕ) → graphic-lts.Need-graphic2-requires (
-  two-bytes-reads.Asked,
-  two-bytes-reads.Learnt,
-  graphic2-reads.Asked,
-  graphic2-reads.Learnt,
-  char1-below t,
-  char1.Post,
-) (graphic-at t) graphic.Post
-graphic-graphic2-requires t c κs = (ready-good (c .before .before .before .before .before .before .before .before .before .before .pre .1 .1 .1), (c .before .before .before .before .before .before .before .before .before .before .pre .1 .0 .1, c .before .before .before .before .before .before .before .before .before .before .pre .1 .0 .4))
-
-graphic-same-length : (t : ℕ) → graphic-lts.Need-same-length (
-  two-bytes-reads.Asked,
-  two-bytes-reads.Learnt,
-  graphic2-reads.Asked,
-  graphic2-reads.Learnt,
-  char1-below t,
-  char1.Post,
-) (graphic-at t) graphic.Post
-graphic-same-length t c = search needs
-
-graphic-same-length-2 : (t : ℕ) → graphic-lts.Need-same-length-2 (
-  two-bytes-reads.Asked,
-  two-bytes-reads.Learnt,
-  graphic2-reads.Asked,
-  graphic2-reads.Learnt,
-  char1-below t,
-  char1.Post,
-) (graphic-at t) graphic.Post
-graphic-same-length-2 t c = search needs
-
-graphic-returns : (t : ℕ) → graphic-lts.Need-returns (
-  two-bytes-reads.Asked,
-  two-bytes-reads.Learnt,
-  graphic2-reads.Asked,
-  graphic2-reads.Learnt,
-  char1-below t,
-  char1.Post,
-) (graphic-at t) graphic.Post
-graphic-returns t c = step-as (λ g s h. graphic-two g _ _ _ _ _ _ s _ (ap (λ (l : List ℕ). getD l (c .before .before .before .before .before .before .before .before .before .before .before .before .before .before .before .args .e) 0) (h .sets)) (sym (c .before .before .before .before .before .before .before .before .two-bytes .ensures) ∙ c .before .before .before .before .before .before .before .if1 .taken)) (took-ran (c .before .before .before .before .before .before .before .before .before .before .before .before .before .before .before .pre .1 .1 .1 .within) (c .before .before .before .before .graphic2 .ensures))
+char1-returns t c = ran-as (λ g y s h. char1-macro g _ _ _ _ s) (c .before .before .before .before .run-macro .ensures)
 
 graphic-shared-slice-read-char1 : (t : ℕ) → graphic-lts.Need-shared-slice-read-char1 (
-  two-bytes-reads.Asked,
-  two-bytes-reads.Learnt,
-  graphic2-reads.Asked,
-  graphic2-reads.Learnt,
   char1-below t,
   char1.Post,
 ) (graphic-at t) graphic.Post
 graphic-shared-slice-read-char1 t c = search needs
 
 graphic-char1-requires : (t : ℕ) → graphic-lts.Need-char1-requires (
-  two-bytes-reads.Asked,
-  two-bytes-reads.Learnt,
-  graphic2-reads.Asked,
-  graphic2-reads.Learnt,
   char1-below t,
   char1.Post,
 ) (graphic-at t) graphic.Post
-graphic-char1-requires t c κs = (omega (arith, c .before .before .before .before .before .before .before .before .before .before .before .pre .0), ((c .before .before .before .before .before .before .before .before .before .before .before .pre .1 .0 .0, omega arith, c .before .before .before .before .before .before .before .before .before .before .before .pre .1 .0 .3), (c .before .before .before .before .before .before .before .before .before .before .before .pre .1 .1 .0, c .before .before .before .before .before .before .before .before .before .before .before .pre .1 .1 .1)))
+graphic-char1-requires t c κs =
+    let p = c .before .before .before .before .before .before .before .before .pre in
+    (omega (arith, p .0), ((p .1 .0 .0, omega arith, p .1 .0 .2), p .1 .1))
 
-graphic-same-length-3 : (t : ℕ) → graphic-lts.Need-same-length-3 (
-  two-bytes-reads.Asked,
-  two-bytes-reads.Learnt,
-  graphic2-reads.Asked,
-  graphic2-reads.Learnt,
+graphic-same-length : (t : ℕ) → graphic-lts.Need-same-length (
   char1-below t,
   char1.Post,
 ) (graphic-at t) graphic.Post
-graphic-same-length-3 t c = search needs
+graphic-same-length t c = search needs
 
-graphic-same-length-4 : (t : ℕ) → graphic-lts.Need-same-length-4 (
-  two-bytes-reads.Asked,
-  two-bytes-reads.Learnt,
-  graphic2-reads.Asked,
-  graphic2-reads.Learnt,
+graphic-same-length-2 : (t : ℕ) → graphic-lts.Need-same-length-2 (
   char1-below t,
   char1.Post,
 ) (graphic-at t) graphic.Post
-graphic-same-length-4 t c = search needs
+graphic-same-length-2 t c = search needs
 
-graphic-returns-2 : (t : ℕ) → graphic-lts.Need-returns-2 (
-  two-bytes-reads.Asked,
-  two-bytes-reads.Learnt,
-  graphic2-reads.Asked,
-  graphic2-reads.Learnt,
+graphic-returns : (t : ℕ) → graphic-lts.Need-returns (
   char1-below t,
   char1.Post,
 ) (graphic-at t) graphic.Post
-graphic-returns-2 t c = step-as (λ g s h. graphic-one g _ _ _ _ _ _ s _ (ap (λ (l : List ℕ). getD l (c .before .before .before .before .before .before .before .before .before .before .before .before .before .before .before .before .args .e) 0) (h .sets)) (sym (c .before .before .before .before .before .before .before .before .before .two-bytes .ensures) ∙ c .before .before .before .before .before .before .before .before .if1 .left)) (one-step (c .before .before .before .before .before .before .before .before .before .before .before .before .before .before .before .before .pre .1 .0 .1) (c .before .before .before .before .char1 .ensures))
+graphic-returns t c = λ e q. step-as (λ g s h. graphic-macro g _ _ _ _ _ _ s (h .sets) q) (one-step (c .before .before .before .before .before .before .before .before .before .before .before .before .before .pre .1 .0 .1) (c .before .before .before .before .char1 .ensures))
 
 abbrev run-Inv-loop : run-lts.InvT-loop
 run-Inv-loop cells input b base origin left starts lens text₀ issues₀ s₀ i₀ text issues s i = Along cells input left base origin b starts lens s₀ text₀ issues₀ i s text issues
@@ -793,13 +672,13 @@ run-macro-returns-3 t c =
     let n : c .before .before .before .before .before .before .default-macro .result ≡ 0 = omega (arith, c .before .before .before .before .if2 .left) in
     ran-as (λ g y s h. macro-none g _ _ _ _ s (ap (λ (v : List ℕ). getD v (c .before .before .before .before .before .before .before .before .before .before .before .before .before .before .args .code) 0) (h .starts) ∙ z) (built-none u n)) (did-ran (c .before .before .before .before .before .before .before .before .before .before .before .before .before .before .pre .1 .1 .1 .within) (c .before .before .report .ensures (c .before .before .before .before .before .before .before .before .before .before .before .before .before .before .args .cells .now) _))
 
-turn-enum-known-stop : (t : ℕ) → turn-lts.Need-enum-known-stop (
+turn-enum-told : (t : ℕ) → turn-lts.Need-enum-told (
   graphic-below t,
   graphic.Post,
   macro-cmd-reads.Asked,
   macro-cmd-reads.Learnt,
 ) (turn-at t) turn.Post
-turn-enum-known-stop t c = search needs
+turn-enum-told t c = search needs
 
 turn-graphic-requires : (t : ℕ) → turn-lts.Need-graphic-requires (
   graphic-below t,
@@ -808,17 +687,16 @@ turn-graphic-requires : (t : ℕ) → turn-lts.Need-graphic-requires (
   macro-cmd-reads.Learnt,
 ) (turn-at t) turn.Post
 turn-graphic-requires t c κs =
-    let p = c .before .before .before .before .before .before .before .before .before .before .pre .1 in
-    let h = told-char _ _ _ (sym (c .before .before .before .stop .given .1)) (p .1 .1 .1 .1) in
-    (omega (arith, c .before .before .before .before .before .before .before .before .before .before .pre .0), ((p .0 .0, p .0 .2, h .1 .element, p .0 .3, char-graphic _ _ _ (h .1)), (p .1 .0, p .1 .1 .0)))
+    let p = c .before .before .before .before .before .before .before .before .before .pre in
+    (omega (arith, p .0), ((p .1 .0 .0, p .1 .0 .2, p .1 .0 .3), (p .1 .1 .0, p .1 .1 .1 .0)))
 
-turn-enum-known-stop-2 : (t : ℕ) → turn-lts.Need-enum-known-stop-2 (
+turn-enum-told-2 : (t : ℕ) → turn-lts.Need-enum-told-2 (
   graphic-below t,
   graphic.Post,
   macro-cmd-reads.Asked,
   macro-cmd-reads.Learnt,
 ) (turn-at t) turn.Post
-turn-enum-known-stop-2 t c = search needs
+turn-enum-told-2 t c = search needs
 
 turn-add-graphic : (t : ℕ) → turn-lts.Need-add-graphic (
   graphic-below t,
@@ -826,7 +704,7 @@ turn-add-graphic : (t : ℕ) → turn-lts.Need-add-graphic (
   macro-cmd-reads.Asked,
   macro-cmd-reads.Learnt,
 ) (turn-at t) turn.Post
-turn-add-graphic t c = omega (arith, c .before .before .before .before .before .before .before .before .pre .1 .0 .1, c .before .before .before .before .before .before .before .before .pre .1 .0 .2)
+turn-add-graphic t c = omega (arith, c .before .before .before .before .before .before .before .pre .1 .0 .1, c .before .before .before .before .before .before .before .pre .1 .0 .2)
 
 turn-graphic-requires-2 : (t : ℕ) → turn-lts.Need-graphic-requires-2 (
   graphic-below t,
@@ -835,25 +713,28 @@ turn-graphic-requires-2 : (t : ℕ) → turn-lts.Need-graphic-requires-2 (
   macro-cmd-reads.Learnt,
 ) (turn-at t) turn.Post
 turn-graphic-requires-2 t c κs =
-    let p = c .before .before .before .before .before .before .before .before .before .before .pre .1 in
-    let h = told-shift _ _ _ (sym (c .before .before .before .stop2 .given .1)) (p .1 .1 .1 .1) in
-    (omega (arith, c .before .before .before .before .before .before .before .before .before .before .pre .0), ((p .0 .0, h .0, shift-element _ _ (h .1), p .0 .3, h .2), (p .1 .0, p .1 .1 .0)))
+    let p = c .before .before .before .before .before .before .before .before .before .pre in
+    let h = told-shift _ _ _ (sym (c .before .before .enum-told2 .given .1)) (p .1 .1 .1 .1 .1) in
+    (omega (arith, p .0), ((p .1 .0 .0, h .0, p .1 .0 .3), (p .1 .1 .0, p .1 .1 .1 .0)))
 
-turn-add-t22 : (t : ℕ) → turn-lts.Need-add-t22 (
+turn-add-t20 : (t : ℕ) → turn-lts.Need-add-t20 (
   graphic-below t,
   graphic.Post,
   macro-cmd-reads.Asked,
   macro-cmd-reads.Learnt,
 ) (turn-at t) turn.Post
-turn-add-t22 t c = omega (arith, c .before .before .before .before .before .before .graphic2 .ensures .most, c .before .before .before .before .before .before .before .before .before .before .before .before .before .before .before .before .before .pre .1 .0 .1)
+turn-add-t20 t c =
+    let p = c .before .before .before .before .before .before .before .before .before .before .before .before .before .before .before .before .pre .1 in
+    let h = told-shift _ _ _ (sym (c .before .before .before .before .before .before .before .before .before .enum-told2 .given .1)) (p .1 .1 .1 .1) in
+    omega (arith, c .before .before .before .before .before .before .graphic2 .ensures _ (h .3) .most, p .0 .1)
 
-turn-enum-told : (t : ℕ) → turn-lts.Need-enum-told (
+turn-enum-told-3 : (t : ℕ) → turn-lts.Need-enum-told-3 (
   graphic-below t,
   graphic.Post,
   macro-cmd-reads.Asked,
   macro-cmd-reads.Learnt,
 ) (turn-at t) turn.Post
-turn-enum-told t c = search needs
+turn-enum-told-3 t c = search needs
 
 turn-macro-cmd-requires : (t : ℕ) → turn-lts.Need-macro-cmd-requires (
   graphic-below t,
@@ -863,16 +744,16 @@ turn-macro-cmd-requires : (t : ℕ) → turn-lts.Need-macro-cmd-requires (
 ) (turn-at t) turn.Post
 turn-macro-cmd-requires t c κs =
     let p = c .before .before .before .before .before .before .before .before .pre .1 in
-    let h = told-macro _ _ _ (sym (c .before .enum-told .given .1)) (p .1 .1 .1 .1) in
+    let h = told-macro _ _ _ (sym (c .before .enum-told3 .given .1)) (p .1 .1 .1 .1) in
     ((p .0 .2, p .0 .1, h .1, p .1 .1 .1 .0), ready-good (p .1 .1 .0))
 
-turn-enum-told-2 : (t : ℕ) → turn-lts.Need-enum-told-2 (
+turn-enum-told-4 : (t : ℕ) → turn-lts.Need-enum-told-4 (
   graphic-below t,
   graphic.Post,
   macro-cmd-reads.Asked,
   macro-cmd-reads.Learnt,
 ) (turn-at t) turn.Post
-turn-enum-told-2 t c = search needs
+turn-enum-told-4 t c = search needs
 
 turn-same-length : (t : ℕ) → turn-lts.Need-same-length (
   graphic-below t,
@@ -897,9 +778,9 @@ turn-returns : (t : ℕ) → turn-lts.Need-returns (
   macro-cmd-reads.Learnt,
 ) (turn-at t) turn.Post
 turn-returns t c =
-    let p = c .before .before .before .before .before .before .before .before .before .before .before .before .before .before .before .pre .1 in
-    let h = told-char _ _ _ (sym (c .before .before .before .before .before .before .before .before .stop .given .1)) (p .1 .1 .1 .1) in
-    λ place. step-as (λ g s k. step-char g _ _ _ _ place _ s _ _ (k .gl) (k .gr) (h .1)) (c .before .before .before .before .graphic .ensures)
+    let p = c .before .before .before .before .before .before .before .before .before .before .before .before .before .before .pre .1 in
+    let h = told-char _ _ _ (sym (c .before .before .before .before .before .before .before .enum-told .given .1)) (p .1 .1 .1 .1) in
+    λ place. step-as (λ g s k. step-char g _ _ _ _ place _ s _ _ (k .gl) (k .gr) (h .1)) (c .before .before .before .before .graphic .ensures _ (h .2))
 
 turn-same-length-3 : (t : ℕ) → turn-lts.Need-same-length-3 (
   graphic-below t,
@@ -924,9 +805,9 @@ turn-returns-2 : (t : ℕ) → turn-lts.Need-returns-2 (
   macro-cmd-reads.Learnt,
 ) (turn-at t) turn.Post
 turn-returns-2 t c =
-    let p = c .before .before .before .before .before .before .before .before .before .before .before .before .before .before .before .before .before .pre .1 in
-    let h = told-shift _ _ _ (sym (c .before .before .before .before .before .before .before .before .before .before .stop2 .given .1)) (p .1 .1 .1 .1) in
-    λ place. step-as (λ g s k. step-shift g _ _ _ _ place _ s _ (h .1) ∙ shift-char g _ _ _ _ _ _ s (h .0) (h .2)) (shift-step (c .before .before .before .before .before .before .graphic2 .ensures))
+    let p = c .before .before .before .before .before .before .before .before .before .before .before .before .before .before .before .before .pre .1 in
+    let h = told-shift _ _ _ (sym (c .before .before .before .before .before .before .before .before .before .enum-told2 .given .1)) (p .1 .1 .1 .1) in
+    λ place. step-as (λ g s k. step-shift g _ _ _ _ place _ s _ (h .1) ∙ shift-char g _ _ _ _ _ _ s (h .0) (h .2)) (shift-step (c .before .before .before .before .before .before .graphic2 .ensures _ (h .3)))
 
 turn-same-length-5 : (t : ℕ) → turn-lts.Need-same-length-5 (
   graphic-below t,
@@ -944,7 +825,7 @@ turn-returns-3 : (t : ℕ) → turn-lts.Need-returns-3 (
 ) (turn-at t) turn.Post
 turn-returns-3 t c =
     let p = c .before .before .before .before .before .before .before .before .before .before .before .pre .1 in
-    let h = told-macro _ _ _ (sym (c .before .before .before .before .enum-told .given .1)) (p .1 .1 .1 .1) in
+    let h = told-macro _ _ _ (sym (c .before .before .before .before .enum-told3 .given .1)) (p .1 .1 .1 .1) in
     λ place. step-as (λ g s k. step-macro g _ _ _ _ place _ s (h .1)) (took-ran-by (λ g. below g (c .before .before .before .before .before .before .before .before .before .before .before .args .left)) (p .1 .1 .0 .within) (λ R. c .before .before .macro-cmd .ensures (c .before .before .before .before .before .before .before .before .before .before .before .args .left) R place (c .before .before .before .before .before .before .before .before .before .before .before .args .cells .now) _))
 
 turn-returns-4 : (t : ℕ) → turn-lts.Need-returns-4 (
@@ -953,47 +834,28 @@ turn-returns-4 : (t : ℕ) → turn-lts.Need-returns-4 (
   macro-cmd-reads.Asked,
   macro-cmd-reads.Learnt,
 ) (turn-at t) turn.Post
-turn-returns-4 t c = absurd (omega (arith, told-end _ _ _ (sym (c .enum-told2 .given .1)) (c .before .before .before .before .before .before .before .pre .1 .1 .1 .1 .1), c .before .before .before .before .before .before .before .pre .1 .0 .2))
+turn-returns-4 t c = absurd (omega (arith, told-end _ _ _ (sym (c .enum-told4 .given .1)) (c .before .before .before .before .before .before .before .pre .1 .1 .1 .1 .1), c .before .before .before .before .before .before .before .pre .1 .0 .2))
 
 pub +char1+graphic+run+run-body+run-macro+turn-spec : {M : Type 1} → statement M
 +char1+graphic+run+run-body+run-macro+turn-spec =
-    close μ-char1 μ-graphic μ-run μ-run-body μ-run-macro μ-turn (λ t. char1-lts.spec (
-      run-macro-below t,
-      run-macro.Post,
-      char1-reads.Asked,
-      char1-reads.Learnt,
-    )
+    close μ-char1 μ-graphic μ-run μ-run-body μ-run-macro μ-turn
+    (λ t. char1-lts.spec
+    (run-macro-below t, run-macro.Post)
     (char1-at t)
     char1.Post
     (char1-run-macro-requires t)
-    (char1-char1-requires t)
     (char1-same-length t)
     (char1-same-length-2 t)
-    (char1-returns t)
-    (char1-same-length-3 t)
-    (char1-same-length-4 t)
-    (char1-returns-2 t))
-    (λ t. graphic-lts.spec (
-      two-bytes-reads.Asked,
-      two-bytes-reads.Learnt,
-      graphic2-reads.Asked,
-      graphic2-reads.Learnt,
-      char1-below t,
-      char1.Post,
-    )
+    (char1-returns t))
+    (λ t. graphic-lts.spec
+    (char1-below t, char1.Post)
     (graphic-at t)
     graphic.Post
-    (graphic-element-copy-out-set t)
-    (graphic-two-bytes-requires t)
-    (graphic-graphic2-requires t)
-    (graphic-same-length t)
-    (graphic-same-length-2 t)
-    (graphic-returns t)
     (graphic-shared-slice-read-char1 t)
     (graphic-char1-requires t)
-    (graphic-same-length-3 t)
-    (graphic-same-length-4 t)
-    (graphic-returns-2 t))
+    (graphic-same-length t)
+    (graphic-same-length-2 t)
+    (graphic-returns t))
     (λ t. run-lts.spec
     (plain-reads.Asked, plain-reads.Learnt, turn-below t, turn.Post)
     (run-at t)
@@ -1071,15 +933,15 @@ pub +char1+graphic+run+run-body+run-macro+turn-spec : {M : Type 1} → statement
     (graphic-below t, graphic.Post, macro-cmd-reads.Asked, macro-cmd-reads.Learnt)
     (turn-at t)
     turn.Post
-    (turn-enum-known-stop t)
+    (turn-enum-told t)
     (turn-graphic-requires t)
-    (turn-enum-known-stop-2 t)
+    (turn-enum-told-2 t)
     (turn-add-graphic t)
     (turn-graphic-requires-2 t)
-    (turn-add-t22 t)
-    (turn-enum-told t)
+    (turn-add-t20 t)
+    (turn-enum-told-3 t)
     (turn-macro-cmd-requires t)
-    (turn-enum-told-2 t)
+    (turn-enum-told-4 t)
     (turn-same-length t)
     (turn-same-length-2 t)
     (turn-returns t)

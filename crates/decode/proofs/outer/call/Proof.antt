@@ -20,7 +20,7 @@ same-length-2 : tie.Need-same-length-2
 same-length-2 c = search needs
 
 returns : tie.Need-returns
-returns c = outer-with _ _ _ _ _ _ _ _ _ (c .with-core .ensures) (ran-outer (c .before .before .before .before .before .before .before .before .before .before .before .before .before .before .before .before .before .pre .1 .0) (c .before .before .before .before .before .before .graphic .ensures))
+returns c = λ e q. outer-with _ _ _ _ _ _ _ _ _ (c .with-core .ensures) (ran-outer (c .before .before .before .before .before .before .before .before .before .before .before .before .before .before .before .before .before .pre .1 .0) (c .before .before .before .before .before .before .graphic .ensures e q))
 
 pub call-spec : {M : Type 1} → statement M
 call-spec =

@@ -8,7 +8,7 @@ use Rattle.decode.proofs.outer.top.Tie as tie
 use Rattle.decode.proofs.outer.top.Reads as reads
 use Rattle.decode.proofs.outer.top.Lts as lts
 use Rattle.decode.proofs.outer.step.Reads as step-reads
-use Rattle.plain.proofs.plain.Reads as plain-reads
+use Rattle.plain.proofs.steps.Reads as steps-reads
 
 abbrev Inv-loop : tie.InvT-loop
 Inv-loop cells input text₀ issues₀ d₀ i₀ text issues d i = Above cells input d₀ text₀ issues₀ i d text issues
@@ -19,8 +19,8 @@ abbrev μ-loop : tie.MeasureT-loop
 loop-holds : tie.Need-loop-holds Inv-loop μ-loop
 loop-holds c = above-start _ _ _ _ _ (c .before .before .before .before .pre .1 .1) (c .before .before .before .before .pre .1 .0)
 
-plain-requires : tie.Need-plain-requires Inv-loop μ-loop
-plain-requires c κs = ((c .before .before .before .loop .inv .within, c .before .before .before .before .before .before .before .before .pre .0, omega arith), ready-good (ready-left (c .before .before .before .before .before .before .before .before .pre .1 .1) (c .before .before .before .loop .inv .within) (c .before .before .before .loop .inv .grown)))
+steps-requires : tie.Need-steps-requires Inv-loop μ-loop
+steps-requires c κs = ((c .before .before .before .loop .inv .within, c .before .before .before .before .before .before .before .before .pre .0, omega arith), ready-good (ready-left (c .before .before .before .before .before .before .before .before .pre .1 .1) (c .before .before .before .loop .inv .within) (c .before .before .before .loop .inv .grown)))
 
 same-length : tie.Need-same-length Inv-loop μ-loop
 same-length c = search needs
@@ -29,21 +29,21 @@ same-length-2 : tie.Need-same-length-2 Inv-loop μ-loop
 same-length-2 c = search needs
 
 returns : tie.Need-returns Inv-loop μ-loop
-returns c = above-end _ _ _ _ _ _ _ _ _ (above-stretch _ _ _ _ _ _ _ _ _ (c .before .before .before .before .before .before .before .before .before .before .loop .inv) (c .before .before .before .before .before .before .plain .result .at) (c .before .before .before .before .before .before .plain .result .core) _ _ (c .before .before .before .before .before .before .plain .ensures .stretch) (c .before .before .before .before .before .before .plain .kept .1 .1 .1 .1 .1 .1 .0) (c .before .before .before .before .before .before .plain .kept .1 .1 .1 .1 .1 .1 .1 .0)) (c .if1 .taken)
+returns c = above-end _ _ _ _ _ _ _ _ _ (above-stretch _ _ _ _ _ _ _ _ _ (c .before .before .before .before .before .before .before .before .before .before .loop .inv) (c .before .before .before .before .before .before .steps .result .at) (c .before .before .before .before .before .before .steps .result .core) _ _ (c .before .before .before .before .before .before .steps .ensures .stretch) (c .before .before .before .before .before .before .steps .kept .1 .1 .1 .1 .1 .1 .0) (c .before .before .before .before .before .before .steps .kept .1 .1 .1 .1 .1 .1 .1 .0)) (c .if1 .taken)
 
 step-requires : tie.Need-step-requires Inv-loop μ-loop
 step-requires c κs =
-    let w = (above-stretch _ _ _ _ _ _ _ _ _ (c .before .before .before .before .before .before .before .before .before .before .before .before .loop .inv) (c .before .before .before .before .before .before .before .before .plain .result .at) (c .before .before .before .before .before .before .before .before .plain .result .core) _ _ (c .before .before .before .before .before .before .before .before .plain .ensures .stretch) (c .before .before .before .before .before .before .before .before .plain .kept .1 .1 .1 .1 .1 .1 .0) (c .before .before .before .before .before .before .before .before .plain .kept .1 .1 .1 .1 .1 .1 .1 .0)) in
-    ((c .before .before .before .before .before .before .before .before .before .before .before .before .before .before .before .before .before .pre .0, c .before .before .if1 .left), (w .inside, (ready-less (ready-left (c .before .before .before .before .before .before .before .before .before .before .before .before .before .before .before .before .before .pre .1 .1) (w .within) (w .grown)) (omega (arith, c .before .before .if1 .left)), c .before .before .before .before .before .before .before .before .plain .ensures .stop)))
+    let w = (above-stretch _ _ _ _ _ _ _ _ _ (c .before .before .before .before .before .before .before .before .before .before .before .before .loop .inv) (c .before .before .before .before .before .before .before .before .steps .result .at) (c .before .before .before .before .before .before .before .before .steps .result .core) _ _ (c .before .before .before .before .before .before .before .before .steps .ensures .stretch) (c .before .before .before .before .before .before .before .before .steps .kept .1 .1 .1 .1 .1 .1 .0) (c .before .before .before .before .before .before .before .before .steps .kept .1 .1 .1 .1 .1 .1 .1 .0)) in
+    ((c .before .before .before .before .before .before .before .before .before .before .before .before .before .before .before .before .before .pre .0, c .before .before .if1 .left), (w .inside, (ready-less (ready-left (c .before .before .before .before .before .before .before .before .before .before .before .before .before .before .before .before .before .pre .1 .1) (w .within) (w .grown)) (omega (arith, c .before .before .if1 .left)), c .before .before .before .before .before .before .before .before .steps .ensures .stop)))
 
 add-i : tie.Need-add-i Inv-loop μ-loop
 add-i c = omega (arith, c .before .before .before .before .before .before .step .ensures .most, c .before .before .before .before .before .before .before .before .before .before .before .before .before .before .before .before .before .before .before .before .before .before .before .before .pre .0)
 
 loop-less : tie.Need-loop-less Inv-loop μ-loop
-loop-less c = omega (arith, c .before .before .before .before .before .before .step .ensures .some, c .before .before .before .before .before .before .step .ensures .most, c .before .before .before .before .before .before .before .before .before .before .before .before .before .before .before .plain .ensures .stretch .past, c .before .before .before .before .before .before .before .before .before .if1 .left)
+loop-less c = omega (arith, c .before .before .before .before .before .before .step .ensures .some, c .before .before .before .before .before .before .step .ensures .most, c .before .before .before .before .before .before .before .before .before .before .before .before .before .before .before .steps .ensures .stretch .past, c .before .before .before .before .before .before .before .before .before .if1 .left)
 
 loop-again : tie.Need-loop-again Inv-loop μ-loop
-loop-again c = above-step _ _ _ _ _ _ _ _ _ (above-stretch _ _ _ _ _ _ _ _ _ (c .before .before .before .before .before .before .before .before .before .before .before .before .before .before .before .before .before .before .before .loop .inv) (c .before .before .before .before .before .before .before .before .before .before .before .before .before .before .before .plain .result .at) (c .before .before .before .before .before .before .before .before .before .before .before .before .before .before .before .plain .result .core) _ _ (c .before .before .before .before .before .before .before .before .before .before .before .before .before .before .before .plain .ensures .stretch) (c .before .before .before .before .before .before .before .before .before .before .before .before .before .before .before .plain .kept .1 .1 .1 .1 .1 .1 .0) (c .before .before .before .before .before .before .before .before .before .before .before .before .before .before .before .plain .kept .1 .1 .1 .1 .1 .1 .1 .0)) (c .before .before .before .before .before .before .step .result) _ _ (c .before .before .before .before .before .before .before .before .before .if1 .left) (c .before .before .before .before .before .before .step .ensures) (c .before .before .before .before .before .before .step .kept .1 .1 .1 .1 .1 .0) (c .before .before .before .before .before .before .step .kept .1 .1 .1 .1 .1 .1 .0)
+loop-again c = above-step _ _ _ _ _ _ _ _ _ (above-stretch _ _ _ _ _ _ _ _ _ (c .before .before .before .before .before .before .before .before .before .before .before .before .before .before .before .before .before .before .before .loop .inv) (c .before .before .before .before .before .before .before .before .before .before .before .before .before .before .before .steps .result .at) (c .before .before .before .before .before .before .before .before .before .before .before .before .before .before .before .steps .result .core) _ _ (c .before .before .before .before .before .before .before .before .before .before .before .before .before .before .before .steps .ensures .stretch) (c .before .before .before .before .before .before .before .before .before .before .before .before .before .before .before .steps .kept .1 .1 .1 .1 .1 .1 .0) (c .before .before .before .before .before .before .before .before .before .before .before .before .before .before .before .steps .kept .1 .1 .1 .1 .1 .1 .1 .0)) (c .before .before .before .before .before .before .step .result) _ _ (c .before .before .before .before .before .before .before .before .before .if1 .left) (c .before .before .before .before .before .before .step .ensures) (c .before .before .before .before .before .before .step .kept .1 .1 .1 .1 .1 .0) (c .before .before .before .before .before .before .step .kept .1 .1 .1 .1 .1 .1 .0)
 
 pub top-spec : {M : Type 1} → statement M
 top-spec =
@@ -52,7 +52,7 @@ top-spec =
     Inv-loop
     μ-loop
     loop-holds
-    plain-requires
+    steps-requires
     same-length
     same-length-2
     returns
