@@ -42,6 +42,10 @@ impl Subject for Faulty {
     fn key(&self, _: Call, _: &mut [u8], _: &mut [usize]) -> u32 {
         unreachable!("no key is made here")
     }
+
+    fn key_checked(&self, asked: Asked, key: &mut [u8], counts: &mut [usize]) -> u32 {
+        self.key(asked.call(), key, counts)
+    }
 }
 
 /// A text in these rooms.

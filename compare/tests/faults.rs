@@ -38,6 +38,10 @@ impl Subject for Faulty {
         (self.0)(&mut Lent { text: key, issues: &mut [], counts }, &mut refusal);
         refusal
     }
+
+    fn key_checked(&self, asked: Asked, key: &mut [u8], counts: &mut [usize]) -> u32 {
+        self.key(asked.call(), key, counts)
+    }
 }
 
 /// あ, Truncated at 0; room for 10 bytes and 7 numbers.
@@ -95,7 +99,10 @@ fn key(fault: fn(&mut Lent, &mut u32), input: &[u8], room: usize) -> Option<Stri
     let mut holder = Holder::new(&subject);
     let call = Call { cells: &cells, initial: 0, width: 1, input };
     holder.read(call);
-    holder.key(call, room).err().map(|difference| difference.to_string())
+    let difference = holder.key(call, room).err().map(|difference| difference.to_string());
+    let checked = holder.key_checked(call.asked().unwrap(), room).err();
+    assert_eq!(checked.map(|difference| difference.to_string()), difference);
+    difference
 }
 
 const SPACED: [u8; 3] = [0xA2, 0x20, 0xA4];
