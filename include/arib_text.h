@@ -80,13 +80,6 @@ uint32_t arib_decode(const uint16_t *cells, size_t cells_len, uint32_t initial, 
                      const uint8_t *input, size_t input_len, uint8_t *text, size_t text_len,
                      uint32_t *issues, size_t issues_len, size_t *counts, size_t counts_len);
 
-/* The same without questions 1 to 3, for many strings with one table: only where arib_decode would
- * not answer 1, 2 or 3. With other arguments nothing is promised. */
-uint32_t arib_decode_checked(const uint16_t *cells, size_t cells_len, uint32_t initial,
-                             uint32_t width, const uint8_t *input, size_t input_len, uint8_t *text,
-                             size_t text_len, uint32_t *issues, size_t issues_len, size_t *counts,
-                             size_t counts_len);
-
 /* The bytes of an unknown escape, by the fields of its issue, as a part of the input. part: start,
  * length. A start and length that leave the input get the empty part at its beginning. Answers the
  * part's length; puts no question. */
@@ -106,12 +99,6 @@ uint32_t arib_encode(const uint16_t *cells, size_t cells_len, uint32_t initial, 
 uint32_t arib_key(const uint16_t *cells, size_t cells_len, uint32_t initial, uint32_t width,
                   const uint8_t *input, size_t input_len, uint8_t *key, size_t key_len,
                   size_t *counts, size_t counts_len);
-
-/* The same without questions 1 to 3, for many titles with one table: only where arib_key would not
- * answer 1, 2 or 3. With other arguments nothing is promised. */
-uint32_t arib_key_checked(const uint16_t *cells, size_t cells_len, uint32_t initial, uint32_t width,
-                          const uint8_t *input, size_t input_len, uint8_t *key, size_t key_len,
-                          size_t *counts, size_t counts_len);
 
 #ifdef __cplusplus
 }

@@ -6,7 +6,7 @@ mod key;
 use oracle::options::Options;
 use oracle::reading;
 
-use crate::call::{Asked, Call, Rooms};
+use crate::call::{Call, Rooms};
 use crate::difference::Difference;
 use crate::lent::{Answer, Buffers};
 use crate::model::Reading;
@@ -77,12 +77,6 @@ impl<'a> Holder<'a> {
     pub fn run(&mut self, call: Call, rooms: Rooms) -> Held {
         let refusal = self.subject.decode(call, self.buffers.lend(rooms));
         self.look(call, rooms, refusal, rooms.questions(&self.reading))
-    }
-
-    /// `arib_decode_checked` with these rooms, after a reading.
-    pub fn run_checked(&mut self, asked: Asked, rooms: Rooms) -> Held {
-        let refusal = self.subject.decode_checked(asked, self.buffers.lend(rooms));
-        self.look(asked.call(), rooms, refusal, rooms.questions(&self.reading))
     }
 
     /// `arib_decode` and `arib_key` on a call that one of questions 1 to 3 refuses with this

@@ -5,7 +5,7 @@ mod standin;
 #[cfg(feature = "library")]
 mod library;
 
-use crate::call::{Asked, Call};
+use crate::call::Call;
 
 /// The buffers lent to a call. The counts are place, text bytes, issues and charge.
 pub struct Lent<'a> {
@@ -26,9 +26,6 @@ pub trait Subject: Sync {
     /// `arib_decode`: the refusal's number, or 0.
     fn decode(&self, call: Call, lent: Lent) -> u32;
 
-    /// `arib_decode_checked`: the same where questions 1 to 3 were put before.
-    fn decode_checked(&self, asked: Asked, lent: Lent) -> u32;
-
     /// `arib_unknown_escape`: the length, and the part's offset and length.
     fn unknown_escape(&self, input: &[u8], start: usize, length: usize) -> (usize, [usize; 2]);
 
@@ -38,9 +35,6 @@ pub trait Subject: Sync {
     /// `arib_key`: the refusal's number, or 0. The first three counts are place, length and
     /// charge.
     fn key(&self, call: Call, key: &mut [u8], counts: &mut [usize]) -> u32;
-
-    /// `arib_key_checked`: the same where questions 1 to 3 were put before.
-    fn key_checked(&self, asked: Asked, key: &mut [u8], counts: &mut [usize]) -> u32;
 }
 
 /// The subject of that name, `library` or `model`; with none, the library where it is linked.

@@ -1,6 +1,6 @@
 //! A subject with a fault in its coding is found out.
 
-use compare::call::{Asked, Call, CodingRooms};
+use compare::call::{Call, CodingRooms};
 use compare::cells;
 use compare::encode::hold::Holder;
 use compare::subject::{self, CodingLent, Lent, Subject};
@@ -24,10 +24,6 @@ impl Subject for Faulty {
         model().decode(Call { input, ..call }, lent)
     }
 
-    fn decode_checked(&self, asked: Asked, lent: Lent) -> u32 {
-        self.decode(asked.call(), lent)
-    }
-
     fn unknown_escape(&self, input: &[u8], start: usize, length: usize) -> (usize, [usize; 2]) {
         model().unknown_escape(input, start, length)
     }
@@ -41,10 +37,6 @@ impl Subject for Faulty {
 
     fn key(&self, _: Call, _: &mut [u8], _: &mut [usize]) -> u32 {
         unreachable!("no key is made here")
-    }
-
-    fn key_checked(&self, asked: Asked, key: &mut [u8], counts: &mut [usize]) -> u32 {
-        self.key(asked.call(), key, counts)
     }
 }
 

@@ -1,6 +1,6 @@
 //! A subject with a fault is found out.
 
-use compare::call::{Asked, Call, Rooms};
+use compare::call::{Call, Rooms};
 use compare::cells;
 use compare::hold::Holder;
 use compare::subject::{self, CodingLent, Lent, Subject};
@@ -20,10 +20,6 @@ impl Subject for Faulty {
         refusal
     }
 
-    fn decode_checked(&self, asked: Asked, lent: Lent) -> u32 {
-        self.decode(asked.call(), lent)
-    }
-
     fn unknown_escape(&self, _: &[u8], _: usize, _: usize) -> (usize, [usize; 2]) {
         (0, [0, 0])
     }
@@ -37,10 +33,6 @@ impl Subject for Faulty {
         let counts = counts.try_into().unwrap();
         (self.0)(&mut Lent { text: key, issues: &mut [], counts }, &mut refusal);
         refusal
-    }
-
-    fn key_checked(&self, asked: Asked, key: &mut [u8], counts: &mut [usize]) -> u32 {
-        self.key(asked.call(), key, counts)
     }
 }
 
@@ -99,10 +91,7 @@ fn key(fault: fn(&mut Lent, &mut u32), input: &[u8], room: usize) -> Option<Stri
     let mut holder = Holder::new(&subject);
     let call = Call { cells: &cells, initial: 0, width: 1, input };
     holder.read(call);
-    let difference = holder.key(call, room).err().map(|difference| difference.to_string());
-    let checked = holder.key_checked(call.asked().unwrap(), room).err();
-    assert_eq!(checked.map(|difference| difference.to_string()), difference);
-    difference
+    holder.key(call, room).err().map(|difference| difference.to_string())
 }
 
 const SPACED: [u8; 3] = [0xA2, 0x20, 0xA4];

@@ -131,16 +131,10 @@ pub fn decode_with(bytes: &[u8], opts: &DecodeOptions) -> Decoded {
 /// assert_eq!(refused.number, 3);
 /// ```
 pub fn try_decode_with(bytes: &[u8], opts: &DecodeOptions) -> Result<Decoded, Refused> {
-    if bytes.len() > 65_535 {
-        return Err(Refused {
-            number: 3,
-            place: 0,
-        });
-    }
     let mut text = vec![0; 4 * bytes.len() + 64];
     let mut issues = vec![0; 4 * 16];
     loop {
-        let answer = ffi::decode_checked(&CELLS, opts.numbers(), bytes, &mut text, &mut issues);
+        let answer = ffi::decode(&CELLS, opts.numbers(), bytes, &mut text, &mut issues);
         let [_, length, count, _] = answer.counts;
         match answer.number {
             0 => {

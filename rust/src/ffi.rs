@@ -7,7 +7,7 @@ pub struct Answer<const N: usize> {
 }
 
 unsafe extern "C" {
-    fn arib_decode_checked(
+    fn arib_decode(
         cells: *const u16,
         cells_len: usize,
         initial: u32,
@@ -37,7 +37,7 @@ unsafe extern "C" {
         counts_len: usize,
     ) -> u32;
 
-    fn arib_key_checked(
+    fn arib_key(
         cells: *const u16,
         cells_len: usize,
         initial: u32,
@@ -58,20 +58,18 @@ pub struct Options {
     pub width: u32,
 }
 
-/// Counts: place, bytes of text, issues, charge. `cells` passes question 1, and `input` has at most
-/// 65,535 bytes.
-pub fn decode_checked(
+/// Counts: place, bytes of text, issues, charge.
+pub fn decode(
     cells: &[u16],
     options: Options,
     input: &[u8],
     text: &mut [u8],
     issues: &mut [u32],
 ) -> Answer<4> {
-    assert!(options.initial < 2 && options.width < 2 && input.len() <= 65_535);
     let mut counts = [0; 4];
     // SAFETY: each pointer comes with the length of its slice, and no two slices overlap.
     let number = unsafe {
-        arib_decode_checked(
+        arib_decode(
             cells.as_ptr(),
             cells.len(),
             options.initial,
@@ -118,14 +116,12 @@ pub fn encode(
     Answer { number, counts }
 }
 
-/// Counts: place, bytes of the key, charge. `cells` passes question 1, and `input` has at most 65,535
-/// bytes.
-pub fn key_checked(cells: &[u16], options: Options, input: &[u8], key: &mut [u8]) -> Answer<3> {
-    assert!(options.initial < 2 && options.width < 2 && input.len() <= 65_535);
+/// Counts: place, bytes of the key, charge.
+pub fn key(cells: &[u16], options: Options, input: &[u8], key: &mut [u8]) -> Answer<3> {
     let mut counts = [0; 3];
     // SAFETY: each pointer comes with the length of its slice, and no two slices overlap.
     let number = unsafe {
-        arib_key_checked(
+        arib_key(
             cells.as_ptr(),
             cells.len(),
             options.initial,

@@ -14,15 +14,9 @@ use crate::ffi;
 /// assert_eq!(key_with(&[0x24, 0xA2], &options).unwrap_err().number, 10);
 /// ```
 pub fn key_with(bytes: &[u8], opts: &DecodeOptions) -> Result<String, Refused> {
-    if bytes.len() > 65_535 {
-        return Err(Refused {
-            number: 3,
-            place: 0,
-        });
-    }
     let mut key = vec![0; 4 * bytes.len() + 64];
     loop {
-        let answer = ffi::key_checked(&CELLS, opts.numbers(), bytes, &mut key);
+        let answer = ffi::key(&CELLS, opts.numbers(), bytes, &mut key);
         match answer.number {
             0 => {
                 key.truncate(answer.counts[1]);

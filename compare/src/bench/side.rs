@@ -6,7 +6,7 @@ use isdb_text::decode_with;
 use oracle::options::Options;
 
 use super::Case;
-use crate::call::{Asked, Call};
+use crate::call::Call;
 use crate::subject::{Lent, Subject};
 
 /// Who decodes.
@@ -14,10 +14,10 @@ use crate::subject::{Lent, Subject};
 pub enum Side {
     /// `isdb_text::decode_with`.
     Rust,
-    /// `arib_decode_checked`.
+    /// `arib_decode`, question 1 included.
     Subject,
-    /// `arib_decode`, with questions 1 to 3.
-    Questions,
+    /// `arib_decode` with no buffers and an option that question 2 refuses: question 1 alone.
+    Question,
 }
 
 impl Side {
@@ -25,7 +25,7 @@ impl Side {
         match name {
             "rust" => Some(Side::Rust),
             "subject" => Some(Side::Subject),
-            "questions" => Some(Side::Questions),
+            "question" => Some(Side::Question),
             _ => None,
         }
     }
@@ -45,17 +45,20 @@ impl Side {
             let decode = move |input: &Vec<u8>| drop(black_box(decode_with(input, &options)));
             return Box::new(move || inputs.iter().for_each(decode));
         }
-        let asked = |input| Call { cells, initial, width, input }.asked().expect("served");
-        let calls: Vec<Asked> = inputs.iter().map(|input| asked(input)).collect();
+        if self == Side::Question {
+            let call = Call { cells, initial: 2, width, input: &[] };
+            return Box::new(move || {
+                for _ in inputs {
+                    let lent = Lent { text: &mut [], issues: &mut [], counts: &mut [0; 4] };
+                    assert_eq!(subject.decode(call, lent), 2);
+                }
+            });
+        }
         let (mut text, mut issues) = (vec![0; case.rooms.text], vec![0; case.rooms.issues]);
         Box::new(move || {
-            for &asked in &calls {
+            for input in inputs {
                 let lent = Lent { text: &mut text, issues: &mut issues, counts: &mut [0; 4] };
-                let refusal = match self {
-                    Side::Questions => subject.decode(asked.call(), lent),
-                    _ => subject.decode_checked(asked, lent),
-                };
-                assert_eq!(refusal, 0);
+                assert_eq!(subject.decode(Call { cells, initial, width, input }, lent), 0);
             }
         })
     }

@@ -15,36 +15,42 @@ const LEAST: f64 = 0.02;
 /// Measures all cases, the sides in turn, and prints a line for each.
 pub fn print(subject: &dyn Subject) {
     let cells = cells::rusts();
+    let question = question(subject, &cells);
     println!("nanoseconds a call, medians of {SAMPLES}");
     line(["case", "calls", "bytes", "text room", "issue room", "rust", "subject", "ratio"]);
-    CASES.iter().for_each(|case| decoding(subject, &cells, case));
-    KEYS.iter().for_each(|case| keys(subject, &cells, case));
+    line(["question-1", "-", "-", "-", "-", "-", &format!("{question:.0}"), "-"]);
+    CASES.iter().for_each(|case| decoding(subject, &cells, case, question));
+    KEYS.iter().for_each(|case| keys(subject, &cells, case, question));
     line(["case", "calls", "bytes", "store", "coding room", "rust", "subject", "ratio"]);
     CODING.iter().for_each(|case| coding(subject, &cells, case));
 }
 
-fn decoding(subject: &dyn Subject, cells: &[u16], case: &Case) {
+/// Question 1 alone. It is taken off the rows of decoding and of keys.
+fn question(subject: &dyn Subject, cells: &[u16]) -> f64 {
+    let case = &CASES[0];
+    let inputs = (case.inputs)();
+    let [question] = times([Side::Question.runner(subject, cells, case, &inputs)], inputs.len());
+    question
+}
+
+fn decoding(subject: &dyn Subject, cells: &[u16], case: &Case, question: f64) {
     let inputs = (case.inputs)();
     let calls = inputs.len();
-    let sides = [Side::Rust, Side::Subject, Side::Questions];
-    let runners = sides.map(|side| side.runner(subject, cells, case, &inputs));
-    let [rust, own, with] = times(runners, calls);
+    let runners =
+        [Side::Rust, Side::Subject].map(|side| side.runner(subject, cells, case, &inputs));
+    let [rust, own] = times(runners, calls);
     let bytes = inputs.iter().map(Vec::len).sum::<usize>() / calls;
-    row(case.name, [calls, bytes, case.rooms.text, case.rooms.issues], rust, own);
-    if case.name == "titles" {
-        let question = format!("{:.0}", with - own);
-        line(["question-1", &calls.to_string(), "-", "-", "-", "-", &question, "-"]);
-    }
+    row(case.name, [calls, bytes, case.rooms.text, case.rooms.issues], rust, own - question);
 }
 
 /// No issues are lent.
-fn keys(subject: &dyn Subject, cells: &[u16], case: &Case) {
+fn keys(subject: &dyn Subject, cells: &[u16], case: &Case, question: f64) {
     let inputs = (case.inputs)();
     let calls = inputs.len();
     let runners = [Side::Rust, Side::Subject].map(|side| case.keys(side, subject, cells, &inputs));
     let [rust, own] = times(runners, calls);
     let bytes = inputs.iter().map(Vec::len).sum::<usize>() / calls;
-    row(case.name, [calls, bytes, case.rooms.text, 0], rust, own);
+    row(case.name, [calls, bytes, case.rooms.text, 0], rust, own - question);
 }
 
 fn coding(subject: &dyn Subject, cells: &[u16], case: &CodingCase) {

@@ -20,7 +20,7 @@ pub fn random(runs: &Runs) -> Found {
         for (n, asked) in calls.into_iter().enumerate() {
             let asked = asked.with(&input).expect("some thousand bytes at most");
             holder.read_both(asked.call())?;
-            holder.run_checked(asked, ample(holder, &mut random))?;
+            holder.run(asked.call(), ample(holder, &mut random))?;
             if n == tight {
                 all_rooms(holder, asked.call())?;
             }

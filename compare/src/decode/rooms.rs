@@ -32,11 +32,9 @@ pub fn all_rooms(holder: &mut Holder, call: Call) -> Held {
     key_rooms(holder, call)
 }
 
-/// `arib_key` in a buffer for the text before removal: one byte less, exactly full, with more. Then
-/// `arib_key_checked` where it is full.
+/// `arib_key` in a buffer for the text before removal: one byte less, exactly full, with more.
 pub fn key_rooms(holder: &mut Holder, call: Call) -> Held {
     let text = holder.reading().text.len();
     let less = text.checked_sub(1).into_iter();
-    less.chain([text, text + 5]).try_for_each(|room| holder.key(call, room))?;
-    call.asked().map_or(Ok(()), |asked| holder.key_checked(asked, text))
+    less.chain([text, text + 5]).try_for_each(|room| holder.key(call, room))
 }

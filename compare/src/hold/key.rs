@@ -1,7 +1,7 @@
-//! One call of `arib_key` or `arib_key_checked` held against the last reading.
+//! One call of `arib_key` held against the last reading.
 
 use super::{Held, Holder};
-use crate::call::{Asked, Call, Rooms};
+use crate::call::{Call, Rooms};
 use crate::difference::{Difference, digits};
 use crate::key;
 
@@ -11,23 +11,11 @@ impl Holder<'_> {
         self.key_answer(call, room, key::questions(room, &self.reading))
     }
 
-    /// The same of `arib_key_checked`.
-    pub fn key_checked(&mut self, asked: Asked, room: usize) -> Held {
-        let lent = self.buffers.lend(Rooms { text: room, issues: 0 });
-        let refusal = self.subject.key_checked(asked, lent.text, lent.counts);
-        self.key_held(asked.call(), room, key::questions(room, &self.reading), refusal)
-    }
-
     /// `arib_key` refuses with this number, or gives the key and the charge where it is 0.
     pub(super) fn key_answer(&mut self, call: Call, room: usize, number: u32) -> Held {
+        self.tally.keys[number as usize] += 1;
         let lent = self.buffers.lend(Rooms { text: room, issues: 0 });
         let refusal = self.subject.key(call, lent.text, lent.counts);
-        self.key_held(call, room, number, refusal)
-    }
-
-    /// What a call refused, and left in the buffer and the counts.
-    fn key_held(&mut self, call: Call, room: usize, number: u32, refusal: u32) -> Held {
-        self.tally.keys[number as usize] += 1;
         let (key, charge) = key::of(number, &self.reading);
         let Some(what) = self.buffers.key_fault(refusal, number, key.as_bytes(), charge) else {
             return Ok(());

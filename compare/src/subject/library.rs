@@ -2,62 +2,24 @@
 //! pointer and length.
 
 use super::{CodingLent, Lent, Subject};
-use crate::call::{Asked, Call};
-
-/// Declares functions with the arguments of decoding, or of keys.
-macro_rules! reading {
-    ($($name:ident ($($buffer:ident $len:ident: $type:ty),*))*) => {
-        unsafe extern "C" {
-            $(fn $name(
-                cells: *const u16,
-                cells_len: usize,
-                initial: u32,
-                width: u32,
-                input: *const u8,
-                input_len: usize,
-                $($buffer: *mut $type,
-                $len: usize,)*
-            ) -> u32;)*
-        }
-    };
-}
-
-reading! {
-    arib_decode(text text_len: u8, issues issues_len: u32, counts counts_len: usize)
-    arib_decode_checked(text text_len: u8, issues issues_len: u32, counts counts_len: usize)
-    arib_key(key key_len: u8, counts counts_len: usize)
-    arib_key_checked(key key_len: u8, counts counts_len: usize)
-}
-
-/// The types of both.
-type Decode = unsafe extern "C" fn(
-    *const u16,
-    usize,
-    u32,
-    u32,
-    *const u8,
-    usize,
-    *mut u8,
-    usize,
-    *mut u32,
-    usize,
-    *mut usize,
-    usize,
-) -> u32;
-type Key = unsafe extern "C" fn(
-    *const u16,
-    usize,
-    u32,
-    u32,
-    *const u8,
-    usize,
-    *mut u8,
-    usize,
-    *mut usize,
-    usize,
-) -> u32;
+use crate::call::Call;
 
 unsafe extern "C" {
+    fn arib_decode(
+        cells: *const u16,
+        cells_len: usize,
+        initial: u32,
+        width: u32,
+        input: *const u8,
+        input_len: usize,
+        text: *mut u8,
+        text_len: usize,
+        issues: *mut u32,
+        issues_len: usize,
+        counts: *mut usize,
+        counts_len: usize,
+    ) -> u32;
+
     fn arib_unknown_escape(
         input: *const u8,
         input_len: usize,
@@ -66,9 +28,7 @@ unsafe extern "C" {
         part: *mut usize,
         part_len: usize,
     ) -> usize;
-}
 
-unsafe extern "C" {
     fn arib_encode(
         cells: *const u16,
         cells_len: usize,
@@ -83,17 +43,42 @@ unsafe extern "C" {
         counts: *mut usize,
         counts_len: usize,
     ) -> u32;
+
+    fn arib_key(
+        cells: *const u16,
+        cells_len: usize,
+        initial: u32,
+        width: u32,
+        input: *const u8,
+        input_len: usize,
+        key: *mut u8,
+        key_len: usize,
+        counts: *mut usize,
+        counts_len: usize,
+    ) -> u32;
 }
 
 pub struct Library;
 
 impl Subject for Library {
     fn decode(&self, call: Call, lent: Lent) -> u32 {
-        run(arib_decode, call, lent)
-    }
-
-    fn decode_checked(&self, asked: Asked, lent: Lent) -> u32 {
-        run(arib_decode_checked, asked.call(), lent)
+        // SAFETY: each pointer comes with the length of its slice, and no two slices overlap.
+        unsafe {
+            arib_decode(
+                call.cells.as_ptr(),
+                call.cells.len(),
+                call.initial,
+                call.width,
+                call.input.as_ptr(),
+                call.input.len(),
+                lent.text.as_mut_ptr(),
+                lent.text.len(),
+                lent.issues.as_mut_ptr(),
+                lent.issues.len(),
+                lent.counts.as_mut_ptr(),
+                lent.counts.len(),
+            )
+        }
     }
 
     fn unknown_escape(&self, input: &[u8], start: usize, length: usize) -> (usize, [usize; 2]) {
@@ -126,48 +111,20 @@ impl Subject for Library {
     }
 
     fn key(&self, call: Call, key: &mut [u8], counts: &mut [usize]) -> u32 {
-        run_key(arib_key, call, key, counts)
-    }
-
-    fn key_checked(&self, asked: Asked, key: &mut [u8], counts: &mut [usize]) -> u32 {
-        run_key(arib_key_checked, asked.call(), key, counts)
-    }
-}
-
-fn run_key(function: Key, call: Call, key: &mut [u8], counts: &mut [usize]) -> u32 {
-    // SAFETY: each pointer comes with the length of its slice, and no two slices overlap.
-    unsafe {
-        function(
-            call.cells.as_ptr(),
-            call.cells.len(),
-            call.initial,
-            call.width,
-            call.input.as_ptr(),
-            call.input.len(),
-            key.as_mut_ptr(),
-            key.len(),
-            counts.as_mut_ptr(),
-            counts.len(),
-        )
-    }
-}
-
-fn run(decode: Decode, call: Call, lent: Lent) -> u32 {
-    // SAFETY: each pointer comes with the length of its slice, and no two slices overlap.
-    unsafe {
-        decode(
-            call.cells.as_ptr(),
-            call.cells.len(),
-            call.initial,
-            call.width,
-            call.input.as_ptr(),
-            call.input.len(),
-            lent.text.as_mut_ptr(),
-            lent.text.len(),
-            lent.issues.as_mut_ptr(),
-            lent.issues.len(),
-            lent.counts.as_mut_ptr(),
-            lent.counts.len(),
-        )
+        // SAFETY: each pointer comes with the length of its slice, and no two slices overlap.
+        unsafe {
+            arib_key(
+                call.cells.as_ptr(),
+                call.cells.len(),
+                call.initial,
+                call.width,
+                call.input.as_ptr(),
+                call.input.len(),
+                key.as_mut_ptr(),
+                key.len(),
+                counts.as_mut_ptr(),
+                counts.len(),
+            )
+        }
     }
 }

@@ -5,7 +5,7 @@ use std::cell::RefCell;
 use oracle::coding::Refusal;
 
 use super::{CodingLent, Lent, Subject};
-use crate::call::{Asked, Call, CodingRooms, Rooms};
+use crate::call::{Call, CodingRooms, Rooms};
 use crate::coding::{Coder, Coding};
 use crate::key;
 use crate::model::Reading;
@@ -18,10 +18,6 @@ impl Subject for StandIn {
             0 => read(call, lent),
             number => refuse(number, lent),
         }
-    }
-
-    fn decode_checked(&self, asked: Asked, lent: Lent) -> u32 {
-        read(asked.call(), lent)
     }
 
     fn unknown_escape(&self, input: &[u8], start: usize, length: usize) -> (usize, [usize; 2]) {
@@ -38,25 +34,18 @@ impl Subject for StandIn {
     }
 
     fn key(&self, call: Call, buffer: &mut [u8], counts: &mut [usize]) -> u32 {
-        match call.asked() {
-            Some(asked) => self.key_checked(asked, buffer, counts),
-            None => give_key(call.questions(), &Reading::default(), buffer, counts),
-        }
-    }
-
-    fn key_checked(&self, asked: Asked, buffer: &mut [u8], counts: &mut [usize]) -> u32 {
         let mut reading = Reading::default();
-        asked.call().read(&mut reading);
-        give_key(key::questions(buffer.len(), &reading), &reading, buffer, counts)
+        let mut number = call.questions();
+        if number == 0 {
+            call.read(&mut reading);
+            number = key::questions(buffer.len(), &reading);
+        }
+        let (key, charge) = key::of(number, &reading);
+        buffer.fill(0);
+        buffer[..key.len()].copy_from_slice(key.as_bytes());
+        counts[..3].copy_from_slice(&[0, key.len(), charge]);
+        number
     }
-}
-
-fn give_key(number: u32, reading: &Reading, buffer: &mut [u8], counts: &mut [usize]) -> u32 {
-    let (key, charge) = key::of(number, reading);
-    buffer.fill(0);
-    buffer[..key.len()].copy_from_slice(key.as_bytes());
-    counts[..3].copy_from_slice(&[0, key.len(), charge]);
-    number
 }
 
 fn read(call: Call, lent: Lent) -> u32 {

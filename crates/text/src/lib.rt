@@ -3,8 +3,7 @@
 use decode::call::Answer;
 use key::KeyAnswer;
 ghost use mathlib.Core.Path.{_≡_};
-ghost use lib.ListN.{length, set};
-ghost use Rattle.questions.specs.Questions.{firstRefusal};
+ghost use lib.ListN.{set};
 ghost use Rattle.decode.specs.Answers.{lent};
 ghost use Rattle.key.specs.Contracts as keys;
 ghost use Rattle.encode.specs.Answers as codes;
@@ -59,25 +58,6 @@ pub extern "C" fn arib_decode(
     ensures { λ r. ⌜ Decodes (lent (now (cells .entry)) initial width (now (input .entry)) (now (text .entry)) (now (issues .entry))) (now (counts .entry)) r (now (text .exit)) (now (issues .exit)) (now (counts .exit)) ⌝ }
 {
     let answer = decode::call::decode_with(cells, initial, width, input, text, issues);
-    report(answer, counts)
-}
-
-// The same where questions 1 to 3 were put and passed: for whoever reads many strings with one cell
-// table.
-#[no_mangle]
-pub extern "C" fn arib_decode_checked(
-    cells: &[u16],
-    initial: u32,
-    width: u32,
-    input: &[u8],
-    text: &mut [u8],
-    issues: &mut [u32],
-    counts: &mut [usize],
-) -> u32
-    requires { ⌜ firstRefusal (now cells) initial width 65535 (length (now input)) ≡ 0 ⌝ }
-    ensures { λ r. ⌜ Decodes (lent (now (cells .entry)) initial width (now (input .entry)) (now (text .entry)) (now (issues .entry))) (now (counts .entry)) r (now (text .exit)) (now (issues .exit)) (now (counts .exit)) ⌝ }
-{
-    let answer = decode::call::decode_checked(cells, initial, width, input, text, issues);
     report(answer, counts)
 }
 
@@ -145,24 +125,6 @@ pub extern "C" fn arib_key(
     ensures { λ r. ⌜ Keys (keys.lent (now (cells .entry)) initial width (now (input .entry)) (now (buffer .entry))) (now (counts .entry)) r (now (buffer .exit)) (now (counts .exit)) ⌝ }
 {
     let answer = key::key(cells, initial, width, input, buffer);
-    report_key(answer, counts)
-}
-
-// The same where questions 1 to 3 were put and passed: for whoever keys many titles with one cell
-// table.
-#[no_mangle]
-pub extern "C" fn arib_key_checked(
-    cells: &[u16],
-    initial: u32,
-    width: u32,
-    input: &[u8],
-    buffer: &mut [u8],
-    counts: &mut [usize],
-) -> u32
-    requires { ⌜ firstRefusal (now cells) initial width 65535 (length (now input)) ≡ 0 ⌝ }
-    ensures { λ r. ⌜ Keys (keys.lent (now (cells .entry)) initial width (now (input .entry)) (now (buffer .entry))) (now (counts .entry)) r (now (buffer .exit)) (now (counts .exit)) ⌝ }
-{
-    let answer = key::key_checked(cells, initial, width, input, buffer);
     report_key(answer, counts)
 }
 
