@@ -16,19 +16,19 @@ use Rattle.reading.specs.State.{Given, State, Step, took, issue, charge}
 use Rattle.reading.specs.Characters.{isGraphic, char1, graphic, graphicOf, singleShift}
 use Rattle.reading.specs.Macros.{Run, runMacro, runBody, builtin, endOf, limit}
 use Rattle.reading.specs.Steps.{step, run}
-use Rattle.decoder.specs.declared.Core.{Core}
-use Rattle.decoder.specs.declared.Decoder.{Decoder}
-use Rattle.decoder.specs.declared.Stepped.{Stepped}
-use Rattle.decoder.specs.Contracts.{whole, Holds, Does, Kept, TookOver}
-use Rattle.decoder.proofs.Lift.{holds-charged, withCharged}
-use Rattle.decoder.proofs.Steps.{drop-one}
-use Rattle.characters.specs.Contracts.{Did}
-use Rattle.decoder.specs.declared.Stop.{Stop}
-use Rattle.decoder.specs.declared.Stop.the-variants.{End, Macro, Char, Shifted}
-use Rattle.macros.specs.Contracts.{Built}
-use Rattle.macros.proofs.Laws.{builtin-bare}
-use Rattle.plain.specs.Contracts.{StopAt}
-use Rattle.plain.proofs.Dispatch.{step-char, step-shift}
+use Rattle.decode_state.specs.declared.Core.{Core}
+use Rattle.decode_state.specs.declared.Decoder.{Decoder}
+use Rattle.decode_state.specs.declared.Stepped.{Stepped}
+use Rattle.decode_state.specs.Contracts.{whole, Holds, Does, Kept, TookOver}
+use Rattle.decode_state.proofs.Lift.{holds-charged, withCharged}
+use Rattle.decode_state.proofs.Steps.{drop-one}
+use Rattle.decode_characters.specs.Contracts.{Did}
+use Rattle.decode_state.specs.declared.Stop.{Stop}
+use Rattle.decode_state.specs.declared.Stop.the-variants.{End, Macro, Char, Shifted}
+use Rattle.decode_macros.specs.Contracts.{Built}
+use Rattle.decode_macros.proofs.Laws.{builtin-bare}
+use Rattle.decode_steps.specs.Contracts.{StopAt}
+use Rattle.decode_steps.proofs.Dispatch.{step-char, step-shift}
 use Rattle.decode.specs.Contracts.{below, Ready, Grown, Ran, RanStep}
 use Rattle.decode.proofs.Loops.{kept-grown, below-run, along-start, along-end}
 

@@ -13,21 +13,21 @@ use Rattle.questions.specs.Questions.{firstRefusal, decodeLimit}
 use Rattle.questions.specs.Buffer.{padded, cleared}
 use Rattle.questions.proofs.Buffers.{clear-past}
 use Rattle.issues.specs.Issue.{issuesNumbers}
-use Rattle.output.specs.declared.Out.{Out}
-use Rattle.output.specs.Output.{Output, nothing, release}
-use Rattle.output.specs.Contracts as output
-use Rattle.output.proofs.Callers.{holds-nothing}
-use Rattle.output.proofs.Counts.{length-numbers}
+use Rattle.decode_output.specs.declared.Out.{Out}
+use Rattle.decode_output.specs.Output.{Output, nothing, release}
+use Rattle.decode_output.specs.Contracts as output
+use Rattle.decode_output.proofs.Callers.{holds-nothing}
+use Rattle.decode_output.proofs.Counts.{length-numbers}
 use Rattle.reading.specs.State.{Given, State, start, writes}
 use Rattle.reading.specs.Macros.{limit}
 use Rattle.reading.specs.Steps.{decode, run}
 use Rattle.reading.specs.Call.{Lent, Outcome, reading, textBytes, issueList, fits, refusal, outcomeOf, outcome}
-use Rattle.decoder.specs.declared.Core.{Core}
-use Rattle.decoder.specs.declared.Decoder.{Decoder}
-use Rattle.decoder.specs.Contracts.{whole, Holds}
+use Rattle.decode_state.specs.declared.Core.{Core}
+use Rattle.decode_state.specs.declared.Decoder.{Decoder}
+use Rattle.decode_state.specs.Contracts.{whole, Holds}
 use Rattle.decode.specs.declared.call.Answer.{Answer}
 use Rattle.decode.specs.declared.call.Answer.the-variants.{Decoded, Refused}
-use Rattle.output.proofs.Held.{release-marks}
+use Rattle.decode_output.proofs.Held.{release-marks}
 use Rattle.decode.specs.Contracts.{Inside, Ready, Grown, TopRan}
 use Rattle.decode.specs.Answers.{fitsIn, numberOf, placeOf, textOf, issuesOf, chargedOf, lent, Refuses, Answers, Answered}
 

@@ -11,19 +11,19 @@ use lib.Seq.{getD-set-other, getD-set-same}
 use Rattle.reading.specs.State.{Given, State, Step, took, define, issue, truncated}
 use Rattle.reading.specs.Macros.{Run, runMacro, defined, macroCmd, endOf, limit}
 use Rattle.reading.specs.Steps.{step, run}
-use Rattle.decoder.specs.declared.Core.{Core}
-use Rattle.decoder.specs.declared.Decoder.{Decoder}
-use Rattle.decoder.specs.declared.Stepped.{Stepped}
-use Rattle.decoder.specs.declared.Outer.{Outer}
-use Rattle.decoder.specs.Contracts.{whole, Holds, Does, TookOver, Took}
+use Rattle.decode_state.specs.declared.Core.{Core}
+use Rattle.decode_state.specs.declared.Decoder.{Decoder}
+use Rattle.decode_state.specs.declared.Stepped.{Stepped}
+use Rattle.decode_state.specs.declared.Outer.{Outer}
+use Rattle.decode_state.specs.Contracts.{whole, Holds, Does, TookOver, Took}
 use Rattle.issues.specs.declared.IssueKind.the-variants.{MalformedControl}
-use Rattle.characters.specs.Contracts.{Did}
-use Rattle.characters.proofs.Did.{took-did}
-use Rattle.plain.proofs.Moving.{took-over, took-as}
-use Rattle.macros.specs.declared.Command.{Command}
-use Rattle.macros.specs.declared.Command.the-variants.{Cut, Ends, Malformed, Defines}
-use Rattle.macros.specs.Contracts.{Defined, Ended, Within, commanded}
-use Rattle.macros.proofs.Laws.{defined-fits, defined-bare}
+use Rattle.decode_characters.specs.Contracts.{Did}
+use Rattle.decode_characters.proofs.Did.{took-did}
+use Rattle.decode_steps.proofs.Moving.{took-over, took-as}
+use Rattle.decode_macros.specs.declared.Command.{Command}
+use Rattle.decode_macros.specs.declared.Command.the-variants.{Cut, Ends, Malformed, Defines}
+use Rattle.decode_macros.specs.Contracts.{Defined, Ended, Within, commanded}
+use Rattle.decode_macros.proofs.Laws.{defined-fits, defined-bare}
 use Rattle.decode.specs.Contracts.{below, bodyAt, Inside, Ready, Grown, Ran, RanStep, Executed, OuterStep}
 use Rattle.decode.proofs.Bodies.{Alike, alike}
 

@@ -5,16 +5,16 @@ use mathlib.Core.List.{List, [], _∷_}
 use native.Mathlib.Nat.{zero-add}
 use native.Mathlib.Omega.{arith}
 use lib.ListN.{length, drop, getD}
-use Rattle.output.specs.Contracts as output
+use Rattle.decode_output.specs.Contracts as output
 use Rattle.reading.specs.State.{Given, State, Step}
 use Rattle.reading.specs.Macros.{Run, limit}
 use Rattle.reading.specs.Steps.{step, steps, run, offset}
-use Rattle.decoder.specs.declared.Core.{Core}
-use Rattle.decoder.specs.declared.Decoder.{Decoder}
-use Rattle.decoder.specs.declared.Stepped.{Stepped}
-use Rattle.decoder.specs.declared.Outer.{Outer}
-use Rattle.decoder.specs.Contracts.{whole, Holds, Does, Goes, Good, Kept, Stretch}
-use Rattle.decoder.proofs.Steps.{goes-none, goes-on, goes-end, steps-one}
+use Rattle.decode_state.specs.declared.Core.{Core}
+use Rattle.decode_state.specs.declared.Decoder.{Decoder}
+use Rattle.decode_state.specs.declared.Stepped.{Stepped}
+use Rattle.decode_state.specs.declared.Outer.{Outer}
+use Rattle.decode_state.specs.Contracts.{whole, Holds, Does, Goes, Good, Kept, Stretch}
+use Rattle.decode_state.proofs.Steps.{goes-none, goes-on, goes-end, steps-one}
 use Rattle.decode.specs.Contracts.{below, Inside, Ready, Grown, Ran, RanStep, OuterStep, stepAt, TopRan}
 
 -- ---- room

@@ -8,7 +8,7 @@ use lib.ListN.{length}
 use Rattle.utf8.specs.Utf8.{utf8s}
 use Rattle.questions.specs.Buffer.{padded}
 use Rattle.issues.specs.Issue.{issuesNumbers}
-use Rattle.output.specs.Output.{Output}
+use Rattle.decode_output.specs.Output.{Output}
 use Rattle.reading.specs.Call.{Lent, Outcome, outcome}
 use Rattle.decode.specs.declared.call.Answer.{Answer}
 use Rattle.decode.specs.declared.call.Answer.the-variants.{Decoded, Refused}

@@ -3,15 +3,15 @@ use Prim.Native.Nat.{ℕ, zero, suc, _+_, _-_, _*_, _≤_, _<_}
 use mathlib.Core.Path.{_≡_}
 use mathlib.Core.List.{List, [], _∷_}
 use lib.ListN.{length, take, drop, getD}
-use Rattle.output.specs.Contracts as output
+use Rattle.decode_output.specs.Contracts as output
 use Rattle.reading.specs.State.{Given, State, Step}
 use Rattle.reading.specs.Macros.{Run, endOf, limit}
 use Rattle.reading.specs.Steps.{step, run}
-use Rattle.decoder.specs.declared.Core.{Core}
-use Rattle.decoder.specs.declared.Decoder.{Decoder}
-use Rattle.decoder.specs.declared.Stepped.{Stepped}
-use Rattle.decoder.specs.declared.Outer.{Outer}
-use Rattle.decoder.specs.Contracts.{whole, Holds, Does}
+use Rattle.decode_state.specs.declared.Core.{Core}
+use Rattle.decode_state.specs.declared.Decoder.{Decoder}
+use Rattle.decode_state.specs.declared.Stepped.{Stepped}
+use Rattle.decode_state.specs.declared.Outer.{Outer}
+use Rattle.decode_state.specs.Contracts.{whole, Holds, Does}
 
 -- to run a body one deeper, where `left` more may be opened
 unfoldable pub below : Given → ℕ → Run

@@ -1,16 +1,16 @@
 // The decoding call: the questions in order, and every byte of both buffers.
-use decoder::Core;
-use decoder::Decoder;
-use output::Out;
+use decode_output::Out;
+use decode_state::Core;
+use decode_state::Decoder;
 ghost use mathlib.Core.Path.{_≡_};
 ghost use mathlib.Core.Bool.{false, cond};
 ghost use mathlib.Core.List.{List, [], _∷_};
 ghost use Prim.Native.Nat.{ℕ, _≤_};
 ghost use lib.Dec.{eqb};
 ghost use lib.ListN.{length, replicate};
-ghost use Rattle.output.specs.Output.{Output, nothing};
-ghost use Rattle.output.specs.Contracts.{outOf, Holds};
-ghost use Rattle.decoder.specs.Contracts.{whole};
+ghost use Rattle.decode_output.specs.Output.{Output, nothing};
+ghost use Rattle.decode_output.specs.Contracts.{outOf, Holds};
+ghost use Rattle.decode_state.specs.Contracts.{whole};
 ghost use Rattle.questions.specs.Questions.{firstRefusal};
 ghost use Rattle.reading.specs.Call.{escapePart};
 ghost use Rattle.decode.specs.Answers.{lent, Refuses, Answers, Answered};
@@ -49,7 +49,7 @@ fn start(g3: u8, annex: bool) -> Decoder
         narrow: false,
         annex,
         charged: 0,
-        out: output::start(),
+        out: decode_output::start(),
     };
     Decoder {
         core,
@@ -76,11 +76,11 @@ fn finish(out: Out, charged: usize, text: &mut [u8], issues: &mut [u32]) -> Answ
     if n > text.len() {
         return refuse(8, text, issues);
     }
-    if k * output::NUMBERS > issues.len() {
+    if k * decode_output::NUMBERS > issues.len() {
         return refuse(9, text, issues);
     }
     questions::clear(text, n);
-    questions::clear32(issues, k * output::NUMBERS);
+    questions::clear32(issues, k * decode_output::NUMBERS);
     Answer::Decoded {
         text: n,
         issues: k,
@@ -110,7 +110,7 @@ pub fn decode_checked(
     );
     let core = d.core;
     let out = core.out;
-    let flushed = output::flush_dangling(out, issues);
+    let flushed = decode_output::flush_dangling(out, issues);
     finish(flushed, core.charged, text, issues)
 }
 

@@ -1,11 +1,11 @@
 // The functions that call each other through macro bodies: `run`, `run_macro`, and `graphic` and
 // `char1` for the macro set, of decode.rs. The macros stay while bodies run, since no definition
 // ends in one.
-use decoder::Core;
-use decoder::Stepped;
-use decoder::Stop;
+use decode_macros::Command;
+use decode_state::Core;
+use decode_state::Stepped;
+use decode_state::Stop;
 use issues::IssueKind;
-use macros::Command;
 ghost use mathlib.Core.Path.{_≡_};
 ghost use Prim.Native.Nat.{ℕ, _+_, _≤_, _<_};
 ghost use mathlib.Core.List.{List};
@@ -14,8 +14,8 @@ ghost use Rattle.reading.specs.State.{Given, State};
 ghost use Rattle.reading.specs.Macros.{Run, runMacro, runBody, macroCmd, endOf, limit};
 ghost use Rattle.reading.specs.Characters.{graphic, char1};
 ghost use Rattle.reading.specs.Steps.{step, run};
-ghost use Rattle.decoder.specs.Contracts.{Good, TookOver};
-ghost use Rattle.plain.specs.Contracts.{StopAt};
+ghost use Rattle.decode_state.specs.Contracts.{Good, TookOver};
+ghost use Rattle.decode_steps.specs.Contracts.{StopAt};
 ghost use Rattle.decode.specs.Contracts.{below, Inside, Ready, Ran, RanStep};
 
 // Runs a body that lies at `base` one deeper, unless four are open or it charges too much.
@@ -39,11 +39,11 @@ fn run_body<'a>(
     ensures { λ r. ⌜ Ran (now (cells .entry)) (now (input .entry)) 1 (λ g. runBody g left (below g left) (now (body .entry)) base at) (now (starts .entry)) (now (lens .entry)) s (now (text .entry)) (now (issues .entry)) r (now (text .exit)) (now (issues .exit)) ⌝ }
 {
     if left == 0 {
-        return characters::report(at, IssueKind::MacroLimit, s, issues);
+        return decode_characters::report(at, IssueKind::MacroLimit, s, issues);
     }
     let after = s.charged + body.len();
     if after > input.len() * 64 + 4096 {
-        return characters::report(at, IssueKind::MacroLimit, s, issues);
+        return decode_characters::report(at, IssueKind::MacroLimit, s, issues);
     }
     if body.len() == 0 {
         return s;
@@ -101,7 +101,7 @@ pub fn run_macro<'a>(
         );
     }
     let mut body = [0u8; 19];
-    let n = macros::default_macro(&mut body, code);
+    let n = decode_macros::default_macro(&mut body, code);
     if n > 0 {
         run_body(
             cells,
@@ -117,11 +117,11 @@ pub fn run_macro<'a>(
             issues,
         )
     } else {
-        characters::report(at, IssueKind::UndefinedMacro(code as u8), s, issues)
+        decode_characters::report(at, IssueKind::UndefinedMacro(code as u8), s, issues)
     }
 }
 
-// A character of the macro set: its macro runs. Those of the other sets are in `characters`.
+// A character of the macro set: its macro runs. Those of the other sets are in `decode_characters`.
 fn char1<'a>(
     cells: &[u16],
     input: &[u8],
@@ -193,18 +193,18 @@ fn macro_cmd(b: &[u8], i: usize, at: u32, s: Core, issues: &mut [u32]) -> Steppe
     requires { ⌜ Good 1 s ⌝ }
     ensures { λ r. ⌜ ((left : ℕ) (R : Run) (place : ℕ) (cells t : List ℕ) → TookOver cells (now (b .entry)) i (λ g. macroCmd g left R (drop (i + 1) (now (b .entry))) place at) s t (now (issues .entry)) r t (now (issues .exit))) ⌝ }
 {
-    match macros::read_command(b, i) {
-        Command::Cut => controls::truncated(b, i, at, s, issues),
+    match decode_macros::read_command(b, i) {
+        Command::Cut => decode_controls::truncated(b, i, at, s, issues),
         Command::Malformed => {
-            let r = characters::report(at, IssueKind::MalformedControl(0x95), s, issues);
+            let r = decode_characters::report(at, IssueKind::MalformedControl(0x95), s, issues);
             Stepped { used: 2, core: r }
         }
-        Command::Ends => controls::truncated(b, i, at, s, issues),
+        Command::Ends => decode_controls::truncated(b, i, at, s, issues),
         Command::Defines {
             code: _,
             len: _,
             runs: _,
-        } => controls::truncated(b, i, at, s, issues),
+        } => decode_controls::truncated(b, i, at, s, issues),
     }
 }
 
@@ -280,7 +280,7 @@ fn run<'a>(
     let mut s = core;
     let mut i: usize = 0;
     loop {
-        let f = plain::plain(cells, b, i, base, origin, s, text, issues);
+        let f = decode_steps::plain(cells, b, i, base, origin, s, text, issues);
         i = f.at;
         s = f.core;
         if i >= b.len() {

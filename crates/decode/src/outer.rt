@@ -1,11 +1,11 @@
 // Steps outside every body. There alone macros are defined, so the decoder's struct with its two
 // arrays goes in and comes back by value here, and is lent to the cycle.
-use decoder::Core;
-use decoder::Decoder;
-use decoder::Outer;
-use decoder::Stop;
+use decode_macros::Command;
+use decode_state::Core;
+use decode_state::Decoder;
+use decode_state::Outer;
+use decode_state::Stop;
 use issues::IssueKind;
-use macros::Command;
 ghost use mathlib.Core.Path.{_≡_};
 ghost use Prim.Native.Nat.{ℕ, _+_, _≤_, _<_};
 ghost use mathlib.Core.List.{List};
@@ -13,9 +13,9 @@ ghost use lib.ListN.{length, drop, getD, set};
 ghost use mathlib.Core.Bool.{cond};
 ghost use Rattle.reading.specs.Characters.{graphic};
 ghost use Rattle.reading.specs.Macros.{runMacro, defined, macroCmd, limit};
-ghost use Rattle.decoder.specs.Contracts.{whole};
-ghost use Rattle.macros.specs.Contracts.{Defined};
-ghost use Rattle.plain.specs.Contracts.{StopAt};
+ghost use Rattle.decode_state.specs.Contracts.{whole};
+ghost use Rattle.decode_macros.specs.Contracts.{Defined};
+ghost use Rattle.decode_steps.specs.Contracts.{StopAt};
 ghost use Rattle.decode.specs.Contracts.{below, Inside, Ready, Executed, OuterStep, stepAt, TopRan};
 
 // The decoder with its core anew.
@@ -151,9 +151,9 @@ fn macro_cmd(
     ensures { λ r. ⌜ OuterStep (now (cells .entry)) (now (input .entry)) i (λ g. macroCmd g 4 (below g 4) (drop (i + 1) (now (input .entry))) i i) d (now (text .entry)) (now (issues .entry)) r (now (text .exit)) (now (issues .exit)) ⌝ }
 {
     let core = d.core;
-    match macros::read_command(input, i) {
+    match decode_macros::read_command(input, i) {
         Command::Cut => {
-            let r = controls::truncated(input, i, i as u32, core, issues);
+            let r = decode_controls::truncated(input, i, i as u32, core, issues);
             let after = r.core;
             Outer {
                 used: r.used,
@@ -165,7 +165,7 @@ fn macro_cmd(
             decoder: d,
         },
         Command::Malformed => {
-            let after = characters::report(
+            let after = decode_characters::report(
                 i as u32,
                 IssueKind::MalformedControl(0x95),
                 core,
@@ -233,7 +233,7 @@ pub fn top(
     let mut i: usize = 0;
     loop {
         let core = d.core;
-        let f = plain::steps(cells, input, i, 0, 0, core, text, issues);
+        let f = decode_steps::steps(cells, input, i, 0, 0, core, text, issues);
         let after = f.core;
         d.core = after;
         i = f.at;

@@ -15,15 +15,15 @@ use Rattle.coding.specs.Search.{Node, begin, Run, run, newest, least, firstOf, 
 use Rattle.coding.specs.Admissible.{Some, here}
 use Rattle.coding.specs.Tokens.{tokens, inOrder, chars}
 use Rattle.coding.specs.Call.{question7, question8, without, coding, choices, ordering}
-use Rattle.tokens.specs.Contracts.{Holds, Ready, Tokenised, answered}
-use Rattle.tokens.specs.Contracts as tokens-contracts
-use Rattle.tokens.specs.declared.Tokens.{Tokens}
-use Rattle.tokens.specs.declared.Tokens.the-variants as tokens-variants
-use Rattle.layer.specs.Entries.{layerOf}
-use Rattle.search.specs.Layers.{Found, Arrays}
-use Rattle.search.specs.Layers as search
-use Rattle.backtrack.specs.Contracts.{Chosen, Searched, Held}
-use Rattle.backtrack.proofs.Nodes.{length-layer, Newest, newest-of}
+use Rattle.encode_tokens.specs.Contracts.{Holds, Ready, Tokenised, answered}
+use Rattle.encode_tokens.specs.Contracts as tokens-contracts
+use Rattle.encode_tokens.specs.declared.Tokens.{Tokens}
+use Rattle.encode_tokens.specs.declared.Tokens.the-variants as tokens-variants
+use Rattle.encode_layer.specs.Entries.{layerOf}
+use Rattle.encode_search.specs.Layers.{Found, Arrays}
+use Rattle.encode_search.specs.Layers as search
+use Rattle.encode_backtrack.specs.Contracts.{Chosen, Searched, Held}
+use Rattle.encode_backtrack.proofs.Nodes.{length-layer, Newest, newest-of}
 use Rattle.laws.proofs.Chains.{Chain, begins, run-chain, back-length}
 use Rattle.laws.specs.Reading.{All}
 use Rattle.laws.proofs.Choices.{choices-filled}

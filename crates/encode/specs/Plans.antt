@@ -8,10 +8,10 @@ use lib.ListN.{length}
 use Rattle.laws.specs.Reading.{All}
 use Rattle.coding.specs.Candidates.{candidatesOf, restOf}
 use Rattle.coding.specs.Admissible.{Some}
-use Rattle.tokens.specs.Contracts.{Holds}
+use Rattle.encode_tokens.specs.Contracts.{Holds}
 use Rattle.coding.specs.Search.{begin, run, back, Coded}
 use Rattle.coding.specs.Call.{Lent, coding, Refusal, refuse, question4, question7, question8}
-use Rattle.backtrack.specs.Contracts.{Searched, Held}
+use Rattle.encode_backtrack.specs.Contracts.{Searched, Held}
 use Rattle.encode.specs.declared.find.Plan.{Plan}
 use Rattle.encode.specs.declared.find.Plan.the-variants.{Nothing, Leads, Refused}
 

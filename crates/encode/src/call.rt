@@ -6,7 +6,7 @@ ghost use lib.ListN.{length};
 ghost use Rattle.questions.specs.Questions.{firstRefusal};
 ghost use Rattle.coding.specs.Search.{Coded};
 ghost use Rattle.coding.specs.Call.{question8};
-ghost use Rattle.backtrack.specs.Contracts.{Searched, Held};
+ghost use Rattle.encode_backtrack.specs.Contracts.{Searched, Held};
 ghost use Rattle.encode.specs.Plans.{Leading};
 ghost use Rattle.encode.specs.Answers.{Zeroed, Refuses, Answers, lent, Answered};
 
@@ -61,7 +61,7 @@ fn write(
     if coding.len() < length {
         return refuse(8, 0, layers, coding);
     }
-    backtrack::write_back(
+    encode_backtrack::write_back(
         chars,
         kanji,
         symbols,

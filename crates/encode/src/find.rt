@@ -1,12 +1,12 @@
 // The search for a coding: questions 4 to 7, the coding's length and its gap. No byte is written yet.
-use tokens::Tokens;
+use encode_tokens::Tokens;
 ghost use mathlib.Core.Path.{_≡_};
 ghost use Prim.Native.Nat.{ℕ, _≤_};
 ghost use lib.ListN.{length};
 ghost use Rattle.coding.specs.Candidates.{candidatesOf};
 ghost use Rattle.coding.specs.Search.{code, gapOf};
-ghost use Rattle.tokens.specs.Contracts as tokens;
-ghost use Rattle.search.specs.Layers.{Arrays};
+ghost use Rattle.encode_tokens.specs.Contracts as tokens;
+ghost use Rattle.encode_search.specs.Layers.{Arrays};
 ghost use Rattle.encode.specs.Plans.{asked, Characters, Planned, Led};
 
 // What questions 4 to 7 say of a text.
@@ -60,7 +60,7 @@ fn lead(
     if n == 0 {
         return Plan::Nothing;
     }
-    let last = search::search(&mut *store, chars, kanji, symbols, n, annex, initial, rest);
+    let last = encode_search::search(&mut *store, chars, kanji, symbols, n, annex, initial, rest);
     let fits = last.fits;
     if !fits {
         return Plan::Refused {
@@ -70,8 +70,8 @@ fn lead(
     }
     let from = last.from;
     let count = last.count;
-    let best = layer::least(&*store, from, count);
-    let node = backtrack::first_of(&*store, from, count, best);
+    let best = encode_layer::least(&*store, from, count);
+    let node = encode_backtrack::first_of(&*store, from, count, best);
     let length = best as usize;
     let gap = gap_of(length, last.floor);
     Plan::Leads {
@@ -99,7 +99,7 @@ pub fn find(
     ensures { λ r. ⌜ ((room : ℕ) → Planned (asked (now (cells .entry)) initial width (now (text .entry)) (now (store .entry)) room) r (now (store .exit)) (now (chars .exit)) (now (kanji .exit)) (now (symbols .exit))) ⌝ }
 {
     let annex = width == 1;
-    let t = tokens::tokenise(cells, annex, text, &mut *chars, &mut *kanji, &mut *symbols);
+    let t = encode_tokens::tokenise(cells, annex, text, &mut *chars, &mut *kanji, &mut *symbols);
     match t {
         Tokens::Ordered { count, rest } => lead(
             &*chars,

@@ -23,7 +23,7 @@ use Rattle.decode.specs.Answers as decode
 use Rattle.key.specs.declared.KeyAnswer.{KeyAnswer}
 use Rattle.key.specs.declared.KeyAnswer.the-variants as key
 use Rattle.key.specs.Key.{keyChar, kept, keyText, Lent, decodingOf, reading, textBytes, keyBytes, fits, refusal, Outcome, outcomeOf, outcome}
-use Rattle.scalars.proofs.Scalars.{text-scalars}
+use Rattle.laws_scalars.proofs.Scalars.{text-scalars}
 use Rattle.key.proofs.Characters.{no-longer, first-bytes}
 use Rattle.key.specs.Contracts.{Removed, Decodes, answerOf, questionOf, refusedOf, lent, Answered}
 

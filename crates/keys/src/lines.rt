@@ -4,9 +4,9 @@ ghost use mathlib.Core.Bool.{true};
 ghost use Prim.Native.Nat.{_≤_};
 ghost use lib.ListN.{length};
 ghost use Rattle.questions.specs.Questions.{cellsHold};
-ghost use Rattle.keyline.specs.Contracts.{Room};
+ghost use Rattle.keys_lines.specs.Contracts.{Room};
 ghost use Rattle.keys.specs.Contracts.{Buffers, Within};
-use keyline::Printed;
+use keys_lines::Printed;
 use libc::STDIN_FILENO;
 use libc::STDOUT_FILENO;
 
@@ -69,7 +69,7 @@ fn print(
     if len > line.len() {
         return 0;
     }
-    let r = keyline::print(cells, admitted, &line[..len], title, out);
+    let r = keys_lines::print(cells, admitted, &line[..len], title, out);
     match r {
         Printed::Bytes(n) => n,
         Printed::Malformed => 0,
@@ -158,7 +158,7 @@ fn count_bytes(p: Progress, n: usize) -> Progress
     requires { ⌜ Within p ⌝ }
     ensures { λ r. ⌜ Within r ⌝ }
 {
-    let more = least(n, keyline::LONGEST + 1 - p.len);
+    let more = least(n, keys_lines::LONGEST + 1 - p.len);
     Progress {
         lines: p.lines,
         malformed: p.malformed,

@@ -1,7 +1,7 @@
 // The keys of titles. Standard input has a line NUMBER TAB HEX for each title; standard output gets NUMBER TAB KEY, or
 // NUMBER TAB and `refused`, number and place, or `line` and its number and `: malformed`, one line for each. How many
 // lines were malformed is said on standard error. The cell table is `jis.tab`, or zeros if absent; question 1 is put
-// once. `keyline::print` is the work on one line.
+// once. `keys_lines::print` is the work on one line.
 mod lines;
 
 use libc::STDERR_FILENO;
@@ -21,6 +21,6 @@ fn main() {
     let file = files::read_table(&mut bytes);
     let mut t = [0u16; 8836];
     let n = file.len;
-    let m = celltable::fill(file.present, &bytes[..n], &mut t);
+    let m = jis_tab::fill(file.present, &bytes[..n], &mut t);
     summary(all_lines(&t[..m]));
 }

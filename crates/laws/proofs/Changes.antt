@@ -7,7 +7,7 @@ use lib.ListN.{length, replicate, length-append, length-replicate}
 use Rattle.issues.specs.Issue.{Issue}
 use Rattle.issues.specs.declared.IssueKind.{IssueKind}
 use Rattle.issues.specs.declared.IssueKind.the-variants.{UnknownEscape, UndefinedControl, MalformedControl, Truncated, UndefinedCode, UnsupportedCode, Drcs, Mosaic, UndefinedMacro, MacroLimit, LoneSingleShift, DanglingNonSpacing, RepeatToEndOfLine}
-use Rattle.output.specs.Output.{Output, times, emit, mark, firstAt, report, release, releaseOf, newline, setRepeat}
+use Rattle.decode_output.specs.Output.{Output, times, emit, mark, firstAt, report, release, releaseOf, newline, setRepeat}
 use Rattle.reading.specs.State.{State}
 use Rattle.laws.specs.Reading.{All, Escape}
 use Rattle.laws.proofs.Every.{all-append}

@@ -7,7 +7,7 @@ use borrow.Author.Tests.{le-leb, lt-leb}
 use lib.ListN.{length}
 use Rattle.issues.specs.Issue.{Issue, issueNumbers, issuesNumbers}
 use Rattle.issues.specs.declared.IssueKind.the-variants.{UnknownEscape}
-use Rattle.output.specs.Output.{nothing}
+use Rattle.decode_output.specs.Output.{nothing}
 use Rattle.reading.specs.State.{Given, State, start, writes}
 use Rattle.reading.specs.Macros.{Run}
 use Rattle.reading.specs.Steps.{step, steps, run, decode}

@@ -10,7 +10,7 @@ use borrow.Author.Tests.{eqb-true}
 use lib.Dec.{eqb, ltb}
 use lib.ListN.{length, drop}
 use lib.Seq.{drop-drop}
-use Rattle.output.specs.Output.{newline}
+use Rattle.decode_output.specs.Output.{newline}
 use Rattle.reading.specs.State.{Given, State, Step, writes, isNarrow, resize, invokeGL}
 use Rattle.reading.specs.Characters.{isGL, isGR}
 use Rattle.reading.specs.Macros.{Run, builtinSets, builtinOf}

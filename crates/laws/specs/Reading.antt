@@ -7,7 +7,7 @@ use lib.Dec.{leb}
 use lib.ListN.{length, drop}
 use Rattle.issues.specs.Issue.{Issue}
 use Rattle.issues.specs.declared.IssueKind.the-variants.{UnknownEscape}
-use Rattle.output.specs.Output.{release}
+use Rattle.decode_output.specs.Output.{release}
 use Rattle.reading.specs.State.{Given, State, writes}
 use Rattle.reading.specs.Macros.{Run}
 use Rattle.reading.specs.Steps.{step, steps, run, decode}

@@ -1,6 +1,6 @@
 // Decodes standard input, at most 4,096 bytes, and prints text and issues: docs/01-scope.md, below
 // "The table of twelve". The cell table is `jis.tab` in the working directory, or zeros if there is
-// none. All that is printed is `lines::listing` of what was read.
+// none. All that is printed is `listing_lines::listing` of what was read.
 use files::read;
 use files::read_table;
 use libc::STDIN_FILENO;
@@ -16,10 +16,10 @@ fn main() {
     }
     let mut cells = [0u8; 17673];
     let table = read_table(&mut cells);
-    let mut out = [0u8; lines::GREATEST];
+    let mut out = [0u8; listing_lines::GREATEST];
     let k = input.len;
     let m = table.len;
-    let n = lines::listing(table.present, &cells[..m], &bytes[..k], &mut out);
+    let n = listing_lines::listing(table.present, &cells[..m], &bytes[..k], &mut out);
     if !io::write_all(STDOUT_FILENO, &out[..n]) {
         os::fail(b"standard output");
     }

@@ -11,7 +11,7 @@ use Rattle.tables.specs.Kanji.{nonSpacing, isMark, kanjiAt}
 use Rattle.tables.specs.declared.OneByteTable.the-variants.{Alphanumeric, Fullwidth, Hiragana, Katakana, JisX0201Katakana}
 use Rattle.issues.specs.declared.IssueKind.{IssueKind}
 use Rattle.issues.specs.declared.IssueKind.the-variants.{UndefinedCode, UnsupportedCode, Drcs, Mosaic, LoneSingleShift}
-use Rattle.output.specs.Output.{emit, mark, setRepeat}
+use Rattle.decode_output.specs.Output.{emit, mark, setRepeat}
 use Rattle.reading.specs.State.{Given, State, Step, took, issue, placeholder, truncated, writes, isNarrow}
 use Rattle.reading.specs.Macros.{Run, runMacro}
 

@@ -8,7 +8,7 @@ use lib.ListN.{length, take, drop}
 use Rattle.sets.specs.Sets.{Designation, readDesignation}
 use Rattle.control.specs.Controls.{countOf}
 use Rattle.issues.specs.declared.IssueKind.the-variants.{UnknownEscape, UndefinedControl, MalformedControl, RepeatToEndOfLine}
-use Rattle.output.specs.Output.{setRepeat}
+use Rattle.decode_output.specs.Output.{setRepeat}
 use Rattle.reading.specs.State.{Given, State, Step, took, issue, truncated, writes, designate, invokeGL, invokeGR, resize}
 
 -- how many bytes at the head lie from low to high

@@ -6,7 +6,7 @@ use lib.ListN.{length, set, replicate}
 use Rattle.sets.specs.Sets.{initialSets}
 use Rattle.issues.specs.declared.IssueKind.{IssueKind}
 use Rattle.issues.specs.declared.IssueKind.the-variants.{Truncated}
-use Rattle.output.specs.Output.{Output, nothing, emit, mark, report}
+use Rattle.decode_output.specs.Output.{Output, nothing, emit, mark, report}
 
 -- what a reading is given: the lent cell table, whether the width option is AnnexE, and the input
 pub record Given : Type 0 where

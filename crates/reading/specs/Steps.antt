@@ -3,7 +3,7 @@ use Prim.Native.Nat.{ℕ, zero, suc, _+_, _-_}
 use mathlib.Core.Bool.{Bool, true, false, cond, _&&_, _||_}
 use mathlib.Core.List.{List, [], _∷_}
 use lib.Dec.{eqb, ltb, leb}
-use Rattle.output.specs.Output.{emit, newline, release}
+use Rattle.decode_output.specs.Output.{emit, newline, release}
 use Rattle.reading.specs.State.{Given, State, Step, took, start, writes, resize, invokeGL, isNarrow}
 use Rattle.reading.specs.Characters.{isGL, isGR, graphic, singleShift}
 use Rattle.reading.specs.Controls.{escape, szx, rpc, colour, csi, time, fixed}

@@ -5,10 +5,10 @@ use lib.ListN.{length, replicate}
 use lib.Dec.{eqb}
 use mathlib.Core.Bool.{cond}
 use Rattle.questions.proofs.Refusals.{passed}
-use Rattle.output.specs.Contracts as output
+use Rattle.decode_output.specs.Contracts as output
 use Rattle.reading.specs.Macros.{limit}
-use Rattle.decoder.specs.declared.Decoder.{Decoder}
-use Rattle.decoder.specs.Contracts.{whole}
+use Rattle.decode_state.specs.declared.Decoder.{Decoder}
+use Rattle.decode_state.specs.Contracts.{whole}
 use Rattle.decode.specs.Contracts.{Inside, Ready, Grown}
 use Rattle.decode.proofs.Defining.{inside-start}
 use Rattle.decode.proofs.Calls.{startCore, ready-start, room-end, checked}
@@ -21,7 +21,7 @@ use Rattle.decode.proofs.call.finish.Reads as finish-reads
 use Rattle.decode.proofs.call.initial_g3.Reads as initial-g3-reads
 use Rattle.decode.proofs.call.start.Reads as start-reads
 use Rattle.decode.proofs.outer.top.Reads as top-reads
-use Rattle.output.proofs.flush_dangling.Reads as flush-dangling-reads
+use Rattle.decode_output.proofs.flush_dangling.Reads as flush-dangling-reads
 
 initial-g3-requires : tie.Need-initial-g3-requires
 initial-g3-requires c κs = search needs

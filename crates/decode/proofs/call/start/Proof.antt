@@ -1,15 +1,15 @@
 use mathlib.Core.Path.{ap}
 use lib.ListN.{replicate}
-use Rattle.output.specs.declared.Out.{Out}
+use Rattle.decode_output.specs.declared.Out.{Out}
 use mathlib.Core.Bool.{false}
 use mathlib.Core.List.{[], _∷_}
-use Rattle.decoder.specs.Contracts.{whole}
+use Rattle.decode_state.specs.Contracts.{whole}
 use borrow.Author.Needs.{needs}
 use Rattle.decode.proofs.call.start.Statement.{statement}
 use Rattle.decode.proofs.call.start.Tie as tie
 use Rattle.decode.proofs.call.start.Reads as reads
 use Rattle.decode.proofs.call.start.Lts as lts
-use Rattle.output.proofs.start.Reads as start-reads
+use Rattle.decode_output.proofs.start.Reads as start-reads
 
 start-requires : tie.Need-start-requires
 start-requires c κs = search needs

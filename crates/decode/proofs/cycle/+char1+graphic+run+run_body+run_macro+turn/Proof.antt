@@ -12,7 +12,7 @@ use Rattle.reading.specs.Steps.{offset}
 use Rattle.decode.specs.Contracts.{below}
 use Rattle.decode.proofs.Loops.{Along, along-start, along-stretch, along-step, along-end, inside-offset, offset-as, limit-is, ready-good, ready-left, ready-less}
 use Rattle.decode.proofs.Bodies.{ran-as, step-as, did-ran, took-ran-by, one-step, shift-step, char1-macro, graphic-macro, body-deep, body-dear, ran-body, ran-empty, ready-body, macro-defined, macro-built-in, macro-none, shift-char, part-short, told-char, told-macro, told-shift, told-end, built-test, built-none, built-bare, built-short}
-use Rattle.plain.proofs.Dispatch.{step-char, step-shift, step-macro}
+use Rattle.decode_steps.proofs.Dispatch.{step-char, step-shift, step-macro}
 use Prim.Native.Nat.{ℕ, _<_}
 use borrow.Fn.Kinds.{In}
 use borrow.Fn.PlainCycle.{Measures, is, falls, and}
@@ -34,10 +34,10 @@ use Rattle.decode.proofs.cycle.+char1+graphic+run+run_body+run_macro+tu
 use Rattle.decode.proofs.cycle.turn.Reads as turn
 use Rattle.decode.proofs.cycle.turn.Kinds as turn-kinds
 use Rattle.decode.proofs.cycle.+char1+graphic+run+run_body+run_macro+turn.Lts-turn as turn-lts
-use Rattle.characters.proofs.report.Reads as report-reads
+use Rattle.decode_characters.proofs.report.Reads as report-reads
 use Rattle.decode.proofs.cycle.macro_cmd.Reads as macro-cmd-reads
-use Rattle.macros.proofs.default_macro.Reads as default-macro-reads
-use Rattle.plain.proofs.plain.Reads as plain-reads
+use Rattle.decode_macros.proofs.default_macro.Reads as default-macro-reads
+use Rattle.decode_steps.proofs.plain.Reads as plain-reads
 use Rattle.decode.proofs.cycle.+char1+graphic+run+run_body+run_macro+turn.{statement}
 use Rattle.decode.proofs.cycle.+char1+graphic+run+run_body+run_macro+turn.Tie.{close}
 

@@ -3,7 +3,7 @@ use mathlib.Core.Path.{sym, subst}
 use native.Mathlib.Omega.{arith}
 use lib.ListN.{length}
 use Rattle.reading.specs.Macros.{limit}
-use Rattle.decoder.specs.declared.Decoder.{Decoder}
+use Rattle.decode_state.specs.declared.Decoder.{Decoder}
 use Rattle.decode.specs.Contracts.{Inside, Ready}
 use Rattle.decode.proofs.Defining.{inside-define, outer-runs, outer-defines, outer-with, executed-from}
 use borrow.Author.Needs.{needs}

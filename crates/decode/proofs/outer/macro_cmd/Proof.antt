@@ -1,8 +1,8 @@
 use Prim.Native.Nat.{_-_}
 use lib.ListN.{length}
 use mathlib.Core.Path.{_∙_, ap}
-use Rattle.macros.specs.declared.Command.{Command}
-use Rattle.macros.specs.Contracts.{commanded}
+use Rattle.decode_macros.specs.declared.Command.{Command}
+use Rattle.decode_macros.specs.Contracts.{commanded}
 use Rattle.decode.specs.Contracts.{below}
 use Rattle.decode.proofs.Bodies.{took-ran-by}
 use Rattle.decode.proofs.Defining.{took-cut, took-malformed, within-malformed, within-ends, within-defines, outer-with, outer-ends, outer-as, ran-outer}
@@ -11,11 +11,11 @@ use Rattle.decode.proofs.outer.macro_cmd.Statement.{statement}
 use Rattle.decode.proofs.outer.macro_cmd.Tie as tie
 use Rattle.decode.proofs.outer.macro_cmd.Reads as reads
 use Rattle.decode.proofs.outer.macro_cmd.Lts as lts
-use Rattle.characters.proofs.report.Reads as report-reads
-use Rattle.controls.proofs.truncated.Reads as truncated-reads
+use Rattle.decode_characters.proofs.report.Reads as report-reads
+use Rattle.decode_controls.proofs.truncated.Reads as truncated-reads
 use Rattle.decode.proofs.outer.definition.Reads as definition-reads
 use Rattle.decode.proofs.outer.with_core.Reads as with-core-reads
-use Rattle.macros.proofs.read_command.Reads as read-command-reads
+use Rattle.decode_macros.proofs.read_command.Reads as read-command-reads
 
 read-command-requires : tie.Need-read-command-requires
 read-command-requires c κs = search needs

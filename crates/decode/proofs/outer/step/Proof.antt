@@ -1,6 +1,6 @@
 use mathlib.Core.Path.{_∙_, sym}
 use native.Mathlib.Omega.{arith}
-use Rattle.plain.proofs.Dispatch.{step-char, step-shift, step-macro}
+use Rattle.decode_steps.proofs.Dispatch.{step-char, step-shift, step-macro}
 use Rattle.decode.proofs.Bodies.{told-char, told-macro, told-shift, told-end, shift-char}
 use Rattle.decode.proofs.Defining.{outer-as, shift-outer}
 use borrow.Author.Needs.{needs}

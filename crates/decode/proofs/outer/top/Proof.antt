@@ -8,7 +8,7 @@ use Rattle.decode.proofs.outer.top.Tie as tie
 use Rattle.decode.proofs.outer.top.Reads as reads
 use Rattle.decode.proofs.outer.top.Lts as lts
 use Rattle.decode.proofs.outer.step.Reads as step-reads
-use Rattle.plain.proofs.steps.Reads as steps-reads
+use Rattle.decode_steps.proofs.steps.Reads as steps-reads
 
 abbrev Inv-loop : tie.InvT-loop
 Inv-loop cells input text₀ issues₀ d₀ i₀ text issues d i = Above cells input d₀ text₀ issues₀ i d text issues

@@ -2,7 +2,7 @@
 use mathlib.Core.Path.{sym}
 use borrow.Author.Needs.{needs}
 use lib.Seq.{length-take-le}
-use Rattle.keyline.proofs.Writing.{within}
+use Rattle.keys_lines.proofs.Writing.{within}
 use Rattle.keys.proofs.lines.print.Statement.{statement}
 use Rattle.keys.proofs.lines.print.Tie as tie
 

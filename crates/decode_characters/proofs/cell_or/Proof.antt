@@ -1,0 +1,77 @@
+-- `characters::cell_or` meets its contract. Assumes nothing.
+use mathlib.Core.Path.{sym, _∙_}
+use borrow.Author.Needs.{needs}
+use Rattle.decode_characters.proofs.Did.{did-as}
+use Rattle.decode_characters.proofs.Laws.{cell-undefined, cell-mark, cell-char}
+use Rattle.decode_characters.proofs.cell_or.Tie as tie
+use Rattle.decode_characters.proofs.cell_or.Statement.{statement}
+
+enum-known-cell : tie.Need-enum-known-cell
+enum-known-cell c = search needs
+
+is-non-spacing-requires : tie.Need-is-non-spacing-requires
+is-non-spacing-requires c κs = search needs
+
+wait-requires : tie.Need-wait-requires
+wait-requires c κs = search needs
+
+same-length : tie.Need-same-length
+same-length c = search needs
+
+returns : tie.Need-returns
+returns c =
+    let cell = c .before .before .before .before .before .before .before .cell in
+    let is-non-spacing = c .before .before .before .before .before .is-non-spacing in
+    let if1 = c .before .before .before .before .if1 in
+    let wait = c .before .before .wait in
+    λ cells x e. did-as (λ g q starts lens t₀ i₀ s k. cell-mark _ _ s x _ (sym (cell .given .1) ∙ e) (sym (is-non-spacing .ensures) ∙ if1 .taken)) (wait .ensures cells _)
+
+show-requires : tie.Need-show-requires
+show-requires c κs = search needs
+
+enum-told : tie.Need-enum-told
+enum-told c = search needs
+
+report-placeholder-requires : tie.Need-report-placeholder-requires
+report-placeholder-requires c κs = search needs
+
+same-length-2 : tie.Need-same-length-2
+same-length-2 c = search needs
+
+returns-2 : tie.Need-returns-2
+returns-2 c =
+    let cell = c .before .before .before .before .before .before .before .cell in
+    let is-non-spacing = c .before .before .before .before .before .is-non-spacing in
+    let if1 = c .before .before .before .before .if1 in
+    let show = c .before .before .show in
+    λ cells x e. did-as (λ g q starts lens t₀ i₀ s k. cell-char _ _ s x _ (sym (cell .given .1) ∙ e) (sym (is-non-spacing .ensures) ∙ if1 .left)) (show .ensures cells _)
+
+same-length-3 : tie.Need-same-length-3
+same-length-3 c = search needs
+
+same-length-4 : tie.Need-same-length-4
+same-length-4 c = search needs
+
+returns-3 : tie.Need-returns-3
+returns-3 c =
+    let enum-told = c .before .before .before .before .before .before .before .enum-told in
+    let report-placeholder = c .before .before .before .before .report-placeholder in
+    λ cells x e. did-as (λ g q starts lens t₀ i₀ s k. cell-undefined _ _ s x (sym (enum-told .given .1) ∙ e)) (report-placeholder .ensures cells)
+
+pub cell-or-spec : {M : Type 1} → statement M
+cell-or-spec =
+    tie.close
+    (tie.spec
+    enum-known-cell
+    is-non-spacing-requires
+    wait-requires
+    same-length
+    returns
+    show-requires
+    enum-told
+    report-placeholder-requires
+    same-length-2
+    returns-2
+    same-length-3
+    same-length-4
+    returns-3)

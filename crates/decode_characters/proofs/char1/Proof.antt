@@ -1,0 +1,91 @@
+-- `characters::char1` meets its contract. Assumes nothing.
+use Prim.Native.Nat.{_≤_, _<_}
+use mathlib.Core.Logic.{⊎-elim}
+use mathlib.Core.Path.{_∙_}
+use native.Mathlib.Omega.{arith}
+use borrow.Author.Needs.{needs}
+use Rattle.decode_characters.proofs.Did.{did-as}
+use Rattle.decode_characters.proofs.Laws.{char1-mosaic, char1-drcs, char1-letter, letter-narrows}
+use Rattle.decode_characters.proofs.char1.Tie as tie
+use Rattle.decode_characters.proofs.char1.Statement.{statement}
+
+report-mosaic-requires : tie.Need-report-mosaic-requires
+report-mosaic-requires c κs = search needs
+
+sub-t12 : tie.Need-sub-t12
+sub-t12 c = search needs
+
+report-placeholder-requires : tie.Need-report-placeholder-requires
+report-placeholder-requires c κs = search needs
+
+is-narrow-requires : tie.Need-is-narrow-requires
+is-narrow-requires c κs = search needs
+
+letter-at-requires : tie.Need-letter-at-requires
+letter-at-requires c κs = search needs
+
+emit-or-requires : tie.Need-emit-or-requires
+emit-or-requires c κs = search needs
+
+same-length : tie.Need-same-length
+same-length c = search needs
+
+returns : tie.Need-returns
+returns c =
+    let pre = c .before .before .before .before .before .before .before .before .pre in
+    let if1 = c .before .before .before .before .before .if1 in
+    let report-mosaic = c .before .before .report-mosaic in
+    λ cells left R. did-as (λ g q starts lens t₀ i₀ x k. char1-mosaic g left R _ _ _ x (pre .1 .1) (if1 .left) (omega arith)) (report-mosaic .ensures cells _)
+
+same-length-2 : tie.Need-same-length-2
+same-length-2 c = search needs
+
+same-length-3 : tie.Need-same-length-3
+same-length-3 c = search needs
+
+returns-2 : tie.Need-returns-2
+returns-2 c =
+    let pre = c .before .before .before .before .before .before .before .before .before .before .before .before .pre in
+    let report-placeholder = c .before .before .before .before .report-placeholder in
+    λ cells left R. did-as (λ g q starts lens t₀ i₀ x k. char1-drcs g left R _ _ _ x (pre .1 .1) (omega arith)) (report-placeholder .ensures cells)
+
+same-length-4 : tie.Need-same-length-4
+same-length-4 c = search needs
+
+same-length-5 : tie.Need-same-length-5
+same-length-5 c = search needs
+
+returns-3 : tie.Need-returns-3
+returns-3 c =
+    let a = c .before .before .before .before .before .before .before .before .before .before .before .before .args in
+    let if1 = c .before .before .before .before .before .before .before .before .before .if1 in
+    let letter-at = c .before .before .before .before .before .before .before .letter-at in
+    let is-narrow = c .before .before .before .before .before .before .before .before .is-narrow in
+    let pre = c .before .before .before .before .before .before .before .before .before .before .before .before .pre in
+    let emit-or = c .before .before .before .before .emit-or in
+    let z = a .set in
+    let far : 4 ≤ z → 7 < z = λ h. ⊎-elim (λ w. omega arith) (λ w. omega arith) (if1 .came) in
+    let small : z < 17 = ⊎-elim (λ w. omega arith) (λ w. omega arith) (if1 .came) in
+    λ cells left R.
+    did-as
+    (λ g q starts lens t₀ i₀ x k. letter-narrows g x _ _ _ _ (letter-at .ensures) (is-narrow .ensures) k ∙ char1-letter g left R _ _ _ x (pre .1 .1) far small)
+    (emit-or .ensures cells)
+
+pub char1-spec : {M : Type 1} → statement M
+char1-spec =
+    tie.close
+    (tie.spec
+    report-mosaic-requires
+    sub-t12
+    report-placeholder-requires
+    is-narrow-requires
+    letter-at-requires
+    emit-or-requires
+    same-length
+    returns
+    same-length-2
+    same-length-3
+    returns-2
+    same-length-4
+    same-length-5
+    returns-3)

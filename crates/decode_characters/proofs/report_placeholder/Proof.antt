@@ -1,0 +1,37 @@
+-- `characters::report_placeholder` meets its contract. Assumes nothing.
+use native.Mathlib.Omega.{arith}
+use borrow.Author.Needs.{needs}
+use Rattle.reading.specs.State.{placeholder}
+use Rattle.decode_output.proofs.Callers.{room-left, wrote-then}
+use Rattle.decode_characters.proofs.Did.{did-writes}
+use Rattle.decode_characters.proofs.report_placeholder.Tie as tie
+use Rattle.decode_characters.proofs.report_placeholder.Statement.{statement}
+
+issue-requires : tie.Need-issue-requires
+issue-requires c κs = search needs
+
+emit-requires : tie.Need-emit-requires
+emit-requires c κs =
+    let pre = c .before .before .before .before .before .before .before .before .pre in
+    let issue = c .before .before .before .issue in
+    let a = c .before .before .before .before .before .before .before .before .args in
+    room-left (pre .room) (issue .ensures (a .text .now) .grew)
+
+same-length : tie.Need-same-length
+same-length c = search needs
+
+same-length-2 : tie.Need-same-length-2
+same-length-2 c = search needs
+
+returns : tie.Need-returns
+unfolding placeholder
+returns c =
+    let pre = c .before .before .before .before .before .before .before .before .before .before .before .pre in
+    let issue = c .before .before .before .before .before .before .issue in
+    let a = c .before .before .before .before .before .before .before .before .before .before .before .args in
+    let emit = c .before .before .emit in
+    λ cells. did-writes cells (omega arith) (omega arith) (pre) (wrote-then (issue .ensures (a .text .now)) (emit .ensures _))
+
+pub report-placeholder-spec : {M : Type 1} → statement M
+report-placeholder-spec =
+    tie.close (tie.spec issue-requires emit-requires same-length same-length-2 returns)

@@ -1,0 +1,21 @@
+-- `characters::show` meets its contract. Assumes nothing.
+use native.Mathlib.Omega.{arith}
+use borrow.Author.Needs.{needs}
+use Rattle.decode_characters.proofs.Did.{did-writes}
+use Rattle.decode_characters.proofs.show.Tie as tie
+use Rattle.decode_characters.proofs.show.Statement.{statement}
+
+emit-requires : tie.Need-emit-requires
+emit-requires c κs = search needs
+
+same-length : tie.Need-same-length
+same-length c = search needs
+
+returns : tie.Need-returns
+returns c =
+    let pre = c .before .before .before .before .before .before .pre in
+    let emit = c .before .before .emit in
+    λ cells i. did-writes cells (omega arith) (omega arith) (pre) (emit .ensures i)
+
+pub show-spec : {M : Type 1} → statement M
+show-spec = tie.close (tie.spec emit-requires same-length returns)

@@ -1,0 +1,24 @@
+-- `characters::truncated` meets its contract. Assumes nothing.
+use mathlib.Core.Path.{refl}
+use native.Mathlib.Omega.{arith}
+use borrow.Author.Needs.{needs}
+use Rattle.reading.specs.State.{truncated}
+use Rattle.decode_characters.proofs.Did.{took-did}
+use Rattle.decode_characters.proofs.truncated.Tie as tie
+use Rattle.decode_characters.proofs.truncated.Statement.{statement}
+
+report-requires : tie.Need-report-requires
+report-requires c κs = search needs
+
+same-length : tie.Need-same-length
+same-length c = search needs
+
+returns : tie.Need-returns
+unfolding truncated
+returns c =
+    let a = c .before .before .before .before .before .args in
+    let report = c .before .before .report in
+    λ cells b t i h. took-did (λ g. truncated 1 (a .at)) 1 (omega arith) (omega arith) (λ g x. refl) (report .ensures cells t)
+
+pub truncated-spec : {M : Type 1} → statement M
+truncated-spec = tie.close (tie.spec report-requires same-length returns)

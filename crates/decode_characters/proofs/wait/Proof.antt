@@ -1,0 +1,21 @@
+-- `characters::wait` meets its contract. Assumes nothing.
+use native.Mathlib.Omega.{arith}
+use borrow.Author.Needs.{needs}
+use Rattle.decode_characters.proofs.Did.{did-writes}
+use Rattle.decode_characters.proofs.wait.Tie as tie
+use Rattle.decode_characters.proofs.wait.Statement.{statement}
+
+mark-requires : tie.Need-mark-requires
+mark-requires c κs = search needs
+
+same-length : tie.Need-same-length
+same-length c = search needs
+
+returns : tie.Need-returns
+returns c =
+    let pre = c .before .before .before .before .before .before .pre in
+    let mark = c .before .before .mark in
+    λ cells i. did-writes cells (omega arith) (omega arith) (pre) (mark .ensures i)
+
+pub wait-spec : {M : Type 1} → statement M
+wait-spec = tie.close (tie.spec mark-requires same-length returns)

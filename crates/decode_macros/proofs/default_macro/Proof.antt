@@ -1,0 +1,74 @@
+-- `default_macro` meets its contract: a row of Table 7-18, or none. Assumes nothing.
+use borrow.Author.Tests.{le-leb, lt-leb}
+use Rattle.reading.specs.Macros.{builtin}
+use Rattle.decode_macros.proofs.Laws.{room, built, unbuilt}
+use borrow.Author.Needs.{needs}
+use Rattle.decode_macros.proofs.default_macro.Statement.{statement}
+use Rattle.decode_macros.proofs.default_macro.Tie as tie
+
+returns : tie.Need-returns
+returns c = unbuilt _ (c .before .before .args .code) (simp (lt-leb _ _ (c .if1 .taken)))
+
+returns-2 : tie.Need-returns-2
+returns-2 c = unbuilt _ (c .before .before .before .args .code) (simp (le-leb _ _ (c .before .if1 .left), lt-leb _ _ (c .if2 .taken)))
+
+mul-put-body : tie.Need-mul-put-body
+mul-put-body c = search needs
+
+index-1-put-body : tie.Need-index-1-put-body
+index-1-put-body c = search needs
+
+index-2-put-body : tie.Need-index-2-put-body
+index-2-put-body c = search needs
+
+mul-put-body-2 : tie.Need-mul-put-body-2
+mul-put-body-2 c = search needs
+
+index-1-put-body-2 : tie.Need-index-1-put-body-2
+index-1-put-body-2 c = search needs
+
+index-2-put-body-2 : tie.Need-index-2-put-body-2
+index-2-put-body-2 c = search needs
+
+mul-put-body-3 : tie.Need-mul-put-body-3
+mul-put-body-3 c = search needs
+
+index-1-put-body-3 : tie.Need-index-1-put-body-3
+index-1-put-body-3 c = search needs
+
+index-2-put-body-3 : tie.Need-index-2-put-body-3
+index-2-put-body-3 c = search needs
+
+put-body-requires : tie.Need-put-body-requires
+unfolding builtin
+put-body-requires c κs =
+    let t = c .before .before .before .before .before .before .before in
+    room (t .args .body .now) (t .args .code) (c .before .before .before .before .before .if1 .left) (c .before .before .before .before .if2 .left) (t .pre)
+
+same-length : tie.Need-same-length
+same-length c = search needs
+
+returns-3 : tie.Need-returns-3
+unfolding builtin
+returns-3 c =
+    let t = c .before .before .before .before .before .before .before .before .before .before in
+    built (t .args .code) (c .before .before .before .before .before .before .before .before .if1 .left) (c .before .before .before .before .before .before .before .if2 .left) (t .pre) (c .before .before .put-body .ensures)
+
+pub default-macro-spec : {M : Type 1} → statement M
+default-macro-spec =
+    tie.close
+    (tie.spec
+    returns
+    returns-2
+    mul-put-body
+    index-1-put-body
+    index-2-put-body
+    mul-put-body-2
+    index-1-put-body-2
+    index-2-put-body-2
+    mul-put-body-3
+    index-1-put-body-3
+    index-2-put-body-3
+    put-body-requires
+    same-length
+    returns-3)

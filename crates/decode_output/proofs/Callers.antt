@@ -1,0 +1,44 @@
+-- Laws for a caller: where it begins, how one step follows another, and a new repeat. Assumes nothing.
+use Prim.Native.Nat.{ℕ, _+_, _≤_}
+use mathlib.Core.Path.{refl}
+use mathlib.Core.List.{List}
+use native.Mathlib.Omega.{arith}
+use Rattle.utf8.specs.Utf8.{utf8s}
+use Rattle.issues.specs.Issue.{issuesNumbers}
+use Rattle.decode_output.specs.declared.Out.{Out}
+use Rattle.decode_output.specs.Output.{Output, nothing, setRepeat}
+use Rattle.decode_output.specs.Contracts.{outOf, Holds, Room, Grew, Wrote}
+
+pub holds-nothing : (t i : List ℕ) → Holds t i nothing (outOf nothing) t i
+unfolding nothing utf8s issuesNumbers
+holds-nothing t i = record { state = refl; text = refl; issues = refl }
+
+-- room for less
+pub room-less : {n k a b : ℕ} {s : Out} → Room n k s → a ≤ n → b ≤ k → Room a b s
+room-less p g h = record { ordered = p .ordered; repeat = p .repeat; text = omega arith; issues = omega arith }
+
+-- the room that a step leaves
+pub room-left : {n k a b : ℕ} {s r : Out} → Room (a + n) (b + k) s → Grew a b s r → Room n k r
+room-left p g = record { ordered = g .ordered; repeat = g .repeat; text = omega arith; issues = omega arith }
+
+-- a step and then another
+pub wrote-then : {n k a b : ℕ} {f g : Output → Output} {s r q : Out} {t i t′ i′ t″ i″ : List ℕ} → Wrote a b f s t i r t′ i′ → Wrote n k g r t′ i′ q t″ i″
+    → Wrote (a + n) (b + k) (λ o. g (f o)) s t i q t″ i″
+wrote-then {f = f} v w =
+    let p = v .grew in
+    let q = w .grew in
+    record {
+      does = λ t₀ i₀ o h. w .does t₀ i₀ (f o) (v .does t₀ i₀ o h);
+      grew = record { ordered = q .ordered; repeat = q .repeat; text = omega arith; issues = omega arith };
+    }
+
+-- a repeat waits, or none
+pub wrote-repeat : {n k : ℕ} {s : Out} (r : ℕ) (t i : List ℕ) → Room n k s → r ≤ 63
+    → Wrote 0 0 (setRepeat r) s t i (record { len = s .len; end = s .end; first = s .first; repeat = r; issues = s .issues }) t i
+unfolding setRepeat
+wrote-repeat r t i p g =
+    record {
+      does = λ t₀ i₀ o h.
+          record { state = λ j. record { len = h .state j .len; end = h .state j .end; first = h .state j .first; repeat = r; issues = h .state j .issues }; text = h .text; issues = h .issues };
+      grew = record { ordered = p .ordered; repeat = g; text = omega arith; issues = omega arith };
+    }

@@ -1,0 +1,78 @@
+-- `output::emit` meets its contract. Assumes nothing.
+use mathlib.Core.Path.{ap, sym, _∙_}
+use native.Mathlib.Omega.{arith}
+use Rattle.decode_output.specs.Output.{times}
+use Rattle.utf8.proofs.Bytes.{length-utf8}
+use Rattle.decode_output.proofs.Held.{held-repeat, emit-times, times-some, holds-plain}
+use borrow.Author.Needs.{needs}
+use Rattle.decode_output.proofs.emit.Statement.{statement}
+use Rattle.decode_output.proofs.emit.Tie as tie
+
+emit-times-requires : tie.Need-emit-times-requires
+emit-times-requires c κs = search needs
+
+same-length : tie.Need-same-length
+same-length c = search needs
+
+returns : tie.Need-returns
+returns c =
+    let a = c .before .before .before .before .before .before .before .args in
+    λ i.
+    let w = c .before .before .emit-times .ensures i in
+    record {
+      does = λ t₀ i₀ o h. rw (emit-times o (a .c) (times-some (a .o .repeat) (c .before .before .before .before .if1 .taken) ∙ ap times (held-repeat h))) at (w .does t₀ i₀ o h);
+      grew = w .grew;
+    }
+
+emit-times-requires-2 : tie.Need-emit-times-requires-2
+emit-times-requires-2 c κs = search needs
+
+same-length-2 : tie.Need-same-length-2
+same-length-2 c = search needs
+
+returns-2 : tie.Need-returns-2
+unfolding times
+returns-2 c =
+    let a = c .before .before .before .before .before .before .before .before .before .args in
+    λ i.
+    let w = c .before .before .emit-times2 .ensures i in
+    record {
+      does = λ t₀ i₀ o h. rw (emit-times o (a .c) (ap times (sym (c .before .before .before .before .before .before .if1 .left) ∙ held-repeat h))) at (w .does t₀ i₀ o h);
+      grew = w .grew;
+    }
+
+put-requires : tie.Need-put-requires
+put-requires c κs = search needs
+
+add-to : tie.Need-add-to
+add-to c =
+    let a = c .before .before .before .before .before .before .before .before .before .args in
+    omega (arith, c .before .before .put .ensures .count, length-utf8 (a .c) .most)
+
+same-length-3 : tie.Need-same-length-3
+same-length-3 c = search needs
+
+returns-3 : tie.Need-returns-3
+returns-3 c =
+    let a = c .before .before .before .before .before .before .before .before .before .args in
+    let w = c .before .before .put .ensures in
+    λ i.
+    record {
+      does = λ t₀ i₀ o h. rw (w .bytes, w .count) (holds-plain h (a .c) (c .before .before .before .before .if2 .left) (c .before .before .before .before .before .before .if1 .left));
+      grew = record { ordered = omega arith; repeat = omega arith; text = omega (arith, length-utf8 (a .c) .most); issues = omega arith };
+    }
+
+pub emit-spec : {M : Type 1} → statement M
+emit-spec =
+    tie.close
+    (tie.spec
+    emit-times-requires
+    same-length
+    returns
+    emit-times-requires-2
+    same-length-2
+    returns-2
+    put-requires
+    add-to
+    same-length-3
+    returns-3)

@@ -1,0 +1,77 @@
+-- `output::emit_times` meets its contract. Assumes nothing.
+use mathlib.Core.Path.{refl}
+use native.Mathlib.Omega.{arith}
+use Rattle.decode_output.proofs.Counts.{width-times, times-most}
+use Rattle.decode_output.proofs.Held.{holds-moved, holds-counted}
+use borrow.Author.Needs.{needs}
+use Rattle.decode_output.proofs.emit_times.Statement.{statement}
+use Rattle.decode_output.proofs.emit_times.Tie as tie
+
+width-requires : tie.Need-width-requires
+width-requires c κs = search needs
+
+mul-d : tie.Need-mul-d
+mul-d c =
+    let a = c .before .before .args in
+    omega (arith, width-times (a .n) (a .c) (c .width .ensures), times-most (a .n) (a .c))
+
+add-to : tie.Need-add-to
+add-to c =
+    let a = c .before .before .args in
+    omega (arith, width-times (a .n) (a .c) (c .width .ensures), times-most (a .n) (a .c))
+
+sub-insert : tie.Need-sub-insert
+sub-insert c = search needs
+
+part-insert-start : tie.Need-part-insert-start
+part-insert-start c = search needs
+
+part-insert-end : tie.Need-part-insert-end
+part-insert-end c = search needs
+
+sub-insert-2 : tie.Need-sub-insert-2
+sub-insert-2 c = search needs
+
+insert-requires : tie.Need-insert-requires
+insert-requires c κs =
+    let a = c .before .before .before .before .args in
+    (omega arith, omega arith, omega arith, width-times (a .n) (a .c) (c .before .before .width .ensures))
+
+same-length : tie.Need-same-length
+same-length c = search needs
+
+returns : tie.Need-returns
+returns c =
+    let a = c .before .before .before .before .before .before .before .args in
+    let e = width-times (a .n) (a .c) (c .before .before .before .before .before .width .ensures) in
+    λ i.
+    record {
+      does = λ t₀ i₀ o h. holds-moved h (a .n) (a .c) e (c .before .before .before .before .if1 .taken) refl (c .before .before .insert .ensures);
+      grew = record { ordered = omega arith; repeat = omega arith; text = omega (arith, e, times-most (a .n) (a .c)); issues = omega arith };
+    }
+
+returns-2 : tie.Need-returns-2
+returns-2 c =
+    let a = c .before .before .before .args in
+    let e = width-times (a .n) (a .c) (c .before .width .ensures) in
+    λ i.
+    record {
+      does = λ t₀ i₀ o h. holds-counted h (a .n) (a .c) e (omega (arith, c .if1 .left));
+      grew = record { ordered = omega arith; repeat = omega arith; text = omega (arith, e, times-most (a .n) (a .c)); issues = omega arith };
+    }
+
+pub emit-times-spec : {M : Type 1} → statement M
+emit-times-spec =
+    tie.close
+    (tie.spec
+    width-requires
+    mul-d
+    add-to
+    sub-insert
+    part-insert-start
+    part-insert-end
+    sub-insert-2
+    insert-requires
+    same-length
+    returns
+    returns-2)

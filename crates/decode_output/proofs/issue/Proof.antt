@@ -1,0 +1,75 @@
+-- `output::issue` meets its contract. Assumes nothing.
+use native.Mathlib.Omega.{arith}
+use Rattle.decode_output.proofs.Held.{holds-report}
+use borrow.Author.Needs.{needs}
+use Rattle.decode_output.proofs.issue.Statement.{statement}
+use Rattle.decode_output.proofs.issue.Tie as tie
+
+numbers-requires : tie.Need-numbers-requires
+numbers-requires c κs = search needs
+
+mul-k : tie.Need-mul-k
+mul-k c = search needs
+
+put32-requires : tie.Need-put32-requires
+put32-requires c κs = search needs
+
+add-put32 : tie.Need-add-put32
+add-put32 c = search needs
+
+put32-requires-2 : tie.Need-put32-requires-2
+put32-requires-2 c κs = search needs
+
+add-put32-2 : tie.Need-add-put32-2
+add-put32-2 c = search needs
+
+put32-requires-3 : tie.Need-put32-requires-3
+put32-requires-3 c κs = search needs
+
+add-put32-3 : tie.Need-add-put32-3
+add-put32-3 c = search needs
+
+put32-requires-4 : tie.Need-put32-requires-4
+put32-requires-4 c κs = search needs
+
+add-r : tie.Need-add-r
+add-r c = search needs
+
+same-length : tie.Need-same-length
+same-length c = search needs
+
+returns : tie.Need-returns
+returns c =
+    let start = c .before .before .before .before .before .before .before .before .before .before .before .before .before .before .before .before .before .before .before .before in
+    let a = start .args in
+    let p = start .pre in
+    λ t.
+    record {
+      does = λ t₀ i₀ o h.
+          rw (
+            c .before .before .before .put324 .ensures,
+            c .before .before .before .before .before .before .before .put323 .ensures,
+            c .before .before .before .before .before .before .before .before .before .before .before .put322 .ensures,
+            c .before .before .before .before .before .before .before .before .before .before .before .before .before .before .before .put32 .ensures,
+            c .before .before .before .before .before .before .before .before .before .before .before .before .before .before .before .before .before .before .numbers .ensures,
+          )
+          (holds-report h (a .at) (a .kind));
+      grew = record { ordered = p .ordered; repeat = p .repeat; text = omega arith; issues = omega arith };
+    }
+
+pub issue-spec : {M : Type 1} → statement M
+issue-spec =
+    tie.close
+    (tie.spec
+    numbers-requires
+    mul-k
+    put32-requires
+    add-put32
+    put32-requires-2
+    add-put32-2
+    put32-requires-3
+    add-put32-3
+    put32-requires-4
+    add-r
+    same-length
+    returns)

@@ -1,0 +1,198 @@
+// What a decoder has written: text and issues in two lent buffers, with the marks that wait at the
+// end of the text. What does not fit is counted and not written, so that the counts are those of
+// the whole result. From `emit`, `issue` and `flush_dangling` of decode.rs.
+use issues::IssueKind;
+ghost use mathlib.Core.Path.{_≡_};
+ghost use Prim.Native.Nat.{ℕ, _≤_};
+ghost use mathlib.Core.List.{List};
+ghost use lib.ListN.{length, take, set, replicate};
+ghost use lib.Seq.{sets};
+ghost use Rattle.utf8.specs.Utf8.{utf8s};
+ghost use Rattle.decode_output.specs.Output.{
+  nothing,
+  emitTimes,
+  emit,
+  mark,
+  report,
+  release,
+  newline,
+};
+ghost use Rattle.decode_output.specs.Contracts.{outOf, Room, Wrote};
+
+pub struct Out {
+    // Bytes of the text without the waiting marks.
+    pub len: usize,
+    // Bytes with them: where the next mark goes.
+    pub end: usize,
+    // The first waiting mark's offset, 0 where none waits.
+    pub first: u32,
+    // The waiting repeat, 0 where none waits.
+    pub repeat: u32,
+    // Issues reported.
+    pub issues: usize,
+}
+
+// Nothing is written, and nothing waits.
+pub fn start() -> Out
+    ensures { λ r. ⌜ r ≡ outOf nothing ⌝ }
+{
+    Out {
+        len: 0,
+        end: 0,
+        first: 0,
+        repeat: 0,
+        issues: 0,
+    }
+}
+
+// Moves the first m bytes of the part up by d.
+fn shift_up(part: &mut [u8], m: usize, d: usize)
+    requires { ⌜ (m ≤ 0x10000000000) × (1 ≤ d) × (d ≤ 252) ⌝ }
+    ensures { λ _. ⌜ now (part .exit) ≡ sets (now (part .entry)) d (take m (now (part .entry))) ⌝ }
+{
+    let mut j = m;
+    while j > 0 {
+        j -= 1;
+        if j + d < part.len() {
+            part[j + d] = part[j];
+        }
+    }
+}
+
+// Writes c from the start of the part on, n times.
+fn put_times(part: &mut [u8], c: u32, n: u32)
+    requires { ⌜ n ≤ 63 ⌝ }
+    ensures { λ _. ⌜ now (part .exit) ≡ sets (now (part .entry)) 0 (utf8s (replicate n c)) ⌝ }
+{
+    let mut to = 0;
+    let mut k: u32 = 0;
+    while k < n {
+        to += utf8::put(part, to, c);
+        k += 1;
+    }
+}
+
+// The part begins with m bytes of waiting marks: they move up past c, written n times in d bytes.
+fn insert(part: &mut [u8], m: usize, c: u32, n: u32, d: usize)
+    requires { ⌜ (m ≤ 0x10000000000) × (1 ≤ n) × (n ≤ 63) × (d ≡ length (utf8s (replicate n c))) ⌝ }
+    ensures { λ _. ⌜ now (part .exit) ≡ sets (sets (now (part .entry)) d (take m (now (part .entry)))) 0 (utf8s (replicate n c)) ⌝ }
+{
+    shift_up(part, m, d);
+    put_times(part, c, n);
+}
+
+// Writes a character n times, and moves the waiting marks behind it. §7.1.1.4.
+fn emit_times(o: Out, c: u32, n: u32, text: &mut [u8]) -> Out
+    requires { ⌜ Room 1 0 o ⌝ }
+    requires { ⌜ (1 ≤ n) × (n ≤ 63) ⌝ }
+    ensures { λ r. ⌜ ((i : List ℕ) → Wrote 1 0 (emitTimes n c) o (now (text .entry)) i r (now (text .exit)) i) ⌝ }
+{
+    let len = o.len;
+    let end = o.end;
+    let d = utf8::width(c) * (n as usize);
+    let to = end + d;
+    let r = Out {
+        len: to,
+        end: to,
+        first: 0,
+        repeat: 0,
+        issues: o.issues,
+    };
+    if len <= text.len() {
+        insert(&mut text[len..], end - len, c, n, d);
+        r
+    } else {
+        r
+    }
+}
+
+// Writes a character as often as the waiting repeat says, then the waiting marks. §7.1.1.4.
+pub fn emit(o: Out, c: u32, text: &mut [u8]) -> Out
+    requires { ⌜ Room 1 0 o ⌝ }
+    ensures { λ r. ⌜ ((i : List ℕ) → Wrote 1 0 (emit c) o (now (text .entry)) i r (now (text .exit)) i) ⌝ }
+{
+    if o.repeat != 0 {
+        return emit_times(o, c, o.repeat, text);
+    }
+    let end = o.end;
+    if o.len != end {
+        return emit_times(o, c, 1, text);
+    }
+    let to = end + utf8::put(text, end, c);
+    Out {
+        len: to,
+        end: to,
+        first: 0,
+        repeat: 0,
+        issues: o.issues,
+    }
+}
+
+// A non-spacing character waits for the character that it combines with. §7.1.1.4.
+pub fn mark(o: Out, m: u32, at: u32, text: &mut [u8]) -> Out
+    requires { ⌜ Room 1 0 o ⌝ }
+    ensures { λ r. ⌜ ((i : List ℕ) → Wrote 1 0 (mark m at) o (now (text .entry)) i r (now (text .exit)) i) ⌝ }
+{
+    let end = o.end;
+    let mut r = o;
+    r.end = end + utf8::put(text, end, m);
+    if o.len == end {
+        r.first = at;
+    }
+    r
+}
+
+// Writes x at the place n, if it fits.
+fn put32(d: &mut [u32], n: usize, x: u32)
+    ensures { λ _. ⌜ now (d .exit) ≡ set (now (d .entry)) n x ⌝ }
+{
+    if n < d.len() {
+        d[n] = x;
+    }
+}
+
+// How many numbers an issue is: its offset, its kind and two fields.
+pub const NUMBERS: usize = 4;
+
+// Reports an issue: the one place where issues are written.
+pub fn issue(o: Out, at: u32, kind: IssueKind, issues: &mut [u32]) -> Out
+    requires { ⌜ Room 0 1 o ⌝ }
+    ensures { λ r. ⌜ ((t : List ℕ) → Wrote 0 1 (report at kind) o t (now (issues .entry)) r t (now (issues .exit))) ⌝ }
+{
+    let n = kind.numbers();
+    let k = o.issues * NUMBERS;
+    put32(issues, k, at);
+    put32(issues, k + 1, n.kind);
+    put32(issues, k + 2, n.first);
+    put32(issues, k + 3, n.second);
+    let mut r = o;
+    r.issues = o.issues + 1;
+    r
+}
+
+// Waiting marks without a base stay where they stand, and the first one's offset is reported.
+pub fn flush_dangling(o: Out, issues: &mut [u32]) -> Out
+    requires { ⌜ Room 0 1 o ⌝ }
+    ensures { λ r. ⌜ ((t : List ℕ) → Wrote 0 1 release o t (now (issues .entry)) r t (now (issues .exit))) ⌝ }
+{
+    if o.len == o.end {
+        return o;
+    }
+    let mut r = issue(o, o.first, IssueKind::DanglingNonSpacing, issues);
+    r.len = r.end;
+    r.first = 0;
+    r
+}
+
+// APR: marks still waiting stay before the new line, and the waiting repeat waits on. Table 7-15.
+pub fn newline(o: Out, text: &mut [u8], issues: &mut [u32]) -> Out
+    requires { ⌜ Room 1 1 o ⌝ }
+    ensures { λ r. ⌜ Wrote 1 1 newline o (now (text .entry)) (now (issues .entry)) r (now (text .exit)) (now (issues .exit)) ⌝ }
+{
+    let mut r = flush_dangling(o, issues);
+    let end = r.end;
+    let to = end + utf8::put(text, end, 0x0A);
+    r.len = to;
+    r.end = to;
+    r
+}

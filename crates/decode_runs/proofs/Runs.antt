@@ -1,0 +1,281 @@
+-- Runs of characters and controls, one after the other. Assumes nothing.
+use Prim.Native.Nat.{ℕ, _+_, _-_, _*_, _≤_}
+use mathlib.Core.Path.{_≡_, refl, sym, ap, subst, _∙_}
+use mathlib.Core.Bool.{Bool, _||_}
+use lib.Dec.{eqb}
+use mathlib.Core.List.{List, [], _∷_}
+use native.Mathlib.Omega.{arith}
+use lib.ListN.{length, take, drop, getD}
+use lib.Seq.{sets, length-sets, getD-take}
+use Rattle.utf8.specs.Utf8.{utf8}
+use Rattle.decode_output.specs.Output.{emit}
+use Rattle.decode_output.specs.declared.Out.{Out}
+use Rattle.decode_output.proofs.Held.{held-repeat, marks-none, holds-plain}
+use Rattle.reading.specs.State.{Given, State, Step, writes, isNarrow}
+use Rattle.reading.specs.Steps.{steps, offset}
+use Rattle.decode_state.specs.declared.Core.{Core}
+use Rattle.decode_state.specs.Contracts.{whole, Holds, Goes, Good, Stretch}
+use Rattle.decode_state.proofs.Lift.{holds-writes}
+use Rattle.decode_state.proofs.Steps.{goes-none, goes-on, goes-step}
+use Rattle.decode_settings.specs.Contracts.{withSettings, Fine, Controls}
+use Rattle.decode_settings.proofs.Turning.{seven}
+use Rattle.decode_runs.specs.Contracts.{Sees, Spells, withText, Plain, Letters, coreAt, RunsTo}
+
+sees : {gl gr : ℕ} {narrow : Bool} {n m : ℕ} {g : Given} {c : Core} {starts lens t₀ i₀ t i : List ℕ} {s : State} → Plain gl gr narrow n c
+    → Holds g t₀ i₀ s (whole (withText c m) starts lens) t i → Sees gl gr narrow g s
+unfolding isNarrow
+sees p h =
+    record {
+      gl = p .gl ∙ (λ k. getD (h .state k .core .sets) (h .state k .core .gl) 0);
+      gr = p .gr ∙ (λ k. getD (h .state k .core .sets) (h .state k .core .gr) 0);
+      narrow = p .narrow ∙ (λ k. h .state k .core .annex || h .state k .core .narrow);
+      marks = marks-none (h .out) refl;
+      marks-at = sym (ap (λ (o : Out). o .first) (h .out .state));
+      repeat = sym (held-repeat (h .out));
+    }
+
+-- the loop: what is spelt up to the byte j₁, the text as long as it was, and room for three bytes a byte before `to`
+pub record Spelt (cells b : List ℕ) (j to gl gr : ℕ) (narrow : Bool) (n : ℕ) (t : List ℕ) (j₁ n₁ : ℕ) (t₁ : List ℕ) : Type 0 where
+  pub letters : Letters cells b j gl gr narrow n t j₁ n₁ t₁
+  pub as-long : length t₁ ≡ length t
+  pub room : n₁ + 3 * (to - j₁) ≤ length t
+
+module _ {cells b : List ℕ} {j to gl gr : ℕ} {narrow : Bool} {n : ℕ} {t : List ℕ} where
+  pub spelt-start : j ≤ length b → n + 3 * (to - j) ≤ length t → Spelt cells b j to gl gr narrow n t j n t
+  spelt-start h r =
+      record {
+        letters =
+            record {
+              past = omega arith;
+              within = h;
+              most = omega arith;
+              goes = λ g e left R base origin i starts lens c p.
+                  subst (λ (z : Core). Goes g left R base origin b j (whole c starts lens) t i j (whole z starts lens) t i) (p .text) (goes-none g left R base origin b j (whole c starts lens) t i);
+            };
+        as-long = refl;
+        room = r;
+      }
+
+  -- a character more
+  pub spelt-more : {j₁ n₁ : ℕ} {t₁ : List ℕ} (u l : ℕ) {t₂ : List ℕ} {w : ℕ} → Spelt cells b j to gl gr narrow n t j₁ n₁ t₁ → 1 ≤ u → j₁ + u ≤ length b
+      → Spells cells b j₁ gl gr narrow u l → w ≡ length (utf8 l) → w ≤ 3 * u → w + 3 * (to - (j₁ + u)) ≤ 3 * (to - j₁) → t₂ ≡ sets t₁ n₁ (utf8 l)
+      → Spelt cells b j to gl gr narrow n t (j₁ + u) (n₁ + w) t₂
+  spelt-more {j₁} {n₁} {t₁} u l {t₂} {w} s a v k e m q d =
+      let p = s .letters in
+      let past = p .past in
+      let most = p .most in
+      let room = s .room in
+      record {
+        letters =
+            record {
+              past = omega arith;
+              within = v;
+              most = omega arith;
+              goes = λ g ce left R base origin i starts lens c f.
+                  goes-on g left R base origin b j (whole c starts lens) t i j₁ (whole (withText c n₁) starts lens) t₁ i (j₁ + u) (whole (withText c (n₁ + w)) starts lens) t₂ i
+                  (p .goes g ce left R base origin i starts lens c f)
+                  (goes-step g left R base origin b j₁ (withText c n₁) t₁ i u (withText c (n₁ + w)) t₂ i starts lens (omega arith) a
+                  record {
+                    does = λ starts lens t₀ i₀ x h.
+                        subst
+                        (λ (y : Step). Holds g t₀ i₀ (y .to) (whole (withText c (n₁ + w)) starts lens) t₂ i)
+                        (k g ce left R (base + j₁) (offset origin j₁) x (sees f h))
+                        (subst
+                        (λ (y : List ℕ). Holds g t₀ i₀ (writes (emit l) x) (whole (withText c (n₁ + w)) starts lens) y i)
+                        (sym d)
+                        (subst
+                        (λ (y : ℕ). Holds g t₀ i₀ (writes (emit l) x) (whole (withText c (n₁ + y)) starts lens) (sets t₁ n₁ (utf8 l)) i)
+                        (sym e)
+                        (holds-writes g starts lens t₀ i₀ x (withText c n₁) t₁ i h (emit l) _ _ i (holds-plain (h .out) l refl refl))));
+                    used = λ starts lens t₀ i₀ x h. ap (λ (y : Step). y .used) (k g ce left R (base + j₁) (offset origin j₁) x (sees f h));
+                  });
+            };
+        as-long = ap length d ∙ length-sets t₁ n₁ (utf8 l) ∙ s .as-long;
+        room = omega arith;
+      }
+
+-- no step
+pub stretch-none : {cells b : List ℕ} {j : ℕ} {c : Core} {t i : List ℕ} (base origin : ℕ) → j ≤ length b → Good (length b - j) c → Stretch cells base origin b j c t i j c t i
+stretch-none {b = b} {j} {c} {t} {i} base origin h p =
+    let r = p .room in
+    record {
+      past = omega arith;
+      within = h;
+      kept = record { gl = p .gl; gr = p .gr; charged = refl; grew = record { ordered = r .ordered; repeat = r .repeat; text = omega arith; issues = omega arith } };
+      goes = λ g e left R starts lens. goes-none g left R base origin b j (whole c starts lens) t i;
+    }
+
+-- ---- characters and controls
+
+module _ {cells b : List ℕ} {j : ℕ} {annex : Bool} {l : List ℕ} {n : ℕ} {t : List ℕ} where
+  pub runs-none : j ≤ length b → Fine l → RunsTo cells b j annex l n t j l n t
+  runs-none h f =
+      record {
+        past = omega arith;
+        within = h;
+        most = omega arith;
+        fine = f;
+        goes = λ g e left R base origin i starts lens c a. goes-none g left R base origin b j (whole (coreAt l n c) starts lens) t i;
+      }
+
+  module _ {j₁ : ℕ} {l₁ : List ℕ} {n₁ : ℕ} {t₁ : List ℕ} (r : RunsTo cells b j annex l n t j₁ l₁ n₁ t₁) where
+    -- characters more, by the sets in GL and GR
+    pub runs-letters : {gl gr : ℕ} {narrow : Bool} {j₂ n₂ : ℕ} {t₂ : List ℕ} → gl ≡ getD (take 4 l₁) (getD l₁ 4 0) 0 → gr ≡ getD (take 4 l₁) (getD l₁ 5 0) 0
+        → narrow ≡ (annex || eqb (getD l₁ 6 0) 1) → Letters cells b j₁ gl gr narrow n₁ t₁ j₂ n₂ t₂ → RunsTo cells b j annex l n t j₂ l₁ n₂ t₂
+    runs-letters {j₂ = j₂} {n₂} {t₂} x y z w =
+        let past = r .past in
+        let most = r .most in
+        record {
+          past = omega (arith, w .past);
+          within = w .within;
+          most = omega (arith, w .past, w .most);
+          fine = r .fine;
+          goes = λ g e left R base origin i starts lens c a.
+              goes-on g left R base origin b j (whole (coreAt l n c) starts lens) t i j₁ (whole (coreAt l₁ n₁ c) starts lens) t₁ i j₂ (whole (coreAt l₁ n₂ c) starts lens) t₂ i
+              (r .goes g e left R base origin i starts lens c a)
+              (w .goes g e left R base origin i starts lens (coreAt l₁ n₁ c) (record { gl = x; gr = y; narrow = z ∙ ap (λ (u : Bool). u || eqb (getD l₁ 6 0) 1) (sym a); text = refl }));
+        }
+
+    -- controls more
+    pub runs-controls : {j₂ : ℕ} {l₂ : List ℕ} → Controls b j₁ l₁ j₂ l₂ → RunsTo cells b j annex l n t j₂ l₂ n₁ t₁
+    runs-controls {j₂} {l₂} w =
+        let past = r .past in
+        let most = r .most in
+        record {
+          past = omega (arith, w .past);
+          within = w .within;
+          most = omega (arith, w .past);
+          fine = w .fine;
+          goes = λ g e left R base origin i starts lens c a.
+              goes-on g left R base origin b j (whole (coreAt l n c) starts lens) t i j₁ (whole (coreAt l₁ n₁ c) starts lens) t₁ i j₂ (whole (coreAt l₂ n₁ c) starts lens) t₁ i
+              (r .goes g e left R base origin i starts lens c a)
+              (λ t₀ i₀ s h.
+              let same : withSettings l₁ s ≡ s =
+              λ k.
+              record {
+                sets = h .state k .core .sets;
+                gl = h .state k .core .gl;
+                gr = h .state k .core .gr;
+                narrow = h .state k .core .narrow;
+                starts = s .starts;
+                lens = s .lens;
+                charged = s .charged;
+                out = s .out;
+              } in (
+                withSettings l₂ s,
+                (
+                  record {
+                    state = λ k. record {
+                      core = record {
+                        sets = take 4 l₂;
+                        gl = getD l₂ 4 0;
+                        gr = getD l₂ 5 0;
+                        narrow = eqb (getD l₂ 6 0) 1;
+                        annex = h .state k .core .annex;
+                        charged = h .state k .core .charged;
+                        out = record { len = n₁; end = n₁; first = 0; repeat = 0; issues = c .out .issues };
+                      };
+                      starts = h .state k .starts;
+                      lens = h .state k .lens;
+                    };
+                    out = h .out;
+                  },
+                  w .goes g left R base origin s ∙ ap (λ (x : State). steps g left R base origin (drop j₁ b) j₁ 0 x) same,
+                ),
+              ));
+        }
+
+-- the loop over them: what was run up to the byte j₁, the text as long as it was, and room for three bytes a byte before `to`
+pub record Running (cells b : List ℕ) (j to : ℕ) (annex : Bool) (l : List ℕ) (n : ℕ) (t : List ℕ) (j₁ : ℕ) (l₁ : List ℕ) (n₁ : ℕ) (t₁ : List ℕ) : Type 0 where
+  pub runs : RunsTo cells b j annex l n t j₁ l₁ n₁ t₁
+  pub as-long : length t₁ ≡ length t
+  pub room : n₁ + 3 * (to - j₁) ≤ length t
+
+module _ {cells b : List ℕ} {j to : ℕ} {annex : Bool} {l : List ℕ} {n : ℕ} {t : List ℕ} where
+  pub running-start : j ≤ length b → n + 3 * (to - j) ≤ length t → Fine l → Running cells b j to annex l n t j l n t
+  running-start h r f = record { runs = runs-none h f; as-long = refl; room = r }
+
+  -- characters, a character, and controls more
+  pub running-more : {j₁ : ℕ} {l₁ : List ℕ} {n₁ : ℕ} {t₁ : List ℕ} {gl gr : ℕ} {narrow : Bool} {j₂ n₂ : ℕ} {t₂ : List ℕ} {j₃ n₃ : ℕ} {t₃ : List ℕ} {j₄ : ℕ} {l₄ : List ℕ}
+      → Running cells b j to annex l n t j₁ l₁ n₁ t₁ → gl ≡ getD l₁ (getD l₁ 4 0) 0 → gr ≡ getD l₁ (getD l₁ 5 0) 0 → narrow ≡ (annex || eqb (getD l₁ 6 0) 1)
+      → Letters cells b j₁ gl gr narrow n₁ t₁ j₂ n₂ t₂ → Letters cells b j₂ gl gr narrow n₂ t₂ j₃ n₃ t₃ → Controls b j₃ l₁ j₄ l₄
+      → length t₂ ≡ length t₁ → length t₃ ≡ length t₂ → n₃ + 3 * (to - j₃) ≤ length t₃ → Running cells b j to annex l n t j₄ l₄ n₃ t₃
+  running-more {l₁ = l₁} r x y z u v w p q h =
+      let f = r .runs .fine in
+      let a = x ∙ sym (getD-take 4 l₁ _ 0 (f .gl)) in
+      let c = y ∙ sym (getD-take 4 l₁ _ 0 (f .gr)) in
+      record {
+        runs = runs-controls (runs-letters (runs-letters (r .runs) a c z u) a c z v) w;
+        as-long = q ∙ p ∙ r .as-long;
+        room = omega (arith, h, w .past, p, q, r .as-long);
+      }
+
+-- the whole run
+pub stretch-runs : {cells b : List ℕ} {j : ℕ} {l : List ℕ} {n : ℕ} {c : Core} {t : List ℕ} {j₁ : ℕ} {l₁ : List ℕ} {n₁ : ℕ} {t₁ : List ℕ} {r : Core} (i : List ℕ) (base origin : ℕ)
+    → Good (length b - j) c → c ≡ coreAt l n c → r ≡ coreAt l₁ n₁ c → RunsTo cells b j (c .annex) l n t j₁ l₁ n₁ t₁ → Stretch cells base origin b j c t i j₁ r t₁ i
+stretch-runs {cells} {b} {j} {l} {n} {c} {t} {j₁} {l₁} {n₁} {t₁} i base origin p e d w =
+    let past = w .past in
+    let most = w .most in
+    let k : c .out .end ≡ n = ap (λ (z : Core). z .out .end) e in
+    rw d
+    (record {
+      past = w .past;
+      within = w .within;
+      kept = record { gl = w .fine .gl; gr = w .fine .gr; charged = refl; grew = record { ordered = omega arith; repeat = omega arith; text = omega arith; issues = omega arith } };
+      goes = λ g q left R starts lens.
+          subst (λ (z : Core). Goes g left R base origin b j (whole z starts lens) t i j₁ (whole (coreAt l₁ n₁ c) starts lens) t₁ i) (sym e) (w .goes g q left R base origin i starts lens c refl);
+    })
+
+-- ---- the settings, from the struct and back
+
+four-of : (l : List ℕ) → length l ≡ 4 → l ≡ getD l 0 0 ∷ getD l 1 0 ∷ getD l 2 0 ∷ getD l 3 0 ∷ []
+four-of [] q = absurd (omega arith)
+four-of (a ∷ []) q = absurd (omega arith)
+four-of (a ∷ b ∷ []) q = absurd (omega arith)
+four-of (a ∷ b ∷ c ∷ []) q = absurd (omega arith)
+four-of (a ∷ b ∷ c ∷ d ∷ []) q = refl
+four-of (a ∷ b ∷ c ∷ d ∷ e ∷ r) q = absurd (omega arith)
+
+pub settings-of : (c : Core) (x : ℕ) → length (c .sets) ≡ 4 → c .narrow ≡ eqb x 1 → c ≡ withText c (c .out .len)
+    → c ≡ coreAt (getD (c .sets) 0 0 ∷ getD (c .sets) 1 0 ∷ getD (c .sets) 2 0 ∷ getD (c .sets) 3 0 ∷ c .gl ∷ c .gr ∷ x ∷ []) (c .out .len) c
+settings-of c x h q e =
+    λ k. record { sets = four-of (c .sets) h k; gl = c .gl; gr = c .gr; narrow = q k; annex = c .annex; charged = c .charged; out = e k .out }
+
+pub core-of : (l : List ℕ) (n : ℕ) (c : Core) → Fine l
+    → record {
+      sets = getD l 0 0 ∷ getD l 1 0 ∷ getD l 2 0 ∷ getD l 3 0 ∷ [];
+      gl = getD l 4 0;
+      gr = getD l 5 0;
+      narrow = eqb (getD l 6 0) 1;
+      annex = c .annex;
+      charged = c .charged;
+      out = record { len = n; end = n; first = 0; repeat = 0; issues = c .out .issues };
+    }
+    ≡ coreAt l n c
+core-of l n c f =
+    let e : getD l 0 0 ∷ getD l 1 0 ∷ getD l 2 0 ∷ getD l 3 0 ∷ [] ≡ take 4 l =
+    seven (λ (l : List ℕ). getD l 0 0 ∷ getD l 1 0 ∷ getD l 2 0 ∷ getD l 3 0 ∷ [] ≡ take 4 l) (λ a b c d x y z. refl) l (f .seven) in
+    λ k.
+    record {
+      sets = e k;
+      gl = getD l 4 0;
+      gr = getD l 5 0;
+      narrow = eqb (getD l 6 0) 1;
+      annex = c .annex;
+      charged = c .charged;
+      out = record { len = n; end = n; first = 0; repeat = 0; issues = c .out .issues };
+    }
+
+-- nothing waits
+pub plain-text : (c : Core) → c .out .len ≡ c .out .end → c .out .first ≡ 0 → c .out .repeat ≡ 0 → c ≡ withText c (c .out .len)
+plain-text c e f r =
+    λ k.
+    record {
+      sets = c .sets;
+      gl = c .gl;
+      gr = c .gr;
+      narrow = c .narrow;
+      annex = c .annex;
+      charged = c .charged;
+      out = record { len = c .out .len; end = sym e k; first = f k; repeat = r k; issues = c .out .issues };
+    }

@@ -1,0 +1,60 @@
+-- `settings::control` meets its contract, by the byte. Assumes nothing.
+use Prim.Native.Nat.{_+_, _≤_, _<_}
+use mathlib.Core.Path.{_≡_}
+use mathlib.Core.Logic.{_⊎_, inl, inr, ⊎-elim}
+use native.Mathlib.Omega.{arith}
+use lib.ListN.{drop, getD}
+use Rattle.decode_settings.proofs.Turning.{turns-none, turns-as, step-0, step-1}
+use borrow.Author.Needs.{needs}
+use Rattle.decode_settings.proofs.control.Statement.{statement}
+use Rattle.decode_settings.proofs.control.Tie as tie
+
+shared-slice-read-match : tie.Need-shared-slice-read-match
+shared-slice-read-match c = search needs
+
+control1-requires : tie.Need-control1-requires
+control1-requires c κs = search needs
+
+control0-requires : tie.Need-control0-requires
+control0-requires c κs = search needs
+
+returns : tie.Need-returns
+returns c = λ g left R place at. turns-none (c .before .before .before .before .before .before .pre .1) (c .before .before .before .before .before .before .pre .0)
+
+returns-2 : tie.Need-returns-2
+returns-2 c = λ g left R place at. turns-none (c .before .before .before .before .before .before .before .before .pre .1) (c .before .before .before .before .before .before .before .before .pre .0)
+
+same-length : tie.Need-same-length
+same-length c = search needs
+
+returns-3 : tie.Need-returns-3
+returns-3 c =
+    let a = c .before .before .before .before .before .before .before .before .before .before .before .args in
+    let x = getD (a .b .now) (a .i) 0 in
+    let l : 0x80 ≤ x = omega (arith, c .before .before .before .before .before .if2 .left, c .before .before .before .before .before .before .before .match .rest .1) in
+    let n : x < 0xA1 ⊎ 0xFE < x = ⊎-elim (λ w. inl (w .taken)) (λ w. inr (w .1 .left)) (c .before .before .before .before .if3 .came) in
+    λ g left R place at. turns-as (λ s. step-1 g left R x (drop (a .i + 1) (a .b .now)) place at s l n) (c .before .before .control1 .ensures g left R place at)
+
+same-length-2 : tie.Need-same-length-2
+same-length-2 c = search needs
+
+returns-4 : tie.Need-returns-4
+returns-4 c =
+    let a = c .before .before .before .before .before .before .before .before .args in
+    let x = getD (a .b .now) (a .i) 0 in
+    let n : x < 0x21 ⊎ x ≡ 0x7F = ⊎-elim (λ w. inr (w .keys1)) (λ w. inl (w .1 .taken)) (c .before .before .before .before .match .came) in
+    λ g left R place at. turns-as (λ s. step-0 g left R x (drop (a .i + 1) (a .b .now)) place at s n) (c .before .before .control0 .ensures g left R place at)
+
+pub control-spec : {M : Type 1} → statement M
+control-spec =
+    tie.close
+    (tie.spec
+    shared-slice-read-match
+    control1-requires
+    control0-requires
+    returns
+    returns-2
+    same-length
+    returns-3
+    same-length-2
+    returns-4)

@@ -1,0 +1,55 @@
+-- `plain::plain` meets its contract. Assumes nothing.
+use mathlib.Core.Path.{_≡_}
+use mathlib.Core.Logic.{⊎-elim}
+use native.Mathlib.Omega.{arith}
+use Rattle.decode_state.specs.declared.Stop.the-variants.{End}
+use Rattle.decode_steps.proofs.Stretches.{stretch-start}
+use Rattle.decode_steps.proofs.Way.{stop-at}
+use borrow.Author.Needs.{needs}
+use Rattle.decode_steps.proofs.plain.Statement.{statement}
+use Rattle.decode_steps.proofs.plain.Tie as tie
+
+returns : tie.Need-returns
+returns c =
+    let a = c .before .before .before .before .before .args in
+    record { stretch = stretch-start (a .cells .now) (a .base) (a .origin) (a .b .now) (a .from) (a .core) (a .text .now) (a .issues .now) (c .before .before .before .before .before .pre .0 .0) (c .before .before .before .before .before .pre .1); stop = c .if1 .taken }
+
+stop-requires : tie.Need-stop-requires
+stop-requires c κs = search needs
+
+enum-told : tie.Need-enum-told
+enum-told c = search needs
+
+returns-2 : tie.Need-returns-2
+returns-2 c =
+    let a = c .before .before .before .before .before .before .before .args in
+    let n : c .before .stop .result ≡ End → ⊥ = λ e. ⊎-elim (λ z. omega (arith, z)) (⊎-elim (λ z. omega (arith, z)) (λ z. omega (arith, z))) (rw e at (c .match .keys2)) in
+    record {
+      stretch = stretch-start (a .cells .now) (a .base) (a .origin) (a .b .now) (a .from) (a .core) (a .text .now) (a .issues .now) (c .before .before .before .before .before .before .before .pre .0 .0) (c .before .before .before .before .before .before .before .pre .1);
+      stop = stop-at (c .before .stop .result) (a .b .now) (a .from) (a .core) n (c .before .stop .ensures);
+    }
+
+steps-requires : tie.Need-steps-requires
+steps-requires c κs = search needs
+
+same-length : tie.Need-same-length
+same-length c = search needs
+
+same-length-2 : tie.Need-same-length-2
+same-length-2 c = search needs
+
+returns-3 : tie.Need-returns-3
+returns-3 c = search needs
+
+pub plain-spec : {M : Type 1} → statement M
+plain-spec =
+    tie.close
+    (tie.spec
+    returns
+    stop-requires
+    enum-told
+    returns-2
+    steps-requires
+    same-length
+    same-length-2
+    returns-3)

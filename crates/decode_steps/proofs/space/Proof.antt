@@ -1,0 +1,30 @@
+-- `plain::space` meets its contract: the character is the definition's. Assumes nothing.
+use mathlib.Core.Path.{_≡_, ap, _∙_}
+use mathlib.Core.Bool.{Bool, cond}
+use mathlib.Core.Logic.{⊎-elim}
+use native.Mathlib.Omega.{arith}
+use borrow.Author.Needs.{needs}
+use Rattle.decode_steps.proofs.Moving.{took-over, took-as, took-writes}
+use Rattle.decode_steps.proofs.Branches.{space-as}
+use Rattle.decode_steps.proofs.space.Statement.{statement}
+use Rattle.decode_steps.proofs.space.Tie as tie
+
+is-narrow-requires : tie.Need-is-narrow-requires
+is-narrow-requires c κs = search needs
+
+emit-requires : tie.Need-emit-requires
+emit-requires c κs = search needs
+
+same-length : tie.Need-same-length
+same-length c = search needs
+
+returns : tie.Need-returns
+returns c =
+    let e : c .before .before .before .before .if1 .c ≡ cond (c .before .before .before .before .before .is-narrow .result) 0x20 0x3000 = ⊎-elim (λ w. rw (w .0 .taken) (w .1)) (λ w. rw (w .0 .left) (w .1)) (c .before .before .before .before .if1 .came) in
+    λ cells b i₁ i l.
+    took-as
+    (λ g starts lens t₀ i₀ s h. space-as h (c .before .before .before .before .if1 .c) (e ∙ ap (λ (u : Bool). cond u 0x20 0x3000) (c .before .before .before .before .before .is-narrow .ensures)))
+    (took-over (λ g. took-writes b i (omega arith) (omega arith) l (c .before .before .before .before .before .before .before .pre) (c .before .before .emit .ensures i₁)))
+
+pub space-spec : {M : Type 1} → statement M
+space-spec = tie.close (tie.spec is-narrow-requires emit-requires same-length returns)

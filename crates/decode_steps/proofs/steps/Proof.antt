@@ -1,0 +1,137 @@
+-- `plain::steps` meets its contract. The loop's invariant: the steps so far are a stretch from `from` to i, and the buffers are as long as they were.
+-- The measure is what is left of the body. Assumes nothing.
+use Prim.Native.Nat.{_-_}
+use mathlib.Core.Path.{_≡_, subst}
+use mathlib.Core.Logic.{⊎-elim}
+use native.Mathlib.Omega.{arith}
+use borrow.Author.Needs.{needs}
+use lib.ListN.{length}
+use Rattle.decode_state.specs.declared.Stop.{Stop}
+use Rattle.decode_state.specs.declared.Stop.the-variants.{End}
+use Rattle.decode_steps.specs.Contracts.{Verdict}
+use Rattle.decode_steps.proofs.Way.{Way, way-start, way-good, way-on, way-step, good-next, stop-at}
+use Rattle.decode_steps.proofs.steps.Statement.{statement}
+use Rattle.decode_steps.proofs.steps.Tie as tie
+
+abbrev Inv-loop : tie.InvT-loop
+Inv-loop cells b from base origin text₀ issues₀ s₀ i₀ text issues s i = Way cells base origin b from s₀ text₀ issues₀ i s text issues
+
+abbrev μ-loop : tie.MeasureT-loop
+μ-loop cells b from base origin text₀ issues₀ s₀ i₀ text issues s i = length b - i
+
+loop-holds : tie.Need-loop-holds Inv-loop μ-loop
+loop-holds c =
+    let a = c .before .before .before .before in
+    way-start (a .pre .0 .0) (a .pre .1)
+
+letters-requires : tie.Need-letters-requires Inv-loop μ-loop
+letters-requires c κs =
+    let h = c .before in
+    let a = h .before .before .before .before .before in
+    ((h .loop .inv .stretch .within, a .pre .0 .1), way-good (h .loop .inv) (a .pre .1))
+
+same-length : tie.Need-same-length Inv-loop μ-loop
+same-length c = search needs
+
+same-length-2 : tie.Need-same-length-2 Inv-loop μ-loop
+same-length-2 c = search needs
+
+returns : tie.Need-returns Inv-loop μ-loop
+returns c =
+    let l = c .before .before .before .before in
+    let h = l .before .before in
+    let a = h .before .before .before .before .before in
+    let w = way-on (h .loop .inv) (l .letters .ensures (a .args .base) (a .args .origin) (h .loop .issues)) (l .letters .kept .1 .1 .1 .1 .0) in
+    record { stretch = w .stretch; stop = c .if1 .taken }
+
+stop-requires : tie.Need-stop-requires Inv-loop μ-loop
+stop-requires c κs =
+    let l = c .before .before .before .before in
+    let h = l .before .before in
+    let a = h .before .before .before .before .before in
+    let v = l .letters .ensures (a .args .base) (a .args .origin) (h .loop .issues) .kept in
+    (c .if1 .left, v .gl, v .gr)
+
+enum-told : tie.Need-enum-told Inv-loop μ-loop
+enum-told c = search needs
+
+same-length-3 : tie.Need-same-length-3 Inv-loop μ-loop
+same-length-3 c = search needs
+
+same-length-4 : tie.Need-same-length-4 Inv-loop μ-loop
+same-length-4 c = search needs
+
+returns-2 : tie.Need-returns-2 Inv-loop μ-loop
+returns-2 c =
+    let k = c .before .before in
+    let l = k .before .before .before .before in
+    let h = l .before .before in
+    let a = h .before .before .before .before .before in
+    let w = way-on (h .loop .inv) (l .letters .ensures (a .args .base) (a .args .origin) (h .loop .issues)) (l .letters .kept .1 .1 .1 .1 .0) in
+    let n : c .before .stop .result ≡ End → ⊥ = λ e. ⊎-elim (λ z. omega (arith, z)) (⊎-elim (λ z. omega (arith, z)) (λ z. omega (arith, z))) (rw e at (c .match .keys2)) in
+    record { stretch = w .stretch; stop = stop-at (c .before .stop .result) (a .args .b .now) (l .letters .result .at) (l .letters .result .core) n (c .before .stop .ensures) }
+
+offset-requires : tie.Need-offset-requires Inv-loop μ-loop
+offset-requires c κs = omega (arith, c .before .before .before .if1 .left, c .before .before .before .before .before .before .before .before .before .before .before .before .before .before .pre .0 .1)
+
+cast-simple : tie.Need-cast-simple Inv-loop μ-loop
+cast-simple c = omega (arith, c .before .before .before .before .if1 .left, c .before .before .before .before .before .before .before .before .before .before .before .before .before .before .before .pre .0 .1)
+
+add-simple : tie.Need-add-simple Inv-loop μ-loop
+add-simple c = omega (arith, c .before .before .before .before .if1 .left, c .before .before .before .before .before .before .before .before .before .before .before .before .before .before .before .pre .0 .1, c .before .before .before .before .before .before .before .before .before .before .before .before .before .before .before .pre .0 .2)
+
+simple-requires : tie.Need-simple-requires Inv-loop μ-loop
+simple-requires c κs =
+    let k = c .before .before .before .before .before .before in
+    let l = k .before .before .before .before in
+    let h = l .before .before in
+    let a = h .before .before .before .before .before in
+    let w = way-on (h .loop .inv) (l .letters .ensures (a .args .base) (a .args .origin) (h .loop .issues)) (l .letters .kept .1 .1 .1 .1 .0) in
+    let v = subst (λ (r : Stop). Verdict r (a .args .b .now) (l .letters .result .at) (l .letters .result .core)) (c .before .before .before .enum-told .given .1) (c .before .before .before .before .before .stop .ensures) in
+    ((k .if1 .left, a .pre .0 .1), (good-next (way-good w (a .pre .1)) (omega (arith, k .if1 .left)), v))
+
+add-i : tie.Need-add-i Inv-loop μ-loop
+add-i c = omega (arith, c .before .before .before .before .before .before .simple .ensures 0 (λ b₁ base₁ origin₁ s₁. s₁) .within, c .before .before .before .before .before .before .before .before .before .before .before .before .before .before .before .before .before .before .before .before .before .before .before .before .pre .0 .1)
+
+loop-less : tie.Need-loop-less Inv-loop μ-loop
+loop-less c =
+    let k = c .before .before .before .before .before .before .before .before .before .before .before .before .before in
+    let l = k .before .before .before .before in
+    let h = l .before .before in
+    let a = h .before .before .before .before .before in
+    omega (arith, k .if1 .left, c .before .before .before .before .before .before .simple .ensures 0 (λ b₁ base₁ origin₁ s₁. s₁) .some, l .letters .ensures (a .args .base) (a .args .origin) (h .loop .issues) .past)
+
+loop-again : tie.Need-loop-again Inv-loop μ-loop
+loop-again c =
+    let p = c .before .before .before .before .before .before in
+    let o = p .before .before .before in
+    let k = o .before .before .before .before in
+    let l = k .before .before .before .before in
+    let h = l .before .before in
+    let a = h .before .before .before .before .before in
+    let w = way-on (h .loop .inv) (l .letters .ensures (a .args .base) (a .args .origin) (h .loop .issues)) (l .letters .kept .1 .1 .1 .1 .0) in
+    way-step (p .simple .result) (o .offset .result) (o .offset .ensures) (k .if1 .left) w (p .simple .ensures) (p .simple .kept .1 .1 .1 .1 .1 .1 .0) (p .simple .kept .1 .1 .1 .1 .1 .1 .1 .0)
+
+pub steps-spec : {M : Type 1} → statement M
+steps-spec =
+    tie.close
+    (tie.spec
+    Inv-loop
+    μ-loop
+    loop-holds
+    letters-requires
+    same-length
+    same-length-2
+    returns
+    stop-requires
+    enum-told
+    same-length-3
+    same-length-4
+    returns-2
+    offset-requires
+    cast-simple
+    add-simple
+    simple-requires
+    add-i
+    loop-less
+    loop-again)

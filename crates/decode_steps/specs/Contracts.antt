@@ -1,0 +1,47 @@
+-- Where plain steps stop: at MACRO, and at characters of the macro set.
+use Prim.Native.Nat.{ℕ, _+_, _≤_, _<_}
+use mathlib.Core.Path.{_≡_}
+use mathlib.Core.Bool.{true, false}
+use mathlib.Core.List.{List}
+use mathlib.Core.Logic.{_⊎_}
+use lib.ListN.{length, getD}
+use Rattle.reading.specs.Characters.{isGL, isGR, isGraphic}
+use Rattle.decode_state.specs.declared.Core.{Core}
+use Rattle.decode_state.specs.declared.Stop.{Stop}
+use Rattle.decode_state.specs.declared.Stop.the-variants.{End, Macro, Char, Shifted}
+use Rattle.decode_state.specs.declared.Stretched.{Stretched}
+use Rattle.decode_state.specs.Contracts.{Stretch}
+
+-- the byte x begins a character of the code element e
+pub record CharOf (x e : ℕ) (c : Core) : Type 0 where
+  pub element : e < 4
+  pub through : ((isGL x ≡ true) × (e ≡ c .gl)) ⊎ ((isGL x ≡ false) × (isGR x ≡ true) × (e ≡ c .gr))
+
+-- the byte x shifts one character to the code element e
+abbrev pub ShiftOf : ℕ → ℕ → Type 0
+ShiftOf x e = ((x ≡ 0x19) × (e ≡ 2)) ⊎ ((x ≡ 0x1D) × (e ≡ 3))
+
+-- steps stop at the byte i of b, for this: MACRO, or a character of an element that has the macro set
+abbrev pub StopAt : Stop → List ℕ → ℕ → Core → Type 0
+StopAt End b i c = length b ≤ i
+StopAt Macro b i c = (i < length b) × (getD b i 0 ≡ 0x95)
+StopAt (Char e) b i c = (i < length b) × CharOf (getD b i 0) e c × (getD (c .sets) e 0 ≡ 15)
+StopAt (Shifted e) b i c = (i + 1 < length b) × ShiftOf (getD b i 0) e × (isGraphic (getD b (i + 1) 0) ≡ true) × (getD (c .sets) e 0 ≡ 15)
+
+-- the step at the byte i of b concerns no macro
+pub record Passes (b : List ℕ) (i : ℕ) (c : Core) : Type 0 where
+  pub command : getD b i 0 ≡ 0x95 → ⊥
+  pub left : isGL (getD b i 0) ≡ true → getD (c .sets) (c .gl) 0 ≡ 15 → ⊥
+  pub right : isGR (getD b i 0) ≡ true → getD (c .sets) (c .gr) 0 ≡ 15 → ⊥
+  pub shift : (e : ℕ) → ShiftOf (getD b i 0) e → getD (c .sets) e 0 ≡ 15 → i + 1 < length b → isGraphic (getD b (i + 1) 0) ≡ true → ⊥
+
+abbrev pub Verdict : Stop → List ℕ → ℕ → Core → Type 0
+Verdict End b i c = Passes b i c
+Verdict Macro b i c = StopAt Macro b i c
+Verdict (Char e) b i c = StopAt (Char e) b i c
+Verdict (Shifted e) b i c = StopAt (Shifted e) b i c
+
+-- a stretch of plain steps, and where it stops
+pub record Plain (cells : List ℕ) (base origin : ℕ) (b : List ℕ) (j : ℕ) (c : Core) (t i : List ℕ) (r : Stretched) (t′ i′ : List ℕ) : Type 0 where
+  pub stretch : Stretch cells base origin b j c t i (r .at) (r .core) t′ i′
+  pub stop : StopAt (r .stop) b (r .at) (r .core)

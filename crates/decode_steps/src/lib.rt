@@ -1,0 +1,272 @@
+// Steps that concern no macro. They are taken outside the cycle, so that plain text costs no
+// calls through it.
+use control::APR;
+use control::ESC;
+use control::LS0;
+use control::LS1;
+use control::MACRO;
+use control::SP;
+use control::SS2;
+use control::SS3;
+use decode_state::Core;
+use decode_state::Stepped;
+use decode_state::Stop;
+use decode_state::Stretched;
+ghost use mathlib.Core.Path.{_≡_};
+ghost use Prim.Native.Nat.{ℕ, _+_, _-_, _≤_, _<_};
+ghost use mathlib.Core.Bool.{true};
+ghost use mathlib.Core.List.{List};
+ghost use lib.ListN.{length, drop, getD};
+ghost use Rattle.reading.specs.Characters.{isGraphic, graphicOf};
+ghost use Rattle.reading.specs.Macros.{Run};
+ghost use Rattle.reading.specs.State.{took, invokeGL, writes};
+ghost use Rattle.reading.specs.Steps.{step, offset, control0, space};
+ghost use Rattle.decode_output.specs.Output.{newline};
+ghost use Rattle.decode_state.specs.Contracts.{Good, TookOver};
+ghost use Rattle.decode_steps.specs.Contracts.{CharOf, ShiftOf, Verdict, Passes, Plain};
+
+// The macro set, by 01's number.
+const MACRO_SET: u8 = 15;
+
+// The offset to report at the byte i of a body: its own (origin 0), or the outermost caller's.
+pub fn offset(origin: u32, i: usize) -> u32
+    requires { ⌜ i < 65536 ⌝ }
+    ensures { λ r. ⌜ r ≡ offset origin i ⌝ }
+{
+    if origin == 0 { i as u32 } else { origin - 1 }
+}
+
+// What stops plain steps at a single shift: the macro set in its element e, and a character behind
+// it.
+fn stop_shift(b: &[u8], i: usize, s: Core, e: usize) -> Stop
+    requires { ⌜ (i < length (now b)) × (e < 4) × ShiftOf (getD (now b) i 0) e ⌝ }
+    ensures { λ r. ⌜ Verdict r (now (b .entry)) i s ⌝ }
+{
+    let sets = s.sets;
+    if sets[e] != MACRO_SET {
+        return Stop::End;
+    }
+    if i + 1 >= b.len() {
+        return Stop::End;
+    }
+    if decode_characters::is_graphic(b[i + 1]) {
+        Stop::Shifted(e)
+    } else {
+        Stop::End
+    }
+}
+
+// What stops plain steps at a character of the code element e: the macro set there.
+fn stop_char(x: u8, s: Core, e: usize) -> Stop
+    requires { ⌜ CharOf x e s ⌝ }
+    ensures { λ r. ⌜ ((b : List ℕ) (i : ℕ) → i < length b → getD b i 0 ≡ x → Verdict r b i s) ⌝ }
+{
+    let sets = s.sets;
+    if sets[e] != MACRO_SET {
+        return Stop::End;
+    }
+    Stop::Char(e)
+}
+
+// What stops a run of plain steps at the byte i; End where nothing does.
+fn stop(b: &[u8], i: usize, s: Core) -> Stop
+    requires { ⌜ (i < length (now b)) × (s .gl < 4) × (s .gr < 4) ⌝ }
+    ensures { λ r. ⌜ Verdict r (now (b .entry)) i s ⌝ }
+{
+    let x = b[i];
+    match x {
+        0x21..=0x7E => stop_char(x, s, s.gl as usize),
+        0xA1..=0xFE => stop_char(x, s, s.gr as usize),
+        SS2 => stop_shift(b, i, s, 2),
+        SS3 => stop_shift(b, i, s, 3),
+        MACRO => Stop::Macro,
+        _ => Stop::End,
+    }
+}
+
+// SP. Table 7-14, Annex E.4.
+fn space(s: Core, text: &mut [u8]) -> Stepped
+    requires { ⌜ Good 1 s ⌝ }
+    ensures { λ r. ⌜ ((cells b i₁ : List ℕ) (i : ℕ) → i < length b → TookOver cells b i (λ g s. took 1 (space g s)) s (now (text .entry)) i₁ r (now (text .exit)) i₁) ⌝ }
+{
+    let c = if decode_characters::is_narrow(s.annex, s.narrow) {
+        0x20
+    } else {
+        0x3000
+    };
+    let o = decode_output::emit(s.out, c, text);
+    let mut r = s;
+    r.out = o;
+    Stepped { used: 1, core: r }
+}
+
+// LS0 and LS1. Table 7-1.
+fn invoke_gl(s: Core, e: u8) -> Stepped
+    requires { ⌜ Good 1 s ⌝ }
+    requires { ⌜ e < 4 ⌝ }
+    ensures { λ r. ⌜ ((cells b t i₁ : List ℕ) (i : ℕ) → i < length b → TookOver cells b i (λ g s. took 1 (invokeGL e s)) s t i₁ r t i₁) ⌝ }
+{
+    let mut r = s;
+    r.gl = e;
+    Stepped { used: 1, core: r }
+}
+
+// APR. Table 7-15.
+fn newline(s: Core, text: &mut [u8], issues: &mut [u32]) -> Stepped
+    requires { ⌜ Good 1 s ⌝ }
+    ensures { λ r. ⌜ ((cells b : List ℕ) (i : ℕ) → i < length b → TookOver cells b i (λ g s. took 1 (writes newline s)) s (now (text .entry)) (now (issues .entry)) r (now (text .exit)) (now (issues .exit))) ⌝ }
+{
+    let o = decode_output::newline(s.out, text, issues);
+    let mut r = s;
+    r.out = o;
+    Stepped { used: 1, core: r }
+}
+
+// SP, LS0, LS1, SS2, SS3, ESC, APR, and the codes below 80 with fixed parameters.
+fn control0(
+    cells: &[u16],
+    b: &[u8],
+    i: usize,
+    place: u32,
+    at: u32,
+    s: Core,
+    text: &mut [u8],
+    issues: &mut [u32],
+) -> Stepped
+    requires { ⌜ (i < length (now b)) × (length (now b) ≤ 65535) ⌝ }
+    requires { ⌜ Good 1 s ⌝ }
+    requires { ⌜ Passes (now b) i s ⌝ }
+    ensures { λ r. ⌜ ((left : ℕ) (R : Run) → TookOver (now (cells .entry)) (now (b .entry)) i (λ g. control0 g left R (getD (now (b .entry)) i 0) (drop (i + 1) (now (b .entry))) place at) s (now (text .entry)) (now (issues .entry)) r (now (text .exit)) (now (issues .exit))) ⌝ }
+{
+    let x = b[i];
+    match x {
+        SP => space(s, text),
+        LS0 => invoke_gl(s, 0),
+        LS1 => invoke_gl(s, 1),
+        SS2 => decode_characters::single_shift(cells, b, i, 2, at, s, text, issues),
+        SS3 => decode_characters::single_shift(cells, b, i, 3, at, s, text, issues),
+        ESC => decode_controls::escape(b, i, place, at, s, issues),
+        APR => newline(s, text, issues),
+        _ => decode_controls::fixed(b, i, at, s, issues),
+    }
+}
+
+// A character of the set in the code element e, which is not the macro set.
+fn graphic(
+    cells: &[u16],
+    b: &[u8],
+    i: usize,
+    e: usize,
+    at: u32,
+    s: Core,
+    text: &mut [u8],
+    issues: &mut [u32],
+) -> Stepped
+    requires { ⌜ (i < length (now b)) × (e < 4) × (isGraphic (getD (now b) i 0) ≡ true) × (getD (s .sets) e 0 ≡ 15 → ⊥) ⌝ }
+    requires { ⌜ Good 1 s ⌝ }
+    ensures { λ r. ⌜ ((left : ℕ) (R : Run) → TookOver (now (cells .entry)) (now (b .entry)) i (λ g. graphicOf g left R (getD (s .sets) e 0) (getD (now (b .entry)) i 0) (drop (i + 1) (now (b .entry))) at) s (now (text .entry)) (now (issues .entry)) r (now (text .exit)) (now (issues .exit))) ⌝ }
+{
+    let sets = s.sets;
+    decode_characters::graphic(cells, b, i, sets[e], at, s, text, issues)
+}
+
+// One step that concerns no macro.
+fn simple(
+    cells: &[u16],
+    b: &[u8],
+    i: usize,
+    place: u32,
+    at: u32,
+    s: Core,
+    text: &mut [u8],
+    issues: &mut [u32],
+) -> Stepped
+    requires { ⌜ (i < length (now b)) × (length (now b) ≤ 65535) ⌝ }
+    requires { ⌜ Good 1 s ⌝ }
+    requires { ⌜ Passes (now b) i s ⌝ }
+    ensures { λ r. ⌜ ((left : ℕ) (R : Run) → TookOver (now (cells .entry)) (now (b .entry)) i (λ g. step g left R (getD (now (b .entry)) i 0) (drop (i + 1) (now (b .entry))) place at) s (now (text .entry)) (now (issues .entry)) r (now (text .exit)) (now (issues .exit))) ⌝ }
+{
+    let x = b[i];
+    match x {
+        0x21..=0x7E => graphic(cells, b, i, s.gl as usize, at, s, text, issues),
+        0xA1..=0xFE => graphic(cells, b, i, s.gr as usize, at, s, text, issues),
+        0x00..=0x7F => control0(cells, b, i, place, at, s, text, issues),
+        _ => decode_controls::control1(b, i, at, s, issues),
+    }
+}
+
+// Plain steps from the byte `from` of a body to its end, or to what stops them.
+pub fn steps(
+    cells: &[u16],
+    b: &[u8],
+    from: usize,
+    base: u32,
+    origin: u32,
+    core: Core,
+    text: &mut [u8],
+    issues: &mut [u32],
+) -> Stretched
+    requires { ⌜ (from ≤ length (now b)) × (length (now b) ≤ 65535) × (base ≤ 65535) ⌝ }
+    requires { ⌜ Good (length (now b) - from) core ⌝ }
+    ensures { λ r. ⌜ Plain (now (cells .entry)) base origin (now (b .entry)) from core (now (text .entry)) (now (issues .entry)) r (now (text .exit)) (now (issues .exit)) ⌝ }
+{
+    let mut s = core;
+    let mut i = from;
+    loop {
+        let f = decode_runs::letters(cells, b, i, s, text);
+        s = f.core;
+        i = f.at;
+        if i >= b.len() {
+            return Stretched {
+                at: i,
+                stop: Stop::End,
+                core: s,
+            };
+        }
+        let stop = stop(b, i, s);
+        let Stop::End = stop else {
+            return Stretched {
+                at: i,
+                stop,
+                core: s,
+            };
+        };
+        let at = offset(origin, i);
+        let r = simple(cells, b, i, base + i as u32, at, s, text, issues);
+        s = r.core;
+        i += r.used;
+    }
+}
+
+// The same, where the first byte often stops them, as in a body that calls macros.
+pub fn plain(
+    cells: &[u16],
+    b: &[u8],
+    from: usize,
+    base: u32,
+    origin: u32,
+    core: Core,
+    text: &mut [u8],
+    issues: &mut [u32],
+) -> Stretched
+    requires { ⌜ (from ≤ length (now b)) × (length (now b) ≤ 65535) × (base ≤ 65535) ⌝ }
+    requires { ⌜ Good (length (now b) - from) core ⌝ }
+    ensures { λ r. ⌜ Plain (now (cells .entry)) base origin (now (b .entry)) from core (now (text .entry)) (now (issues .entry)) r (now (text .exit)) (now (issues .exit)) ⌝ }
+{
+    if from >= b.len() {
+        return Stretched {
+            at: from,
+            stop: Stop::End,
+            core,
+        };
+    }
+    let stop = stop(b, from, core);
+    let Stop::End = stop else {
+        return Stretched {
+            at: from,
+            stop,
+            core,
+        };
+    };
+    steps(cells, b, from, base, origin, core, text, issues)
+}

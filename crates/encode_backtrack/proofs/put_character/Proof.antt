@@ -1,0 +1,70 @@
+-- `backtrack::put_character` meets its contract: by the candidate's set. Assumes nothing.
+use Prim.Native.Nat.{_%_}
+use mathlib.Core.Path.{ap, _∙_}
+use native.Mathlib.Omega.{arith}
+use lib.ListN.{getD}
+use lib.Seq.{sets}
+use Rattle.encode_candidates.specs.Packed.{FitsAt}
+use Rattle.encode_backtrack.proofs.Character.{written-none, written-plain, written-graphic}
+use borrow.Author.Needs.{needs}
+use Rattle.encode_backtrack.proofs.put_character.Statement.{statement}
+use Rattle.encode_backtrack.proofs.put_character.Tie as tie
+
+cast-j : tie.Need-cast-j
+cast-j c = search needs
+
+returns : tie.Need-returns
+returns c = ap (sets (c .before .before .args .coding .now) (c .before .before .args .at)) (written-none (c .before .before .args .t3) (c .before .before .args .how) (c .if1 .taken))
+
+element-copy-out-x : tie.Need-element-copy-out-x
+element-copy-out-x c = search needs
+
+mul-code : tie.Need-mul-code
+mul-code c = search needs
+
+element-copy-out-code : tie.Need-element-copy-out-code
+element-copy-out-code c = search needs
+
+cast-put-plain : tie.Need-cast-put-plain
+cast-put-plain c = let q : FitsAt (c .before .before .before .before .before .before .args .t3) (c .before .before .before .before .before .before .args .how % 16) = c .before .before .before .before .before .before .pre .1 .fits (c .before .before .before .before .before .before .args .how % 16) (omega arith) in omega (arith, q .plain (c .before .if2 .taken))
+
+put-plain-requires : tie.Need-put-plain-requires
+put-plain-requires c κs = search needs
+
+same-length : tie.Need-same-length
+same-length c = search needs
+
+returns-2 : tie.Need-returns-2
+returns-2 c = c .before .before .put-plain .ensures (getD (c .before .before .before .before .before .before .before .before .before .args .t3 .sizes) (c .before .before .before .before .before .before .before .before .before .args .how % 16) 0) .written ∙ ap (sets (c .before .before .before .before .before .before .before .before .before .args .coding .now) (c .before .before .before .before .before .before .before .before .before .args .at)) (written-plain (c .before .before .before .before .before .before .before .before .before .args .t3) (c .before .before .before .before .before .before .before .before .before .args .how) (omega arith) (c .before .before .before .before .if2 .taken))
+
+cast-put-graphic : tie.Need-cast-put-graphic
+cast-put-graphic c = search needs
+
+put-graphic-requires : tie.Need-put-graphic-requires
+put-graphic-requires c κs = let q : FitsAt (c .before .before .before .before .before .before .args .t3) (c .before .before .before .before .before .before .args .how % 16) = c .before .before .before .before .before .before .pre .1 .fits (c .before .before .before .before .before .before .args .how % 16) (omega arith) in (c .before .before .before .before .before .before .pre .0, omega (arith, q .set, c .before .if2 .left), q .row, q .last)
+
+same-length-2 : tie.Need-same-length-2
+same-length-2 c = search needs
+
+returns-3 : tie.Need-returns-3
+returns-3 c =
+    let a = c .before .before .before .before .before .before .before .before .before .args in
+    c .before .before .put-graphic .ensures (getD (a .t3 .sizes) (a .how % 16) 0) .written ∙ ap (sets (a .coding .now) (a .at)) (written-graphic (a .t3) (a .how) (omega arith) (c .before .before .before .before .if2 .left))
+
+pub put-character-spec : {M : Type 1} → statement M
+put-character-spec =
+    tie.close
+    (tie.spec
+    cast-j
+    returns
+    element-copy-out-x
+    mul-code
+    element-copy-out-code
+    cast-put-plain
+    put-plain-requires
+    same-length
+    returns-2
+    cast-put-graphic
+    put-graphic-requires
+    same-length-2
+    returns-3)

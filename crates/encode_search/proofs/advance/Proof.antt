@@ -1,0 +1,82 @@
+use native.Mathlib.Omega.{arith}
+use Rattle.encode_search.proofs.Advancing.{abled, too-large, reached-cheap, least-small, advanced}
+use borrow.Author.Needs.{needs}
+use Rattle.encode_search.proofs.advance.Statement.{statement}
+use Rattle.encode_search.proofs.advance.Tie as tie
+use Rattle.encode_search.proofs.advance.Reads as reads
+use Rattle.encode_search.proofs.advance.Lts as lts
+use Rattle.encode_layer.proofs.floor.Reads as floor-reads
+use Rattle.encode_layer.proofs.keep.Reads as keep-reads
+use Rattle.encode_layer.proofs.least.Reads as least-reads
+use Rattle.encode_search.proofs.reach.Reads as reach-reads
+use Rattle.encode_search.proofs.room.Reads as room-reads
+
+-- src/lib.rt:93:16
+add-from : tie.Need-add-from
+add-from c = search needs
+
+-- src/lib.rt:94:9
+room-requires : tie.Need-room-requires
+room-requires c κs = search needs
+
+-- src/lib.rt:95:9
+reach-requires : tie.Need-reach-requires
+reach-requires c κs = (record { store = c .before .before .room .ensures .inside; index = omega arith; few = c .before .before .room .ensures .few }, c .before .before .before .before .before .pre .2, c .before .before .before .before .before .pre .3, c .before .before .before .before .before .pre .4, abled (omega arith) (c .before .before .before .before .before .pre .6))
+
+-- src/lib.rt:97:9
+same-length : tie.Need-same-length
+same-length c = search needs
+
+-- src/lib.rt:97:9
+same-length-2 : tie.Need-same-length-2
+same-length-2 c = search needs
+
+-- src/lib.rt:97:9
+returns : tie.Need-returns
+returns c = too-large (c .before .before .before .before .before .before .before .before .before .before .before .args .store .now) _ _ (c .before .before .before .before .before .before .before .before .before .before .before .args .pfrom) (c .before .before .before .before .before .before .before .before .before .before .before .args .pcount) (c .before .before .before .before .before .before .before .before .room .result) (c .before .before .before .before .before .before .before .before .before .before .before .args .m) (c .before .before .before .before .before .reach .result) (c .before .before .before .before .before .before .before .before .before .before .before .args .sets .now) (c .before .before .before .before .before .before .before .before .before .before .before .args .codes .now) (c .before .before .before .before .before .before .before .before .before .before .before .args .sizes .now) (c .before .before .before .before .before .reach .ensures) (c .before .before .before .before .before .before .before .before .room .ensures) (omega arith) (c .before .before .before .before .before .before .before .before .before .before .before .pre .6) (c .if1 .taken) (c .before .before .before .before .before .before .before .before .before .before .before .args .rest) (c .before .before .before .before .before .before .before .before .before .before .before .args .floor) (c .before .before .before .before .before .before .before .before .before .before .before .pre .0)
+
+-- src/lib.rt:103:16
+least-requires : tie.Need-least-requires
+least-requires c κs = search needs
+
+-- src/lib.rt:103:16
+add-most : tie.Need-add-most
+add-most c = omega (arith, least-small (c .before .before .before .before .before .before .before .before .before .before .before .before .before .args .store .now) _ _ (c .before .before .before .before .before .before .before .before .before .before .before .before .before .args .pfrom) (c .before .before .before .before .before .before .before .before .before .before .before .before .before .args .pcount) (c .before .before .before .before .before .before .before .before .before .before .room .result) (c .before .before .before .before .before .before .before .before .before .before .before .before .before .args .m) (c .before .before .before .before .before .before .before .reach .result) (c .before .before .before .before .before .before .before .before .before .before .before .before .before .args .sets .now) (c .before .before .before .before .before .before .before .before .before .before .before .before .before .args .codes .now) (c .before .before .before .before .before .before .before .before .before .before .before .before .before .args .sizes .now) (c .before .before .before .before .before .before .before .reach .ensures) (c .before .before .before .before .before .before .before .before .before .before .room .ensures) (omega arith) (c .before .before .before .before .before .before .before .before .before .before .before .before .before .pre .6) (c .before .before .if1 .left) (c .least .result) (c .least .ensures))
+
+-- src/lib.rt:104:9
+floor-requires : tie.Need-floor-requires
+floor-requires c κs = (omega (arith, c .before .before .before .before .before .before .before .before .before .before .before .room .ensures .inside), c .before .before .before .before .before .before .before .before .before .before .before .before .before .before .pre .5, reached-cheap (c .before .before .before .before .before .before .before .before .before .before .before .before .before .before .args .store .now) _ _ (c .before .before .before .before .before .before .before .before .before .before .before .before .before .before .args .pfrom) (c .before .before .before .before .before .before .before .before .before .before .before .before .before .before .args .pcount) (c .before .before .before .before .before .before .before .before .before .before .before .room .result) (c .before .before .before .before .before .before .before .before .before .before .before .before .before .before .args .m) (c .before .before .before .before .before .before .before .before .reach .result) (c .before .before .before .before .before .before .before .before .before .before .before .before .before .before .args .sets .now) (c .before .before .before .before .before .before .before .before .before .before .before .before .before .before .args .codes .now) (c .before .before .before .before .before .before .before .before .before .before .before .before .before .before .args .sizes .now) (c .before .before .before .before .before .before .before .before .reach .ensures) (c .before .before .before .before .before .before .before .before .before .before .before .room .ensures) (omega arith) (c .before .before .before .before .before .before .before .before .before .before .before .before .before .before .pre .6) (c .before .before .before .if1 .left))
+
+-- src/lib.rt:105:9
+keep-requires : tie.Need-keep-requires
+keep-requires c κs = search needs
+
+-- src/lib.rt:78:1
+same-length-3 : tie.Need-same-length-3
+same-length-3 c = search needs
+
+-- src/lib.rt:78:1
+same-length-4 : tie.Need-same-length-4
+same-length-4 c = search needs
+
+-- src/lib.rt:78:1
+returns-2 : tie.Need-returns-2
+returns-2 c = advanced (c .before .before .before .before .before .before .before .before .before .before .before .before .before .before .before .before .before .before .before .args .store .now) _ _ (c .before .before .before .before .before .before .before .before .before .before .before .before .before .before .before .before .before .before .before .args .pfrom) (c .before .before .before .before .before .before .before .before .before .before .before .before .before .before .before .before .before .before .before .args .pcount) (c .before .before .before .before .before .before .before .before .before .before .before .before .before .before .before .before .room .result) (c .before .before .before .before .before .before .before .before .before .before .before .before .before .before .before .before .before .before .before .args .m) (c .before .before .before .before .before .before .before .before .before .before .before .before .before .reach .result) (c .before .before .before .before .before .before .before .before .before .before .before .before .before .before .before .before .before .before .before .args .sets .now) (c .before .before .before .before .before .before .before .before .before .before .before .before .before .before .before .before .before .before .before .args .codes .now) (c .before .before .before .before .before .before .before .before .before .before .before .before .before .before .before .before .before .before .before .args .sizes .now) (c .before .before .before .before .before .before .before .before .before .before .before .before .before .reach .ensures) (c .before .before .before .before .before .before .before .before .before .before .before .before .before .before .before .before .room .ensures) (omega arith) (c .before .before .before .before .before .before .before .before .before .before .before .before .before .before .before .before .before .before .before .pre .6) (c .before .before .before .before .before .before .before .before .if1 .left) _ (c .before .before .before .before .before .before .least .result) (c .before .before .before .before .before .before .before .before .before .before .before .before .before .before .before .before .before .before .before .args .rest) (c .before .before .before .before .before .before .before .before .before .before .before .before .before .before .before .before .before .before .before .args .floor) (c .before .before .before .before .floor .result) (c .before .before .keep .result) (c .before .before .before .before .before .before .least .ensures) (c .before .before .before .before .floor .ensures) (c .before .before .keep .ensures)
+
+pub advance-spec : {M : Type 1} → statement M
+advance-spec =
+    tie.close
+    (tie.spec
+    add-from
+    room-requires
+    reach-requires
+    same-length
+    same-length-2
+    returns
+    least-requires
+    add-most
+    floor-requires
+    keep-requires
+    same-length-3
+    same-length-4
+    returns-2)

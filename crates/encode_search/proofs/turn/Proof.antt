@@ -1,0 +1,59 @@
+use mathlib.Core.Path.{ap, _∙_}
+use Prim.Native.Nat.{ℕ, _-_}
+use Rattle.encode_search.proofs.Matching.{turned}
+use borrow.Author.Needs.{needs}
+use Rattle.encode_search.proofs.turn.Statement.{statement}
+use Rattle.encode_search.proofs.turn.Tie as tie
+use Rattle.encode_search.proofs.turn.Reads as reads
+use Rattle.encode_search.proofs.turn.Lts as lts
+use Rattle.encode_candidates.proofs.candidates.Reads as candidates-reads
+use Rattle.encode_candidates.proofs.shortest.Reads as shortest-reads
+use Rattle.encode_search.proofs.advance.Reads as advance-reads
+use Rattle.encode_search.proofs.less.Reads as less-reads
+
+-- src/lib.rt:148:13
+candidates-requires : tie.Need-candidates-requires
+candidates-requires c κs = search needs
+
+-- src/lib.rt:149:27
+shortest-requires : tie.Need-shortest-requires
+shortest-requires c κs = search needs
+
+-- src/lib.rt:149:9
+less-requires : tie.Need-less-requires
+less-requires c κs = search needs
+
+-- src/lib.rt:159:9
+cast-advance : tie.Need-cast-advance
+cast-advance c = search needs
+
+-- src/lib.rt:150:9
+advance-requires : tie.Need-advance-requires
+advance-requires c κs = search needs
+
+-- src/lib.rt:133:1
+same-length : tie.Need-same-length
+same-length c = search needs
+
+-- src/lib.rt:133:1
+same-length-2 : tie.Need-same-length-2
+same-length-2 c = search needs
+
+-- src/lib.rt:133:1
+returns : tie.Need-returns
+returns c =
+    let a = c .before .before .before .before .before .before .before .before .before .before .before .before .before .before .before .before .args in
+    turned (a .store .now) _ (a .pfrom) (a .pcount) (a .c) (a .kanji) (a .symbol) (a .annex) (a .rest) (a .floor) (c .before .before .before .before .before .before .before .before .before .before .before .less .result) (c .before .before .before .before .before .before .before .before .before .before .before .before .before .candidates .result) _ _ _ (c .before .before .before .before .before .before .before .before .before .before .before .before .before .candidates .ensures) (c .before .before .before .before .before .before .before .before .before .before .before .less .ensures ∙ ap (λ (x : ℕ). a .rest - x) (c .before .before .before .before .before .before .before .before .before .before .before .before .shortest .ensures)) (c .before .before .before .before .advance .ensures)
+
+pub turn-spec : {M : Type 1} → statement M
+turn-spec =
+    tie.close
+    (tie.spec
+    candidates-requires
+    shortest-requires
+    less-requires
+    cast-advance
+    advance-requires
+    same-length
+    same-length-2
+    returns)

@@ -1,0 +1,15 @@
+use mathlib.Core.Path.{refl}
+use native.Mathlib.Omega.{arith}
+use Rattle.encode_states.specs.Packed.{unpack}
+use Rattle.encode_states.proofs.gl.Statement.{statement}
+use Rattle.encode_states.proofs.gl.Tie as tie
+use Rattle.encode_states.proofs.gl.Reads as reads
+use Rattle.encode_states.proofs.gl.Lts as lts
+
+-- src/lib.rt:32:1
+returns : tie.Need-returns
+unfolding unpack
+returns c = record { small = omega arith; is = refl }
+
+pub gl-spec : {M : Type 1} → statement M
+gl-spec = tie.close (tie.spec returns)

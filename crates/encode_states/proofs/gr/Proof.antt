@@ -1,0 +1,15 @@
+use mathlib.Core.Path.{refl}
+use native.Mathlib.Omega.{arith}
+use Rattle.encode_states.specs.Packed.{unpack}
+use Rattle.encode_states.proofs.gr.Statement.{statement}
+use Rattle.encode_states.proofs.gr.Tie as tie
+use Rattle.encode_states.proofs.gr.Reads as reads
+use Rattle.encode_states.proofs.gr.Lts as lts
+
+-- src/lib.rt:39:1
+returns : tie.Need-returns
+unfolding unpack
+returns c = record { small = omega arith; is = refl }
+
+pub gr-spec : {M : Type 1} → statement M
+gr-spec = tie.close (tie.spec returns)

@@ -1,0 +1,16 @@
+use Rattle.encode_states.proofs.Elements.{lock-short, lock-long}
+use Rattle.encode_states.proofs.lock_length.Statement.{statement}
+use Rattle.encode_states.proofs.lock_length.Tie as tie
+use Rattle.encode_states.proofs.lock_length.Reads as reads
+use Rattle.encode_states.proofs.lock_length.Lts as lts
+
+-- src/lib.rt:110:1
+returns : tie.Need-returns
+returns c = lock-short (c .before .args .n) (c .if1 .taken)
+
+-- src/lib.rt:110:1
+returns-2 : tie.Need-returns-2
+returns-2 c = lock-long (c .before .args .n) (c .if1 .left)
+
+pub lock-length-spec : {M : Type 1} → statement M
+lock-length-spec = tie.close (tie.spec returns returns-2)

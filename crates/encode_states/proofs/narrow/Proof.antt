@@ -1,0 +1,14 @@
+use mathlib.Core.Path.{refl}
+use Rattle.encode_states.specs.Packed.{unpack}
+use Rattle.encode_states.proofs.narrow.Statement.{statement}
+use Rattle.encode_states.proofs.narrow.Tie as tie
+use Rattle.encode_states.proofs.narrow.Reads as reads
+use Rattle.encode_states.proofs.narrow.Lts as lts
+
+-- src/lib.rt:49:1
+returns : tie.Need-returns
+unfolding unpack
+returns c = refl
+
+pub narrow-spec : {M : Type 1} → statement M
+narrow-spec = tie.close (tie.spec returns)

@@ -1,0 +1,21 @@
+use Rattle.encode_states.proofs.Digits.{to-narrow}
+use borrow.Author.Needs.{needs}
+use Rattle.encode_states.proofs.resize.Statement.{statement}
+use Rattle.encode_states.proofs.resize.Tie as tie
+use Rattle.encode_states.proofs.resize.Reads as reads
+use Rattle.encode_states.proofs.resize.Lts as lts
+
+-- src/lib.rt:83:5
+mul-result : tie.Need-mul-result
+mul-result c = search needs
+
+-- src/lib.rt:83:5
+add-result : tie.Need-add-result
+add-result c = search needs
+
+-- src/lib.rt:79:1
+returns : tie.Need-returns
+returns c = to-narrow (c .args .a) (c .args .n) (c .pre .1) (c .pre .0)
+
+pub resize-spec : {M : Type 1} → statement M
+resize-spec = tie.close (tie.spec mul-result add-result returns)

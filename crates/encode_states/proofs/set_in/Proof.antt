@@ -1,0 +1,25 @@
+use Rattle.encode_states.proofs.Elements.{in-element}
+use borrow.Author.Needs.{needs}
+use Rattle.encode_states.proofs.set_in.Statement.{statement}
+use Rattle.encode_states.proofs.set_in.Tie as tie
+use Rattle.encode_states.proofs.set_in.Reads as reads
+use Rattle.encode_states.proofs.set_in.Lts as lts
+
+-- src/lib.rt:28:17
+mul-result : tie.Need-mul-result
+mul-result c = search needs
+
+-- src/lib.rt:28:12
+sub-result : tie.Need-sub-result
+sub-result c = search needs
+
+-- src/lib.rt:28:6
+shr-result : tie.Need-shr-result
+shr-result c = search needs
+
+-- src/lib.rt:24:1
+returns : tie.Need-returns
+returns c = in-element (c .args .a) (c .pre .0) (c .args .n) (c .pre .1)
+
+pub set-in-spec : {M : Type 1} → statement M
+set-in-spec = tie.close (tie.spec mul-result sub-result shr-result returns)

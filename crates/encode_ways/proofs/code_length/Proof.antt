@@ -1,0 +1,16 @@
+use Rattle.encode_ways.proofs.Trying.{one-byte-code, two-byte-code}
+use Rattle.encode_ways.proofs.code_length.Statement.{statement}
+use Rattle.encode_ways.proofs.code_length.Tie as tie
+use Rattle.encode_ways.proofs.code_length.Reads as reads
+use Rattle.encode_ways.proofs.code_length.Lts as lts
+
+-- src/lib.rt:254:1
+returns : tie.Need-returns
+returns c = one-byte-code (c .before .args .code) (c .if1 .taken)
+
+-- src/lib.rt:254:1
+returns-2 : tie.Need-returns-2
+returns-2 c = two-byte-code (c .before .args .code) (c .if1 .left)
+
+pub code-length-spec : {M : Type 1} → statement M
+code-length-spec = tie.close (tie.spec returns returns-2)

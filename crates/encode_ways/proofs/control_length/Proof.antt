@@ -1,0 +1,16 @@
+use Rattle.encode_ways.proofs.Choosing.{no-bytes, one-byte}
+use Rattle.encode_ways.proofs.control_length.Statement.{statement}
+use Rattle.encode_ways.proofs.control_length.Tie as tie
+use Rattle.encode_ways.proofs.control_length.Reads as reads
+use Rattle.encode_ways.proofs.control_length.Lts as lts
+
+-- src/lib.rt:199:1
+returns : tie.Need-returns
+returns c = no-bytes (c .before .args .z) (c .if1 .taken)
+
+-- src/lib.rt:199:1
+returns-2 : tie.Need-returns-2
+returns-2 c = one-byte (c .before .args .z) (c .if1 .left)
+
+pub control-length-spec : {M : Type 1} → statement M
+control-length-spec = tie.close (tie.spec returns returns-2)

@@ -1,0 +1,24 @@
+-- `writing::put_plain` meets its contract: the two parts, one behind the other. Assumes nothing.
+use Prim.Native.Nat.{_/_, _%_}
+use native.Mathlib.Omega.{arith}
+use Rattle.encode_states.specs.Written.{writtenBy}
+use Rattle.encode_writing.proofs.Laws.{put-then, size-length}
+use borrow.Author.Needs.{needs}
+use Rattle.encode_writing.proofs.put_plain.Statement.{statement}
+use Rattle.encode_writing.proofs.put_plain.Tie as tie
+
+put-size-requires : tie.Need-put-size-requires
+put-size-requires c κs = search needs
+
+put-requires : tie.Need-put-requires
+put-requires c κs = omega (arith, c .before .before .before .put-size .ensures .to, size-length (c .before .before .before .before .before .before .args .how / 16 % 4))
+
+same-length : tie.Need-same-length
+same-length c = search needs
+
+returns : tie.Need-returns
+unfolding writtenBy
+returns c = λ size. put-then (c .before .before .before .before .before .before .put-size .ensures) (c .before .before .put .ensures)
+
+pub put-plain-spec : {M : Type 1} → statement M
+put-plain-spec = tie.close (tie.spec put-size-requires put-requires same-length returns)

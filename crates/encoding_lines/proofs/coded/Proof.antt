@@ -1,0 +1,40 @@
+-- `coded` meets its contract: the lines stand one after another, and each has its greatest length. Assumes nothing.
+use native.Mathlib.Omega.{arith}
+use Rattle.ascii.proofs.Writing.{put-then}
+use Rattle.ascii.proofs.Digits.{hexadecimal-long}
+use Rattle.encoding_lines.proofs.Outcomes.{first-few}
+use borrow.Author.Needs.{needs}
+use Rattle.encoding_lines.proofs.coded.Statement.{statement}
+use Rattle.encoding_lines.proofs.coded.Tie as tie
+
+first-line-requires : tie.Need-first-line-requires
+first-line-requires c κs = search needs
+
+hexadecimal-requires : tie.Need-hexadecimal-requires
+hexadecimal-requires c κs = (omega (arith, c .before .before .before .first-line .ensures .next, first-few (c .before .before .before .before .before .before .before .args .n) (c .before .before .before .before .before .before .before .args .gap) (omega (arith, c .before .before .before .before .before .before .before .pre)) (omega (arith, c .before .before .before .before .before .before .before .pre))), omega (arith, c .before .before .before .before .before .before .before .pre))
+
+slice-aggregate-word : tie.Need-slice-aggregate-word
+slice-aggregate-word c = search needs
+
+word-requires : tie.Need-word-requires
+word-requires c κs = omega (arith, c .before .before .before .before .before .before .before .before .before .before .before .before .pre, c .before .before .before .before .before .before .before .before .first-line .ensures .next, c .before .before .before .before .hexadecimal .ensures .next, hexadecimal-long (c .before .before .before .before .before .before .before .before .before .before .before .before .args .coding .now), first-few (c .before .before .before .before .before .before .before .before .before .before .before .before .args .n) (c .before .before .before .before .before .before .before .before .before .before .before .before .args .gap) (omega (arith, c .before .before .before .before .before .before .before .before .before .before .before .before .pre)) (omega (arith, c .before .before .before .before .before .before .before .before .before .before .before .before .pre)))
+
+same-length : tie.Need-same-length
+same-length c = search needs
+
+returns : tie.Need-returns
+returns c = record {
+  put = put-then (put-then (c .before .before .before .before .before .before .before .before .before .before .before .first-line .ensures) (c .before .before .before .before .before .before .before .hexadecimal .ensures)) (c .before .before .word .ensures);
+  long = omega (arith, c .before .before .before .before .before .before .before .before .before .before .before .before .before .before .before .pre, c .before .before .before .before .before .before .before .before .before .before .before .first-line .ensures .next, c .before .before .before .before .before .before .before .hexadecimal .ensures .next, c .before .before .word .ensures .next, hexadecimal-long (c .before .before .before .before .before .before .before .before .before .before .before .before .before .before .before .args .coding .now), first-few (c .before .before .before .before .before .before .before .before .before .before .before .before .before .before .before .args .n) (c .before .before .before .before .before .before .before .before .before .before .before .before .before .before .before .args .gap) (omega (arith, c .before .before .before .before .before .before .before .before .before .before .before .before .before .before .before .pre)) (omega (arith, c .before .before .before .before .before .before .before .before .before .before .before .before .before .before .before .pre)));
+}
+
+pub coded-spec : {M : Type 1} → statement M
+coded-spec =
+    tie.close
+    (tie.spec
+    first-line-requires
+    hexadecimal-requires
+    slice-aggregate-word
+    word-requires
+    same-length
+    returns)

@@ -1,0 +1,64 @@
+-- `first_line` meets its contract: words and numbers stand one after another. Assumes nothing.
+use Rattle.listing_lines.specs.Lines.{firstLine}
+use Rattle.ascii.proofs.Writing.{put-then}
+use borrow.Author.Needs.{needs}
+use Rattle.listing_lines.proofs.first_line.Statement.{statement}
+use Rattle.listing_lines.proofs.first_line.Tie as tie
+
+slice-aggregate-word : tie.Need-slice-aggregate-word
+slice-aggregate-word c = search needs
+
+word-requires : tie.Need-word-requires
+word-requires c κs = search needs
+
+decimal-requires : tie.Need-decimal-requires
+decimal-requires c κs = search needs
+
+slice-aggregate-word-2 : tie.Need-slice-aggregate-word-2
+slice-aggregate-word-2 c = search needs
+
+word-requires-2 : tie.Need-word-requires-2
+word-requires-2 c κs = search needs
+
+decimal-requires-2 : tie.Need-decimal-requires-2
+decimal-requires-2 c κs = search needs
+
+slice-aggregate-word-3 : tie.Need-slice-aggregate-word-3
+slice-aggregate-word-3 c = search needs
+
+word-requires-3 : tie.Need-word-requires-3
+word-requires-3 c κs = search needs
+
+decimal-requires-3 : tie.Need-decimal-requires-3
+decimal-requires-3 c κs = search needs
+
+slice-aggregate-word-4 : tie.Need-slice-aggregate-word-4
+slice-aggregate-word-4 c = search needs
+
+word-requires-4 : tie.Need-word-requires-4
+word-requires-4 c κs = search needs
+
+same-length : tie.Need-same-length
+same-length c = search needs
+
+returns : tie.Need-returns
+unfolding firstLine
+returns c = put-then (put-then (put-then (put-then (put-then (put-then (c .before .before .before .before .before .before .before .before .before .before .before .before .before .before .before .before .before .before .before .before .before .before .before .before .before .before .before .before .before .word .ensures) (c .before .before .before .before .before .before .before .before .before .before .before .before .before .before .before .before .before .before .before .before .before .before .before .before .before .decimal .ensures .0)) (c .before .before .before .before .before .before .before .before .before .before .before .before .before .before .before .before .before .before .before .before .word2 .ensures)) (c .before .before .before .before .before .before .before .before .before .before .before .before .before .before .before .before .decimal2 .ensures .0)) (c .before .before .before .before .before .before .before .before .before .before .before .word3 .ensures)) (c .before .before .before .before .before .before .before .decimal3 .ensures .0)) (c .before .before .word4 .ensures)
+
+pub first-line-spec : {M : Type 1} → statement M
+first-line-spec =
+    tie.close
+    (tie.spec
+    slice-aggregate-word
+    word-requires
+    decimal-requires
+    slice-aggregate-word-2
+    word-requires-2
+    decimal-requires-2
+    slice-aggregate-word-3
+    word-requires-3
+    decimal-requires-3
+    slice-aggregate-word-4
+    word-requires-4
+    same-length
+    returns)
