@@ -6,6 +6,7 @@ use mathlib.Core.Option.{Option, none, some}
 use lib.Dec.{eqb, ltb, leb}
 use lib.ListN.{length, take, drop}
 use Rattle.sets.specs.Sets.{Designation, readDesignation}
+use Rattle.control.specs.Codes.{CSI, TIME}
 use Rattle.control.specs.Controls.{countOf}
 use Rattle.issues.specs.declared.IssueKind.the-variants.{UnknownEscape, UndefinedControl, MalformedControl, RepeatToEndOfLine}
 use Rattle.decode_output.specs.Output.{setRepeat}
@@ -102,7 +103,7 @@ sequenceFrom strict code n rest at s = ended strict code (n + leading 0x20 0x3F 
 -- CSI, Table 7-17
 unfoldable pub csi : List ℕ → ℕ → State → Step
 unfolding sequenceFrom
-csi rest at s = sequenceFrom true 0x9B 1 rest at s
+csi rest at s = sequenceFrom true CSI 1 rest at s
 
 -- TIME, Table 7-16: 20 or 28 and a parameter, or 29 and a sequence
 unfoldable pub time : List ℕ → ℕ → State → Step
@@ -110,7 +111,7 @@ unfolding truncated sequenceFrom issue
 time [] at s = truncated 1 at s
 time (p ∷ r) at s =
     cond (eqb p 0x20 || eqb p 0x28) (cond (eqb (length r) 0) (truncated 2 at s) (took 3 s))
-    (cond (eqb p 0x29) (sequenceFrom false 0x9D 2 r at s) (took 2 (issue at (MalformedControl 0x9D) s)))
+    (cond (eqb p 0x29) (sequenceFrom false TIME 2 r at s) (took 2 (issue at (MalformedControl TIME) s)))
 
 -- a control with a fixed number of parameters, or none in the tables
 unfoldable pub fixedOf : Option ℕ → ℕ → List ℕ → ℕ → State → Step

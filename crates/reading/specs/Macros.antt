@@ -5,6 +5,7 @@ use mathlib.Core.List.{List, [], _∷_, _++_}
 use lib.Dec.{eqb, ltb, leb}
 use lib.ListN.{length, take, drop, getD}
 use Rattle.sets.specs.Sets.{designation}
+use Rattle.control.specs.Codes.{LS0, ESC, MACRO}
 use Rattle.issues.specs.declared.IssueKind.the-variants.{MalformedControl, UndefinedMacro, MacroLimit}
 use Rattle.reading.specs.State.{Given, State, Step, took, issue, truncated, define, charge}
 
@@ -36,7 +37,7 @@ builtinSets =
 -- designations of three sets to G0, G1 and G2, of the macro set to G3, and "LS0 and then LS2R, the bytes 0F 1B 7D"
 unfoldable pub builtinOf : List ℕ → List ℕ
 unfolding designation
-builtinOf f = designation (getD f 0 0) 0 ++ (designation (getD f 1 0) 1 ++ (designation (getD f 2 0) 2 ++ (designation 15 3 ++ (0x0F ∷ 0x1B ∷ 0x7D ∷ []))))
+builtinOf f = designation (getD f 0 0) 0 ++ (designation (getD f 1 0) 1 ++ (designation (getD f 2 0) 2 ++ (designation 15 3 ++ (LS0 ∷ ESC ∷ 0x7D ∷ []))))
 
 -- the built-in body of a code from 60 to 6F
 unfoldable pub builtin : ℕ → List ℕ
@@ -67,7 +68,7 @@ runMacro g left R code at s =
 unfoldable pub endOf : List ℕ → ℕ
 endOf [] = 0
 endOf (x ∷ []) = 1
-endOf (x ∷ (y ∷ r)) = cond (eqb x 0x95 && eqb y 0x4F) 0 (suc (endOf (y ∷ r)))
+endOf (x ∷ (y ∷ r)) = cond (eqb x MACRO && eqb y 0x4F) 0 (suc (endOf (y ∷ r)))
 
 -- MACRO p mc with a body of n bytes, at the place `place` of the input: 40 defines, 41 defines and runs once
 unfoldable pub defined : Given → ℕ → Run → ℕ → ℕ → ℕ → ℕ → ℕ → State → Step
@@ -90,4 +91,4 @@ unfolding definition truncated issue
 macroCmd g left R [] place at s = truncated 1 at s
 macroCmd g left R (p ∷ r) place at s =
     cond (eqb p 0x4F) (took 2 s)
-    (cond (eqb p 0x40 || eqb p 0x41) (definition g left R p r place at s) (took 2 (issue at (MalformedControl 0x95) s)))
+    (cond (eqb p 0x40 || eqb p 0x41) (definition g left R p r place at s) (took 2 (issue at (MalformedControl MACRO) s)))

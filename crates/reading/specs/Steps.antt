@@ -3,6 +3,7 @@ use Prim.Native.Nat.{ℕ, zero, suc, _+_, _-_}
 use mathlib.Core.Bool.{Bool, true, false, cond, _&&_, _||_}
 use mathlib.Core.List.{List, [], _∷_}
 use lib.Dec.{eqb, ltb, leb}
+use Rattle.control.specs.Codes.{SP, APR, LS0, LS1, SS2, SS3, ESC, SSZ, MSZ, NSZ, SZX, COL, CDC, MACRO, RPC, CSI, TIME}
 use Rattle.decode_output.specs.Output.{emit, newline, release}
 use Rattle.reading.specs.State.{Given, State, Step, took, start, writes, resize, invokeGL, isNarrow}
 use Rattle.reading.specs.Characters.{isGL, isGR, graphic, singleShift}
@@ -18,27 +19,27 @@ space g s = writes (emit (cond (isNarrow g s) 0x20 0x3000)) s
 unfoldable pub control0 : Given → ℕ → Run → ℕ → List ℕ → ℕ → ℕ → State → Step
 unfolding space invokeGL singleShift escape writes newline fixed
 control0 g left R x rest place at s =
-    cond (eqb x 0x20) (took 1 (space g s))
-    (cond (eqb x 0x0F) (took 1 (invokeGL 0 s))
-    (cond (eqb x 0x0E) (took 1 (invokeGL 1 s))
-    (cond (eqb x 0x19) (singleShift g left R 2 rest at s)
-    (cond (eqb x 0x1D) (singleShift g left R 3 rest at s)
-    (cond (eqb x 0x1B) (escape rest place at s)
-    (cond (eqb x 0x0D) (took 1 (writes newline s))
+    cond (eqb x SP) (took 1 (space g s))
+    (cond (eqb x LS0) (took 1 (invokeGL 0 s))
+    (cond (eqb x LS1) (took 1 (invokeGL 1 s))
+    (cond (eqb x SS2) (singleShift g left R 2 rest at s)
+    (cond (eqb x SS3) (singleShift g left R 3 rest at s)
+    (cond (eqb x ESC) (escape rest place at s)
+    (cond (eqb x APR) (took 1 (writes newline s))
     (fixed x rest at s)))))))
 
 -- a code from 80 on outside GR
 unfoldable pub control1 : Given → ℕ → Run → ℕ → List ℕ → ℕ → ℕ → State → Step
 unfolding resize szx rpc colour time csi macroCmd fixed
 control1 g left R x rest place at s =
-    cond (eqb x 0x88 || eqb x 0x89) (took 1 (resize true s))
-    (cond (eqb x 0x8A) (took 1 (resize false s))
-    (cond (eqb x 0x8B) (szx rest at s)
-    (cond (eqb x 0x98) (rpc rest at s)
-    (cond (eqb x 0x90 || eqb x 0x92) (colour rest at s)
-    (cond (eqb x 0x9D) (time rest at s)
-    (cond (eqb x 0x9B) (csi rest at s)
-    (cond (eqb x 0x95) (macroCmd g left R rest place at s)
+    cond (eqb x SSZ || eqb x MSZ) (took 1 (resize true s))
+    (cond (eqb x NSZ) (took 1 (resize false s))
+    (cond (eqb x SZX) (szx rest at s)
+    (cond (eqb x RPC) (rpc rest at s)
+    (cond (eqb x COL || eqb x CDC) (colour rest at s)
+    (cond (eqb x TIME) (time rest at s)
+    (cond (eqb x CSI) (csi rest at s)
+    (cond (eqb x MACRO) (macroCmd g left R rest place at s)
     (fixed x rest at s))))))))
 
 -- "One step is chosen by its first byte and takes that byte with its parameters": the byte x, at a place of the input, and what follows it
