@@ -2,6 +2,7 @@
 use Prim.Native.Nat.{ℕ, zero, suc, _+_, _≤_, _<_}
 use mathlib.Core.Path.{_≡_}
 use mathlib.Core.List.{List, [], _∷_, _++_, map}
+use Rattle.control.specs.Codes.{MSZ, NSZ}
 use Rattle.sets.specs.Sets.{designation}
 use Rattle.coding.specs.State.{State, setIn, designate, invokeGL, invokeGR, resize, lockGL, lockGR, single}
 use Rattle.coding.specs.Candidates.{Cand, graphic, plain}
@@ -16,8 +17,8 @@ pub data Control : State → List ℕ → State → Type 0 where
   designates : {s : State} (x n : ℕ) → x < 32 → n < 4 → Control s (designation x n) (designate s n x)
   locksGL : {s : State} (n : ℕ) → n < 4 → Control s (lockGL n) (invokeGL s n)
   locksGR : {s : State} (n : ℕ) → 1 ≤ n → n < 4 → Control s (lockGR n) (invokeGR s n)
-  msz : {s : State} → Control s (0x89 ∷ []) (resize s 1)
-  nsz : {s : State} → Control s (0x8A ∷ []) (resize s 0)
+  msz : {s : State} → Control s (MSZ ∷ []) (resize s 1)
+  nsz : {s : State} → Control s (NSZ ∷ []) (resize s 0)
 
 -- "under the candidate's size (MSZ narrow, NSZ or the start wide); a candidate to which 000 gives no width goes under either"
 pub data Sized : State → ℕ → Type 0 where

@@ -4,6 +4,7 @@ use mathlib.Core.Bool.{Bool, true, false, cond, _&&_}
 use mathlib.Core.List.{List, [], _∷_, _++_}
 use lib.Dec.{eqb}
 use lib.ListN.{length}
+use Rattle.control.specs.Codes.{APR, SP}
 use Rattle.tables.specs.Kanji.{nonSpacing, isMark, cellWith}
 use Rattle.tables.specs.Reverse.{oneByteReverse, kanjiReverse, additionalReverse}
 use Rattle.tables.specs.declared.OneByteTable.{OneByteTable}
@@ -54,14 +55,14 @@ unfolding ofCode ofPlace fullwidth oneByteReverse kanjiReverse additionalReverse
 letters cells annexE c =
     ofCode 2 wide (oneByteReverse Hiragana c) ++ (ofCode 3 wide (oneByteReverse Katakana c) ++ (ofCode 1 narrow (oneByteReverse Alphanumeric c) ++
     (fullwidth annexE c ++ (ofPlace 0 wide (kanjiReverse cells c) ++ (ofPlace 14 wide (additionalReverse c) ++ (ofCode 11 narrow (oneByteReverse JisX0201Katakana c) ++
-    (when (eqb c 0x20) (plain 0x20 narrow) ++ cond annexE [] (when (eqb c 0x3000) (plain 0x20 wide)))))))))
+    (when (eqb c 0x20) (plain SP narrow) ++ cond annexE [] (when (eqb c 0x3000) (plain SP wide)))))))))
 
 -- `candidates`: a newline is APR, and a mark is coded by its own cell of the seven
 unfoldable pub candidates : List ℕ → Bool → ℕ → List Cand
 unfolding letters ofPlace isMark cellWith
 candidates cells annexE c =
     elim (eqb c 10) [
-      | true ↦ plain 0x0D either ∷ []
+      | true ↦ plain APR either ∷ []
       | false ↦ elim (isMark nonSpacing c) [ true ↦ ofPlace 0 either (cellWith nonSpacing c) | false ↦ letters cells annexE c ]
     ]
 

@@ -4,6 +4,7 @@ use mathlib.Core.Bool.{Bool, true, false, cond, _&&_}
 use mathlib.Core.List.{List, [], _∷_, _++_, map}
 use lib.Dec.{eqb, leb}
 use lib.ListN.{length}
+use Rattle.control.specs.Codes.{MSZ, NSZ}
 use Rattle.coding.specs.State.{State, start, sameState, resize}
 use Rattle.coding.specs.Candidates.{Cand, graphic, plain, restOf}
 use Rattle.coding.specs.Ways.{Way, ways}
@@ -28,7 +29,7 @@ push (m ∷ ms) n = elim (sameState (m .state) (n .state)) [ true ↦ cond (leb 
 
 -- the size control before a candidate of a size: MSZ where it is narrow and the state wide, NSZ where it is wide and the state narrow
 unfoldable pub sizeBytes : State → ℕ → List ℕ
-sizeBytes s size = cond (eqb size 1 && eqb (s .narrow) 0) (0x89 ∷ []) [] ++ cond (eqb size 2 && eqb (s .narrow) 1) (0x8A ∷ []) []
+sizeBytes s size = cond (eqb size 1 && eqb (s .narrow) 0) (MSZ ∷ []) [] ++ cond (eqb size 2 && eqb (s .narrow) 1) (NSZ ∷ []) []
 
 -- the state after it
 unfoldable pub sized : State → ℕ → State

@@ -7,6 +7,7 @@ use mathlib.Core.Option.{Option, none, some}
 use mathlib.Core.Path.{_≡_}
 use lib.Dec.{eqb, ltb, leb}
 use lib.ListN.{length, getD, replicate}
+use Rattle.control.specs.Codes.{ESC, LS0, LS1, SS2, SS3}
 use Rattle.sets.specs.declared.GraphicSet.{GraphicSet}
 use Rattle.sets.specs.declared.GraphicSet.the-variants.{Kanji, Alphanumeric, Hiragana, Katakana, MosaicA, MosaicB, MosaicC, MosaicD, ProportionalAlphanumeric, ProportionalHiragana, ProportionalKatakana, JisX0201Katakana, JisKanjiPlane1, JisKanjiPlane2, AdditionalSymbols, Drcs, Macro}
 use Rattle.sets.specs.declared.Designated.{Designated}
@@ -58,10 +59,10 @@ finalByte s = cond (ltb s 16) (getD finalBytes s 0) (0x40 + s % 16)
 
 -- Table 7-2: what designates a set to G0 .. G3, by bytes a character (two or not), DRCS form or not, code element n and final byte f
 unfoldable pub sequence : Bool → Bool → ℕ → ℕ → List ℕ
-sequence false false n f = 0x1B ∷ (0x28 + n) ∷ f ∷ []
-sequence false true n f = 0x1B ∷ (0x28 + n) ∷ 0x20 ∷ f ∷ []
-sequence true false n f = cond (eqb n 0) (0x1B ∷ 0x24 ∷ f ∷ []) (0x1B ∷ 0x24 ∷ (0x28 + n) ∷ f ∷ [])
-sequence true true n f = 0x1B ∷ 0x24 ∷ (0x28 + n) ∷ 0x20 ∷ f ∷ []
+sequence false false n f = ESC ∷ (0x28 + n) ∷ f ∷ []
+sequence false true n f = ESC ∷ (0x28 + n) ∷ 0x20 ∷ f ∷ []
+sequence true false n f = cond (eqb n 0) (ESC ∷ 0x24 ∷ f ∷ []) (ESC ∷ 0x24 ∷ (0x28 + n) ∷ f ∷ [])
+sequence true true n f = ESC ∷ 0x24 ∷ (0x28 + n) ∷ 0x20 ∷ f ∷ []
 
 -- Table 7-2: the designation of set s to code element n
 unfoldable pub designation : ℕ → ℕ → List ℕ
@@ -128,15 +129,15 @@ pub record Holds (q : Sequence) (xs : List ℕ) : Type 0 where
 
 -- Table 7-1: the coded representation of a shift
 abbrev pub shiftBytes : Shift → List ℕ
-shiftBytes Ls0 = 0x0F ∷ []
-shiftBytes Ls1 = 0x0E ∷ []
-shiftBytes Ls2 = 0x1B ∷ 0x6E ∷ []
-shiftBytes Ls3 = 0x1B ∷ 0x6F ∷ []
-shiftBytes Ls1r = 0x1B ∷ 0x7E ∷ []
-shiftBytes Ls2r = 0x1B ∷ 0x7D ∷ []
-shiftBytes Ls3r = 0x1B ∷ 0x7C ∷ []
-shiftBytes Ss2 = 0x19 ∷ []
-shiftBytes Ss3 = 0x1D ∷ []
+shiftBytes Ls0 = LS0 ∷ []
+shiftBytes Ls1 = LS1 ∷ []
+shiftBytes Ls2 = ESC ∷ 0x6E ∷ []
+shiftBytes Ls3 = ESC ∷ 0x6F ∷ []
+shiftBytes Ls1r = ESC ∷ 0x7E ∷ []
+shiftBytes Ls2r = ESC ∷ 0x7D ∷ []
+shiftBytes Ls3r = ESC ∷ 0x7C ∷ []
+shiftBytes Ss2 = SS2 ∷ []
+shiftBytes Ss3 = SS3 ∷ []
 
 -- Table 7-1: the code element that a shift invokes
 abbrev pub shiftElement : Shift → ℕ

@@ -1,6 +1,7 @@
 // Graphic sets, their final bytes, and the escape sequences that designate and invoke them in the eight-unit code.
 //
 // ARIB STD-B24 volume 1 part 2, 7.1.1: Table 7-1 (invocation), Table 7-2 (designation), Table 7-3 (sets and final bytes).
+use control::ESC;
 ghost use mathlib.Core.Path.{_≡_};
 ghost use mathlib.Core.Bool.{true, false};
 ghost use mathlib.Core.List.{map};
@@ -96,9 +97,6 @@ const FINAL_BYTES: [u8; 16] = [
     0x3B,
     0x70,
 ];
-
-// ESC, 01/11: Table 7-14.
-pub const ESC: u8 = 0x1B;
 
 impl GraphicSet {
     // The set's number: 0 to 14 in the order above, Macro 15, DRCS-n 16 + n.
