@@ -1,4 +1,4 @@
--- The decoding call: from what was written to the answer, and the refusals. Assumes nothing.
+-- The decoding call: from what was written to the answer, and the refusals.
 use Prim.Native.Nat.{ℕ, zero, suc, _+_, _-_, _*_, _≤_, _<_}
 use mathlib.Core.Path.{_≡_, refl, sym, ap, _∙_, subst}
 use mathlib.Core.Bool.{Bool, true, false, cond}
@@ -28,7 +28,8 @@ use Rattle.decode_state.specs.Contracts.{whole, Holds}
 use Rattle.decode.specs.declared.call.Answer.{Answer}
 use Rattle.decode.specs.declared.call.Answer.the-variants.{Decoded, Refused}
 use Rattle.decode_output.proofs.Held.{release-marks}
-use Rattle.decode.specs.Contracts.{Inside, Ready, Grown, TopRan}
+use Rattle.decode_bodies.specs.Contracts.{Ready, Grown}
+use Rattle.decode_outer.specs.Contracts.{TopRan}
 use Rattle.decode.specs.Answers.{fitsIn, numberOf, placeOf, textOf, issuesOf, chargedOf, lent, Refuses, Answers, Answered}
 
 -- ---- the answer, from what was written

@@ -1,2 +1,1 @@
-pub mod Contracts
 pub mod Answers

@@ -101,7 +101,7 @@ pub fn decode_checked(
     requires { ⌜ firstRefusal (now cells) initial width 65535 (length (now input)) ≡ 0 ⌝ }
     ensures { λ r. ⌜ Answered (lent (now (cells .entry)) initial width (now (input .entry)) (now (text .entry)) (now (issues .entry))) r (now (text .exit)) (now (issues .exit)) ⌝ }
 {
-    let d = crate::outer::top(
+    let d = decode_outer::top(
         cells,
         input,
         start(initial_g3(initial), width == 1),

@@ -9,8 +9,8 @@ use Rattle.decode_output.specs.Contracts as output
 use Rattle.reading.specs.Macros.{limit}
 use Rattle.decode_state.specs.declared.Decoder.{Decoder}
 use Rattle.decode_state.specs.Contracts.{whole}
-use Rattle.decode.specs.Contracts.{Inside, Ready, Grown}
-use Rattle.decode.proofs.Defining.{inside-start}
+use Rattle.decode_bodies.specs.Contracts.{Inside, Ready, Grown}
+use Rattle.decode_outer.proofs.Defining.{inside-start}
 use Rattle.decode.proofs.Calls.{startCore, ready-start, room-end, checked}
 use borrow.Author.Needs.{needs}
 use Rattle.decode.proofs.call.decode_checked.Statement.{statement}
@@ -20,7 +20,7 @@ use Rattle.decode.proofs.call.decode_checked.Lts as lts
 use Rattle.decode.proofs.call.finish.Reads as finish-reads
 use Rattle.decode.proofs.call.initial_g3.Reads as initial-g3-reads
 use Rattle.decode.proofs.call.start.Reads as start-reads
-use Rattle.decode.proofs.outer.top.Reads as top-reads
+use Rattle.decode_outer.proofs.top.Reads as top-reads
 use Rattle.decode_output.proofs.flush_dangling.Reads as flush-dangling-reads
 
 initial-g3-requires : tie.Need-initial-g3-requires

@@ -9,37 +9,37 @@ use lib.Seq.{length-take-le}
 use borrow.Author.Needs.{needs}
 use Rattle.reading.specs.Macros.{Run, runBody, endOf, limit}
 use Rattle.reading.specs.Steps.{offset}
-use Rattle.decode.specs.Contracts.{below}
-use Rattle.decode.proofs.Loops.{Along, along-start, along-stretch, along-step, along-end, inside-offset, offset-as, limit-is, ready-good, ready-left, ready-less}
-use Rattle.decode.proofs.Bodies.{ran-as, step-as, did-ran, took-ran-by, one-step, shift-step, char1-macro, graphic-macro, body-deep, body-dear, ran-body, ran-empty, ready-body, macro-defined, macro-built-in, macro-none, shift-char, part-short, told-char, told-macro, told-shift, told-end, built-test, built-none, built-bare, built-short}
+use Rattle.decode_bodies.specs.Contracts.{below}
+use Rattle.decode_bodies.proofs.Loops.{Along, along-start, along-stretch, along-step, along-end, inside-offset, offset-as, limit-is, ready-good, ready-left, ready-less}
+use Rattle.decode_bodies.proofs.Bodies.{ran-as, step-as, did-ran, took-ran-by, one-step, shift-step, char1-macro, graphic-macro, body-deep, body-dear, ran-body, ran-empty, ready-body, macro-defined, macro-built-in, macro-none, shift-char, part-short, told-char, told-macro, told-shift, told-end, built-test, built-none, built-bare, built-short}
 use Rattle.decode_steps.proofs.Dispatch.{step-char, step-shift, step-macro}
 use Prim.Native.Nat.{ℕ, _<_}
 use borrow.Fn.Kinds.{In}
 use borrow.Fn.PlainCycle.{Measures, is, falls, and}
-use Rattle.decode.proofs.cycle.char1.Reads as char1
-use Rattle.decode.proofs.cycle.char1.Kinds as char1-kinds
-use Rattle.decode.proofs.cycle.+char1+graphic+run+run_body+run_macro+turn.Lts-char1 as char1-lts
-use Rattle.decode.proofs.cycle.graphic.Reads as graphic
-use Rattle.decode.proofs.cycle.graphic.Kinds as graphic-kinds
-use Rattle.decode.proofs.cycle.+char1+graphic+run+run_body+run_macro+turn.Lts-graphic as graphic-lts
-use Rattle.decode.proofs.cycle.run.Reads as run
-use Rattle.decode.proofs.cycle.run.Kinds as run-kinds
-use Rattle.decode.proofs.cycle.+char1+graphic+run+run_body+run_macro+turn.Lts-run as run-lts
-use Rattle.decode.proofs.cycle.run_body.Reads as run-body
-use Rattle.decode.proofs.cycle.run_body.Kinds as run-body-kinds
-use Rattle.decode.proofs.cycle.+char1+graphic+run+run_body+run_macro+turn.Lts-run_body as run-body-lts
-use Rattle.decode.proofs.cycle.run_macro.Reads as run-macro
-use Rattle.decode.proofs.cycle.run_macro.Kinds as run-macro-kinds
-use Rattle.decode.proofs.cycle.+char1+graphic+run+run_body+run_macro+turn.Lts-run_macro as run-macro-lts
-use Rattle.decode.proofs.cycle.turn.Reads as turn
-use Rattle.decode.proofs.cycle.turn.Kinds as turn-kinds
-use Rattle.decode.proofs.cycle.+char1+graphic+run+run_body+run_macro+turn.Lts-turn as turn-lts
+use Rattle.decode_bodies.proofs.char1.Reads as char1
+use Rattle.decode_bodies.proofs.char1.Kinds as char1-kinds
+use Rattle.decode_bodies.proofs.+char1+graphic+run+run_body+run_macro+turn.Lts-char1 as char1-lts
+use Rattle.decode_bodies.proofs.graphic.Reads as graphic
+use Rattle.decode_bodies.proofs.graphic.Kinds as graphic-kinds
+use Rattle.decode_bodies.proofs.+char1+graphic+run+run_body+run_macro+turn.Lts-graphic as graphic-lts
+use Rattle.decode_bodies.proofs.run.Reads as run
+use Rattle.decode_bodies.proofs.run.Kinds as run-kinds
+use Rattle.decode_bodies.proofs.+char1+graphic+run+run_body+run_macro+turn.Lts-run as run-lts
+use Rattle.decode_bodies.proofs.run_body.Reads as run-body
+use Rattle.decode_bodies.proofs.run_body.Kinds as run-body-kinds
+use Rattle.decode_bodies.proofs.+char1+graphic+run+run_body+run_macro+turn.Lts-run_body as run-body-lts
+use Rattle.decode_bodies.proofs.run_macro.Reads as run-macro
+use Rattle.decode_bodies.proofs.run_macro.Kinds as run-macro-kinds
+use Rattle.decode_bodies.proofs.+char1+graphic+run+run_body+run_macro+turn.Lts-run_macro as run-macro-lts
+use Rattle.decode_bodies.proofs.turn.Reads as turn
+use Rattle.decode_bodies.proofs.turn.Kinds as turn-kinds
+use Rattle.decode_bodies.proofs.+char1+graphic+run+run_body+run_macro+turn.Lts-turn as turn-lts
 use Rattle.decode_characters.proofs.report.Reads as report-reads
-use Rattle.decode.proofs.cycle.macro_cmd.Reads as macro-cmd-reads
+use Rattle.decode_bodies.proofs.macro_cmd.Reads as macro-cmd-reads
 use Rattle.decode_macros.proofs.default_macro.Reads as default-macro-reads
 use Rattle.decode_steps.proofs.plain.Reads as plain-reads
-use Rattle.decode.proofs.cycle.+char1+graphic+run+run_body+run_macro+turn.{statement}
-use Rattle.decode.proofs.cycle.+char1+graphic+run+run_body+run_macro+turn.Tie.{close}
+use Rattle.decode_bodies.proofs.+char1+graphic+run+run_body+run_macro+turn.{statement}
+use Rattle.decode_bodies.proofs.+char1+graphic+run+run_body+run_macro+turn.Tie.{close}
 
 abbrev μ-char1 : Measures 5 char1-kinds.ps ℕ
 μ-char1 κs a = 6 * a .1 .1 .1 .1 .0 + 2

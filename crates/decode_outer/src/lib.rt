@@ -16,7 +16,8 @@ ghost use Rattle.reading.specs.Macros.{runMacro, defined, macroCmd, limit};
 ghost use Rattle.decode_state.specs.Contracts.{whole};
 ghost use Rattle.decode_macros.specs.Contracts.{Defined};
 ghost use Rattle.decode_steps.specs.Contracts.{StopAt};
-ghost use Rattle.decode.specs.Contracts.{below, Inside, Ready, Executed, OuterStep, stepAt, TopRan};
+ghost use Rattle.decode_bodies.specs.Contracts.{below, Inside, Ready};
+ghost use Rattle.decode_outer.specs.Contracts.{Executed, OuterStep, stepAt, TopRan};
 
 // The decoder with its core anew.
 fn with_core(d: Decoder, core: Core) -> Decoder
@@ -54,7 +55,7 @@ fn call(
     ensures { λ r. ⌜ ((e : ℕ) → getD (d .core .sets) e 0 ≡ 15 → OuterStep (now (cells .entry)) (now (input .entry)) i (λ g. graphic g 4 (below g 4) e (getD (now (input .entry)) i 0) (drop (i + 1) (now (input .entry))) at) d (now (text .entry)) (now (issues .entry)) r (now (text .exit)) (now (issues .exit))) ⌝ }
 {
     let core = d.core;
-    let r = crate::cycle::graphic(
+    let r = decode_bodies::graphic(
         cells,
         input,
         input,
@@ -90,7 +91,7 @@ fn execute(
     ensures { λ r. ⌜ Executed (now (cells .entry)) (now (input .entry)) (λ g. runMacro g 4 (below g 4) code at) d (now (text .entry)) (now (issues .entry)) r (now (text .exit)) (now (issues .exit)) ⌝ }
 {
     let core = d.core;
-    let after = crate::cycle::run_macro(
+    let after = decode_bodies::run_macro(
         cells,
         input,
         code,

@@ -1,4 +1,4 @@
--- What the functions of the decoder promise, where bodies run and macros are defined.
+-- What the functions that run macro bodies promise.
 use Prim.Native.Nat.{ℕ, zero, suc, _+_, _-_, _*_, _≤_, _<_}
 use mathlib.Core.Path.{_≡_}
 use mathlib.Core.List.{List, [], _∷_}
@@ -6,11 +6,10 @@ use lib.ListN.{length, take, drop, getD}
 use Rattle.decode_output.specs.Contracts as output
 use Rattle.reading.specs.State.{Given, State, Step}
 use Rattle.reading.specs.Macros.{Run, endOf, limit}
-use Rattle.reading.specs.Steps.{step, run}
+use Rattle.reading.specs.Steps.{run}
 use Rattle.decode_state.specs.declared.Core.{Core}
 use Rattle.decode_state.specs.declared.Decoder.{Decoder}
 use Rattle.decode_state.specs.declared.Stepped.{Stepped}
-use Rattle.decode_state.specs.declared.Outer.{Outer}
 use Rattle.decode_state.specs.Contracts.{whole, Holds, Does}
 
 -- to run a body one deeper, where `left` more may be opened
@@ -60,30 +59,3 @@ pub record RanStep (cells input b : List ℕ) (i : ℕ) (f : Given → State →
   pub some : 1 ≤ r .used
   pub most : i + r .used ≤ length b
   pub grown : Grown (limit input) 1 c (r .core)
-
--- ---- outside every body
-
--- a step at the byte j of the input, which goes as f; macros may be defined
-pub record OuterStep (cells input : List ℕ) (j : ℕ) (f : Given → State → Step) (d : Decoder) (t i : List ℕ) (r : Outer) (t′ i′ : List ℕ) : Type 0 where
-  pub does : (g : Given) → g .cells ≡ cells → g .input ≡ input → Does g (λ s. f g s .to) d t i (r .decoder) t′ i′
-  pub used : (g : Given) → g .cells ≡ cells → g .input ≡ input → (t₀ i₀ : List ℕ) (s : State) → Holds g t₀ i₀ s d t i → r .used ≡ f g s .used
-  pub some : 1 ≤ r .used
-  pub most : j + r .used ≤ length input
-  pub grown : Grown (limit input) 1 (d .core) (r .decoder .core)
-  pub inside : Inside input (r .decoder .starts) (r .decoder .lens)
-
--- a macro that runs outside every body goes as f, and the macros stay
-pub record Executed (cells input : List ℕ) (f : Given → State → State) (d : Decoder) (t i : List ℕ) (r : Decoder) (t′ i′ : List ℕ) : Type 0 where
-  pub starts : r .starts ≡ d .starts
-  pub lens : r .lens ≡ d .lens
-  pub does : (g : Given) → g .cells ≡ cells → g .input ≡ input → Does g (f g) d t i r t′ i′
-  pub grown : Grown (limit input) 1 (d .core) (r .core)
-
--- the step at the byte j of the input
-abbrev pub stepAt : List ℕ → ℕ → Given → State → Step
-stepAt input j g = step g 4 (below g 4) (getD input j 0) (drop (j + 1) input) j j
-
--- all steps of the input
-pub record TopRan (cells input : List ℕ) (d : Decoder) (t i : List ℕ) (r : Decoder) (t′ i′ : List ℕ) : Type 0 where
-  pub does : (g : Given) → g .cells ≡ cells → g .input ≡ input → Does g (run g 4 input 0 0) d t i r t′ i′
-  pub grown : Grown (limit input) (length input) (d .core) (r .core)

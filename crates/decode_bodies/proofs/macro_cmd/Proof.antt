@@ -1,10 +1,10 @@
 use Rattle.decode_macros.proofs.Laws.{bare-ends, bare-defines}
-use Rattle.decode.proofs.Defining.{took-cut, took-malformed, within-malformed}
+use Rattle.decode_bodies.proofs.Commands.{took-cut, took-malformed, within-malformed}
 use borrow.Author.Needs.{needs}
-use Rattle.decode.proofs.cycle.macro_cmd.Statement.{statement}
-use Rattle.decode.proofs.cycle.macro_cmd.Tie as tie
-use Rattle.decode.proofs.cycle.macro_cmd.Reads as reads
-use Rattle.decode.proofs.cycle.macro_cmd.Lts as lts
+use Rattle.decode_bodies.proofs.macro_cmd.Statement.{statement}
+use Rattle.decode_bodies.proofs.macro_cmd.Tie as tie
+use Rattle.decode_bodies.proofs.macro_cmd.Reads as reads
+use Rattle.decode_bodies.proofs.macro_cmd.Lts as lts
 use Rattle.decode_characters.proofs.report.Reads as report-reads
 use Rattle.decode_controls.proofs.truncated.Reads as truncated-reads
 use Rattle.decode_macros.proofs.read_command.Reads as read-command-reads

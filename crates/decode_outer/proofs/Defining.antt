@@ -1,4 +1,4 @@
--- Macros that are defined and run outside every body. Assumes nothing.
+-- Macros that are defined and run outside every body.
 use Prim.Native.Nat.{ℕ, zero, suc, _+_, _-_, _≤_, _<_}
 use mathlib.Core.Path.{_≡_, refl, sym, ap, _∙_, subst}
 use mathlib.Core.Bool.{Bool, true, false, cond, true≢false, false≢true}
@@ -8,24 +8,21 @@ use native.Mathlib.Numerals.{add-one}
 use native.Mathlib.Omega.{arith}
 use lib.ListN.{length, take, drop, getD, set, replicate, length-set}
 use lib.Seq.{getD-set-other, getD-set-same}
-use Rattle.reading.specs.State.{Given, State, Step, took, define, issue, truncated}
-use Rattle.reading.specs.Macros.{Run, runMacro, defined, macroCmd, endOf, limit}
-use Rattle.reading.specs.Steps.{step, run}
+use Rattle.reading.specs.State.{Given, State, Step, define}
+use Rattle.reading.specs.Macros.{runMacro, defined, macroCmd, endOf, limit}
 use Rattle.decode_state.specs.declared.Core.{Core}
 use Rattle.decode_state.specs.declared.Decoder.{Decoder}
 use Rattle.decode_state.specs.declared.Stepped.{Stepped}
 use Rattle.decode_state.specs.declared.Outer.{Outer}
-use Rattle.decode_state.specs.Contracts.{whole, Holds, Does, TookOver, Took}
-use Rattle.issues.specs.declared.IssueKind.the-variants.{MalformedControl}
-use Rattle.decode_characters.specs.Contracts.{Did}
-use Rattle.decode_characters.proofs.Did.{took-did}
-use Rattle.decode_steps.proofs.Moving.{took-over, took-as}
+use Rattle.decode_state.specs.Contracts.{whole, Holds, Does}
 use Rattle.decode_macros.specs.declared.Command.{Command}
-use Rattle.decode_macros.specs.declared.Command.the-variants.{Cut, Ends, Malformed, Defines}
-use Rattle.decode_macros.specs.Contracts.{Defined, Ended, Within, commanded}
+use Rattle.decode_macros.specs.declared.Command.the-variants.{Ends}
+use Rattle.decode_macros.specs.Contracts.{Defined, commanded}
 use Rattle.decode_macros.proofs.Laws.{defined-fits, defined-bare}
-use Rattle.decode.specs.Contracts.{below, bodyAt, Inside, Ready, Grown, Ran, RanStep, Executed, OuterStep}
-use Rattle.decode.proofs.Bodies.{Alike, alike}
+use Rattle.decode_bodies.specs.Contracts.{below, bodyAt, Inside, Ready, Grown, Ran, RanStep}
+use Rattle.decode_bodies.proofs.Bodies.{Alike, alike}
+use Rattle.decode_bodies.proofs.Commands.{Means}
+use Rattle.decode_outer.specs.Contracts.{Executed, OuterStep}
 
 -- ---- the macros
 
@@ -91,24 +88,6 @@ module _ {cells input : List ℕ} {d : Decoder} {t i : List ℕ} where
     inside = v .inside;
   }
 
--- ---- MACRO, by what it is
-
--- what `read_command` says of a command at the byte j of b, with n bytes from it on
-abbrev pub Means : List ℕ → ℕ → ℕ → Command → Type 0
-Means b j n cmd = (g : Given) (left : ℕ) (R : Run) (place at : ℕ) (s : State) → macroCmd g left R (drop (j + 1) b) place at s ≡ commanded cmd n g left R place at s
-
-module _ (b : List ℕ) (j n : ℕ) (cmd : Command) (m : Means b j n cmd) (at : ℕ) (c : Core) (i i′ : List ℕ) where
-  pub took-cut : (r : Stepped) → cmd ≡ Cut → ((t : List ℕ) → Took b j (truncated n at) c t i r t i′) → (left : ℕ) (R : Run) (place : ℕ) (cells t : List ℕ)
-      → TookOver cells b j (λ g. macroCmd g left R (drop (j + 1) b) place at) c t i r t i′
-  unfolding commanded
-  took-cut r q v left R place cells t = took-as (λ g starts lens t₀ i₀ s h. sym (m g left R place at s ∙ ap (λ (z : Command). commanded z n g left R place at s) q)) (took-over (λ g. v t))
-
-  pub took-malformed : (r : Core) → cmd ≡ Malformed → j + 2 ≤ length b → ((cells t : List ℕ) → Did cells (λ g. issue at (MalformedControl 0x95)) c t i r t i′) → (left : ℕ) (R : Run) (place : ℕ) (cells t : List ℕ)
-      → TookOver cells b j (λ g. macroCmd g left R (drop (j + 1) b) place at) c t i (record { used = 2; core = r }) t i′
-  unfolding commanded
-  took-malformed r q h v left R place cells t =
-      took-did (λ g. macroCmd g left R (drop (j + 1) b) place at) 2 (omega arith) h (λ g s. m g left R place at s ∙ ap (λ (z : Command). commanded z n g left R place at s) q) (v cells t)
-
 -- ---- outside every body
 
 pub grown-same : {n e : ℕ} {c : Core} → Ready n e c → Grown n 1 c c
@@ -172,16 +151,6 @@ module _ (cells input : List ℕ) (j : ℕ) (d : Decoder) (t i : List ℕ) where
 
   pub executed-from : {f : Given → State → State} {r : Decoder} {t′ i′ : List ℕ} (e : Decoder) → d ≡ e → Executed cells input f d t i r t′ i′ → Executed cells input f e t i r t′ i′
   executed-from {f = f} {r = r} {t′ = t′} {i′ = i′} e q v = subst (λ (z : Decoder). Executed cells input f z t i r t′ i′) q v
-
--- what a command says of its bytes, once it is known which
-pub within-malformed : {r : Command} (b : List ℕ) (i : ℕ) → Within r b i → r ≡ Malformed → i + 2 ≤ length b
-within-malformed b i w q = rw q at w
-
-pub within-ends : {r : Command} (b : List ℕ) (i : ℕ) → Within r b i → r ≡ Ends → i + 2 ≤ length b
-within-ends b i w q = let h : Ended b i = rw q at w in h .room
-
-pub within-defines : {r : Command} {code len : ℕ} {runs : Bool} (b : List ℕ) (i : ℕ) → Within r b i → r ≡ Defines code len runs → Defined code len b i
-within-defines b i w q = rw q at w
 
 -- one byte more, before a character
 pub shift-outer : {cells input : List ℕ} {j : ℕ} {f : Given → State → Step} {d : Decoder} {t i : List ℕ} {r : Outer} {t′ i′ : List ℕ} → OuterStep cells input (j + 1) f d t i r t′ i′

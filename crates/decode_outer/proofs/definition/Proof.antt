@@ -4,15 +4,15 @@ use native.Mathlib.Omega.{arith}
 use lib.ListN.{length}
 use Rattle.reading.specs.Macros.{limit}
 use Rattle.decode_state.specs.declared.Decoder.{Decoder}
-use Rattle.decode.specs.Contracts.{Inside, Ready}
-use Rattle.decode.proofs.Defining.{inside-define, outer-runs, outer-defines, outer-with, executed-from}
+use Rattle.decode_bodies.specs.Contracts.{Inside, Ready}
+use Rattle.decode_outer.proofs.Defining.{inside-define, outer-runs, outer-defines, outer-with, executed-from}
 use borrow.Author.Needs.{needs}
-use Rattle.decode.proofs.outer.definition.Statement.{statement}
-use Rattle.decode.proofs.outer.definition.Tie as tie
-use Rattle.decode.proofs.outer.definition.Reads as reads
-use Rattle.decode.proofs.outer.definition.Lts as lts
-use Rattle.decode.proofs.outer.define.Reads as define-reads
-use Rattle.decode.proofs.outer.execute.Reads as execute-reads
+use Rattle.decode_outer.proofs.definition.Statement.{statement}
+use Rattle.decode_outer.proofs.definition.Tie as tie
+use Rattle.decode_outer.proofs.definition.Reads as reads
+use Rattle.decode_outer.proofs.definition.Lts as lts
+use Rattle.decode_outer.proofs.define.Reads as define-reads
+use Rattle.decode_outer.proofs.execute.Reads as execute-reads
 
 add-define : tie.Need-add-define
 add-define c = search needs

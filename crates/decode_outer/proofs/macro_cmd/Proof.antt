@@ -3,18 +3,19 @@ use lib.ListN.{length}
 use mathlib.Core.Path.{_∙_, ap}
 use Rattle.decode_macros.specs.declared.Command.{Command}
 use Rattle.decode_macros.specs.Contracts.{commanded}
-use Rattle.decode.specs.Contracts.{below}
-use Rattle.decode.proofs.Bodies.{took-ran-by}
-use Rattle.decode.proofs.Defining.{took-cut, took-malformed, within-malformed, within-ends, within-defines, outer-with, outer-ends, outer-as, ran-outer}
+use Rattle.decode_bodies.specs.Contracts.{below}
+use Rattle.decode_bodies.proofs.Bodies.{took-ran-by}
+use Rattle.decode_bodies.proofs.Commands.{took-cut, took-malformed, within-malformed, within-ends, within-defines}
+use Rattle.decode_outer.proofs.Defining.{outer-with, outer-ends, outer-as, ran-outer}
 use borrow.Author.Needs.{needs}
-use Rattle.decode.proofs.outer.macro_cmd.Statement.{statement}
-use Rattle.decode.proofs.outer.macro_cmd.Tie as tie
-use Rattle.decode.proofs.outer.macro_cmd.Reads as reads
-use Rattle.decode.proofs.outer.macro_cmd.Lts as lts
+use Rattle.decode_outer.proofs.macro_cmd.Statement.{statement}
+use Rattle.decode_outer.proofs.macro_cmd.Tie as tie
+use Rattle.decode_outer.proofs.macro_cmd.Reads as reads
+use Rattle.decode_outer.proofs.macro_cmd.Lts as lts
 use Rattle.decode_characters.proofs.report.Reads as report-reads
 use Rattle.decode_controls.proofs.truncated.Reads as truncated-reads
-use Rattle.decode.proofs.outer.definition.Reads as definition-reads
-use Rattle.decode.proofs.outer.with_core.Reads as with-core-reads
+use Rattle.decode_outer.proofs.definition.Reads as definition-reads
+use Rattle.decode_outer.proofs.with_core.Reads as with-core-reads
 use Rattle.decode_macros.proofs.read_command.Reads as read-command-reads
 
 read-command-requires : tie.Need-read-command-requires

@@ -16,7 +16,7 @@ ghost use Rattle.reading.specs.Characters.{graphic, char1};
 ghost use Rattle.reading.specs.Steps.{step, run};
 ghost use Rattle.decode_state.specs.Contracts.{Good, TookOver};
 ghost use Rattle.decode_steps.specs.Contracts.{StopAt};
-ghost use Rattle.decode.specs.Contracts.{below, Inside, Ready, Ran, RanStep};
+ghost use Rattle.decode_bodies.specs.Contracts.{below, Inside, Ready, Ran, RanStep};
 
 // Runs a body that lies at `base` one deeper, unless four are open or it charges too much.
 fn run_body<'a>(

@@ -2,12 +2,13 @@ use borrow.Author.Needs.{needs}
 use Prim.Native.Nat.{_-_}
 use native.Mathlib.Omega.{arith}
 use lib.ListN.{length}
-use Rattle.decode.proofs.Loops.{Above, above-start, above-stretch, above-step, above-end, ready-good, ready-left, ready-less}
-use Rattle.decode.proofs.outer.top.Statement.{statement}
-use Rattle.decode.proofs.outer.top.Tie as tie
-use Rattle.decode.proofs.outer.top.Reads as reads
-use Rattle.decode.proofs.outer.top.Lts as lts
-use Rattle.decode.proofs.outer.step.Reads as step-reads
+use Rattle.decode_bodies.proofs.Loops.{ready-good, ready-left, ready-less}
+use Rattle.decode_outer.proofs.Loops.{Above, above-start, above-stretch, above-step, above-end}
+use Rattle.decode_outer.proofs.top.Statement.{statement}
+use Rattle.decode_outer.proofs.top.Tie as tie
+use Rattle.decode_outer.proofs.top.Reads as reads
+use Rattle.decode_outer.proofs.top.Lts as lts
+use Rattle.decode_outer.proofs.step.Reads as step-reads
 use Rattle.decode_steps.proofs.steps.Reads as steps-reads
 
 abbrev Inv-loop : tie.InvT-loop

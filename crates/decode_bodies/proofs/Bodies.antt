@@ -1,4 +1,4 @@
--- What the functions of the cycle give, from what their callees give. Assumes nothing.
+-- What the functions of the cycle give, from what their callees give.
 use Prim.Native.Nat.{ℕ, zero, suc, _+_, _-_, _*_, _%_, _≤_, _<_}
 use mathlib.Core.Path.{_≡_, refl, sym, ap, _∙_, subst}
 use mathlib.Core.Bool.{Bool, true, false, cond, _&&_, _||_, false≢true}
@@ -29,8 +29,8 @@ use Rattle.decode_macros.specs.Contracts.{Built}
 use Rattle.decode_macros.proofs.Laws.{builtin-bare}
 use Rattle.decode_steps.specs.Contracts.{StopAt}
 use Rattle.decode_steps.proofs.Dispatch.{step-char, step-shift}
-use Rattle.decode.specs.Contracts.{below, Ready, Grown, Ran, RanStep}
-use Rattle.decode.proofs.Loops.{kept-grown, below-run, along-start, along-end}
+use Rattle.decode_bodies.specs.Contracts.{below, Ready, Grown, Ran, RanStep}
+use Rattle.decode_bodies.proofs.Loops.{kept-grown, below-run, along-start, along-end}
 
 -- what a state that a decoder holds has in common with it
 pub record Alike (a l : List ℕ) (c : Core) (s : State) : Type 0 where

@@ -1,11 +1,11 @@
-use Rattle.decode.proofs.Defining.{executed-with, ran-executed}
+use Rattle.decode_outer.proofs.Defining.{executed-with, ran-executed}
 use borrow.Author.Needs.{needs}
-use Rattle.decode.proofs.outer.execute.Statement.{statement}
-use Rattle.decode.proofs.outer.execute.Tie as tie
-use Rattle.decode.proofs.outer.execute.Reads as reads
-use Rattle.decode.proofs.outer.execute.Lts as lts
-use Rattle.decode.proofs.cycle.run_macro.Reads as run-macro-reads
-use Rattle.decode.proofs.outer.with_core.Reads as with-core-reads
+use Rattle.decode_outer.proofs.execute.Statement.{statement}
+use Rattle.decode_outer.proofs.execute.Tie as tie
+use Rattle.decode_outer.proofs.execute.Reads as reads
+use Rattle.decode_outer.proofs.execute.Lts as lts
+use Rattle.decode_bodies.proofs.run_macro.Reads as run-macro-reads
+use Rattle.decode_outer.proofs.with_core.Reads as with-core-reads
 
 run-macro-requires : tie.Need-run-macro-requires
 run-macro-requires c κs = search needs

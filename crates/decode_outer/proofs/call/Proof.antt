@@ -1,11 +1,11 @@
-use Rattle.decode.proofs.Defining.{outer-with, ran-outer}
+use Rattle.decode_outer.proofs.Defining.{outer-with, ran-outer}
 use borrow.Author.Needs.{needs}
-use Rattle.decode.proofs.outer.call.Statement.{statement}
-use Rattle.decode.proofs.outer.call.Tie as tie
-use Rattle.decode.proofs.outer.call.Reads as reads
-use Rattle.decode.proofs.outer.call.Lts as lts
-use Rattle.decode.proofs.cycle.graphic.Reads as graphic-reads
-use Rattle.decode.proofs.outer.with_core.Reads as with-core-reads
+use Rattle.decode_outer.proofs.call.Statement.{statement}
+use Rattle.decode_outer.proofs.call.Tie as tie
+use Rattle.decode_outer.proofs.call.Reads as reads
+use Rattle.decode_outer.proofs.call.Lts as lts
+use Rattle.decode_bodies.proofs.graphic.Reads as graphic-reads
+use Rattle.decode_outer.proofs.with_core.Reads as with-core-reads
 
 graphic-requires : tie.Need-graphic-requires
 graphic-requires c κs = search needs

@@ -1,15 +1,15 @@
 use mathlib.Core.Path.{_∙_, sym}
 use native.Mathlib.Omega.{arith}
 use Rattle.decode_steps.proofs.Dispatch.{step-char, step-shift, step-macro}
-use Rattle.decode.proofs.Bodies.{told-char, told-macro, told-shift, told-end, shift-char}
-use Rattle.decode.proofs.Defining.{outer-as, shift-outer}
+use Rattle.decode_bodies.proofs.Bodies.{told-char, told-macro, told-shift, told-end, shift-char}
+use Rattle.decode_outer.proofs.Defining.{outer-as, shift-outer}
 use borrow.Author.Needs.{needs}
-use Rattle.decode.proofs.outer.step.Statement.{statement}
-use Rattle.decode.proofs.outer.step.Tie as tie
-use Rattle.decode.proofs.outer.step.Reads as reads
-use Rattle.decode.proofs.outer.step.Lts as lts
-use Rattle.decode.proofs.outer.call.Reads as call-reads
-use Rattle.decode.proofs.outer.macro_cmd.Reads as macro-cmd-reads
+use Rattle.decode_outer.proofs.step.Statement.{statement}
+use Rattle.decode_outer.proofs.step.Tie as tie
+use Rattle.decode_outer.proofs.step.Reads as reads
+use Rattle.decode_outer.proofs.step.Lts as lts
+use Rattle.decode_outer.proofs.call.Reads as call-reads
+use Rattle.decode_outer.proofs.macro_cmd.Reads as macro-cmd-reads
 
 enum-told : tie.Need-enum-told
 enum-told c = search needs
