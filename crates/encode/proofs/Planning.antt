@@ -24,10 +24,10 @@ use Rattle.encode_search.specs.Layers.{Found, Arrays}
 use Rattle.encode_search.specs.Layers as search
 use Rattle.encode_backtrack.specs.Contracts.{Chosen, Searched, Held}
 use Rattle.encode_backtrack.proofs.Nodes.{length-layer, Newest, newest-of}
-use Rattle.laws.proofs.Chains.{Chain, begins, run-chain, back-length}
-use Rattle.laws.specs.Reading.{All}
-use Rattle.laws.proofs.Choices.{choices-filled}
-use Rattle.laws.proofs.Cheapest.{Filled, cheapest, run-filled}
+use Rattle.laws_coding.proofs.Chains.{Chain, begins, run-chain, back-length}
+use Rattle.base.specs.Lists.{All}
+use Rattle.laws_coding.proofs.Choices.{choices-filled}
+use Rattle.laws_coding.proofs.Cheapest.{Filled, cheapest, run-filled}
 use Rattle.encode.specs.Plans.{asked, Characters, planned, leads, Planned, Led}
 use Rattle.encode.specs.declared.find.Plan.{Plan}
 use Rattle.encode.specs.declared.find.Plan.the-variants.{Nothing, Leads, Refused}

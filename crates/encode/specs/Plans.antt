@@ -5,7 +5,7 @@ use mathlib.Core.Bool.{Bool}
 use mathlib.Core.List.{List, []}
 use lib.Dec.{eqb}
 use lib.ListN.{length}
-use Rattle.laws.specs.Reading.{All}
+use Rattle.base.specs.Lists.{All}
 use Rattle.coding.specs.Candidates.{candidatesOf, restOf}
 use Rattle.coding.specs.Admissible.{Some}
 use Rattle.encode_tokens.specs.Contracts.{Holds}

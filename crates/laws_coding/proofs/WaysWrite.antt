@@ -11,13 +11,13 @@ use borrow.Author.Tests.{eqb-true, ltb-true, leb-true, lt-leb}
 use Rattle.sets.specs.Sets.{designation, sequence, bytesPerChar, finalByte}
 use Rattle.coding.specs.State.{State, setIn, designate, invokeGL, invokeGR, lockGL, lockGR, single}
 use Rattle.coding.specs.Candidates.{Cand, graphic}
-use Rattle.coding.specs.Ways.{Way, way, when, through, byElement, ways}
+use Rattle.coding.specs.Ways.{Way, way, through, byElement, ways}
 use Rattle.coding.specs.Admissible.{Some, Sized, either, narrow, wide, Shows, left, right, shifted, low, Control, designates, locksGL, locksGR, Admissible, control, write}
-use Rattle.laws.specs.Reading.{All}
-use Rattle.laws.proofs.Every.{all-append}
-use Rattle.laws.proofs.Controls.{by-test, either as anyway}
-use Rattle.laws.proofs.Somewhere.{some-map}
-use Rattle.laws.proofs.WaysNear.{single-one}
+use Rattle.base.specs.Lists.{All, when}
+use Rattle.base.proofs.Every.{all-append}
+use Rattle.base.proofs.Tests.{by-test, either as anyway}
+use Rattle.laws_coding.proofs.Somewhere.{some-map}
+use Rattle.laws_coding.proofs.WaysNear.{single-one}
 
 -- controls by which a coding from t becomes one from s
 abbrev pub Leads : State → List ℕ → State → Type 0

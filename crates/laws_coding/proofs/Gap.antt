@@ -13,10 +13,10 @@ use Rattle.coding.specs.State.{State, designate}
 use Rattle.coding.specs.Candidates.{Cand, codeLength, shortest, restOf}
 use Rattle.coding.specs.Search.{Node, reach, least, keep, lower, floorOf, Run, newest, layer, run}
 use Rattle.coding.specs.Admissible.{Some, here, there, Shows, left, right, shifted, direct, Control, designates, locksGL, locksGR, msz, nsz, Admissible, done, control, write}
-use Rattle.laws.specs.Coding.{overs, dropped, Least}
-use Rattle.laws.proofs.Somewhere.{some-map, some-left, some-right}
-use Rattle.laws.proofs.Distance.{controlled}
-use Rattle.laws.proofs.Near.{Near, Invokes, reach-near}
+use Rattle.laws_coding.specs.Coding.{overs, dropped, Least}
+use Rattle.laws_coding.proofs.Somewhere.{some-map, some-left, some-right}
+use Rattle.laws_coding.proofs.Distance.{controlled}
+use Rattle.laws_coding.proofs.Near.{Near, Invokes, reach-near}
 
 -- the floor after the sums of a list
 unfoldable pub lowered : ℕ → List ℕ → ℕ

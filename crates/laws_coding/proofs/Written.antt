@@ -11,11 +11,11 @@ use Rattle.coding.specs.Candidates.{Cand, graphic, plain}
 use Rattle.coding.specs.Ways.{Way, ways}
 use Rattle.coding.specs.Search.{Node, sizeBytes, sized, byWays, byCand}
 use Rattle.coding.specs.Admissible.{Some, here, there, Sized, either, narrow, wide, direct, msz, nsz, Admissible, control, write}
-use Rattle.laws.specs.Reading.{All}
-use Rattle.laws.proofs.Every.{all-append}
-use Rattle.laws.proofs.Controls.{by-test}
-use Rattle.laws.proofs.WaysWrite.{Leads, Writes, shown, ways-write}
-use Rattle.laws.proofs.Layers.{byEach}
+use Rattle.base.specs.Lists.{All}
+use Rattle.base.proofs.Every.{all-append}
+use Rattle.base.proofs.Tests.{by-test}
+use Rattle.laws_coding.proofs.WaysWrite.{Leads, Writes, shown, ways-write}
+use Rattle.laws_coding.proofs.Layers.{byEach}
 
 -- a candidate as the coder has them: of a set that is neither the macro set nor a DRCS, of one or two bytes, of one of the three sizes
 abbrev pub Fine : Cand → Type 0

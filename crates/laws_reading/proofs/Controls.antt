@@ -8,21 +8,13 @@ use native.Mathlib.Omega.{arith}
 use borrow.Author.Tests.{leb-true}
 use lib.Dec.{eqb, leb}
 use lib.ListN.{length, drop, length-drop}
+use Rattle.base.proofs.Tests.{either, by-test}
 use Rattle.control.specs.Controls.{countOf}
 use Rattle.issues.specs.declared.IssueKind.{IssueKind}
 use Rattle.issues.specs.declared.IssueKind.the-variants.{UndefinedControl, MalformedControl, Truncated, RepeatToEndOfLine}
 use Rattle.reading.specs.State.{Given, State, Step, took, issue, placeholder, truncated, designate, invokeGL, invokeGR, resize}
 use Rattle.reading.specs.Controls.{leading, szx, repeatBy, rpc, colour, ended, sequenceFrom, csi, time, fixedOf, fixed}
-use Rattle.laws.proofs.Changes.{part, Shown, Change, stays, follows, more, reports, emits, repeats, clears}
-
--- what holds of both holds of either; and with the test known
-pub either : {A : Type 0} (P : A → Type 0) (t : Bool) {a b : A} → P a → P b → P (cond t a b)
-either P true x y = x
-either P false x y = y
-
-pub by-test : {A : Type 0} (P : A → Type 0) (t : Bool) {a b : A} → (t ≡ true → P a) → (t ≡ false → P b) → P (cond t a b)
-by-test P true x y = x refl
-by-test P false x y = y refl
+use Rattle.laws_reading.proofs.Changes.{part, Shown, Change, stays, follows, more, reports, emits, repeats, clears}
 
 -- u bytes lead from the state s to t
 pub record To (C : Type 0) (g : Given) (u : ℕ) (s t : State) : Type 0 where

@@ -12,12 +12,12 @@ use Rattle.coding.specs.State.{setIn, designate}
 use Rattle.coding.specs.Candidates.{Cand, graphic, plain}
 use Rattle.coding.specs.Search.{Node, sizeBytes, sized, byCand, reach, newest, least, keep, Run, layer, run, firstOf}
 use Rattle.coding.specs.Admissible.{Some, here, there}
-use Rattle.laws.specs.Reading.{All}
-use Rattle.laws.proofs.Somewhere.{some-map, some-left}
-use Rattle.laws.proofs.WaysNear.{ways-single}
-use Rattle.laws.proofs.Near.{ways-near}
-use Rattle.laws.proofs.Layers.{byEach, reached, reach-flat, all-some}
-use Rattle.laws.proofs.Chains.{at}
+use Rattle.base.specs.Lists.{All}
+use Rattle.laws_coding.proofs.Somewhere.{some-map, some-left}
+use Rattle.laws_coding.proofs.WaysNear.{ways-single}
+use Rattle.laws_coding.proofs.Near.{ways-near}
+use Rattle.laws_coding.proofs.Layers.{byEach, reached, reach-flat, all-some}
+use Rattle.laws_coding.proofs.Chains.{at}
 
 -- a list is not empty
 abbrev pub Filled : {A : Type 0} → List A → Type 0

@@ -13,8 +13,7 @@ use Rattle.coding.specs.Candidates.{Cand, candidates, restOf}
 use Rattle.coding.specs.Search.{Node, node, byCand, reach, least, keep, code}
 use Rattle.coding.specs.Admissible.{Some, Admissible}
 use Rattle.coding.specs.Call.{Lent, ordering, choices, coding, without, Outcome, outcome}
-use Rattle.coding.specs.Examples.{Rows}
-use Rattle.laws.specs.Reading.{All, TableOfTwelveReading}
+use Rattle.base.specs.Lists.{All}
 
 -- demand 3: "no admissible coding of that text is shorter than it by more than the gap returned beside it"; and so of any characters, by any
 -- candidates
@@ -93,8 +92,3 @@ pub record Alike (a b : Outcome) : Type 0 where
 -- "What is dropped thus follows from the text, the options and the cell table, never from the store": whatever the store, unless the answer is 7
 abbrev pub StoreFree : Type 0
 StoreFree = (c : Lent) (n : ℕ) → (outcome c .refused ≡ 7 → ⊥) → (outcome (lending c n) .refused ≡ 7 → ⊥) → Alike (outcome c) (outcome (lending c n))
-
--- "The table of twelve": "These are proved together as one table of the definitions"
-pub record TableOfTwelve : Type 0 where
-  pub reading : TableOfTwelveReading
-  pub coding : Rows

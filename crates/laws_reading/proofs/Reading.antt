@@ -13,12 +13,12 @@ use Rattle.reading.specs.Macros.{Run}
 use Rattle.reading.specs.Steps.{step, steps, run, decode}
 use Rattle.reading.specs.Call.{Lent, reading, textBytes, issueList, fits}
 use Rattle.reading.specs.Examples.{rows}
-use Rattle.laws.specs.Reading.{ChargeBound, OffsetsInside, CharactersBound, Escape, EscapesInside, Grown, Grows, IssuesOnlyGrow, Question89, TableOfTwelveReading}
-use Rattle.laws.proofs.Changes.{part, Shown, Fit, Fine, Kept, releases}
-use Rattle.laws.proofs.Every.{all-map}
-use Rattle.laws.proofs.Controls.{To}
-use Rattle.laws.proofs.Macros.{Runs}
-use Rattle.laws.proofs.Steps.{step-good, steps-to, runs-to}
+use Rattle.laws_reading.specs.Reading.{ChargeBound, OffsetsInside, CharactersBound, Escape, EscapesInside, Grown, Grows, IssuesOnlyGrow, Question89, TableOfTwelveReading}
+use Rattle.laws_reading.proofs.Changes.{part, Shown, Fit, Fine, Kept, releases}
+use Rattle.base.proofs.Every.{all-map}
+use Rattle.laws_reading.proofs.Controls.{To}
+use Rattle.laws_reading.proofs.Macros.{Runs}
+use Rattle.laws_reading.proofs.Steps.{step-good, steps-to, runs-to}
 
 -- what a decoding keeps, whole
 module _ (g : Given) (initial : ℕ) where

@@ -13,9 +13,10 @@ use Rattle.issues.specs.declared.IssueKind.the-variants.{UndefinedCode, Unsuppo
 use Rattle.reading.specs.State.{Given, State, Step, took, issue, isNarrow}
 use Rattle.reading.specs.Macros.{Run, runMacro}
 use Rattle.reading.specs.Characters.{isGraphic, emitOr, cellOr, char2, letter, mosaic, char1, graphic2, graphic, singleShift}
-use Rattle.laws.proofs.Changes.{part, Shown, follows, more, emits, marks, clears}
-use Rattle.laws.proofs.Controls.{either, To, Good, takes, issued, placed, tells, cut}
-use Rattle.laws.proofs.Macros.{Runs, macro-to}
+use Rattle.laws_reading.proofs.Changes.{part, Shown, follows, more, emits, marks, clears}
+use Rattle.base.proofs.Tests.{either}
+use Rattle.laws_reading.proofs.Controls.{To, Good, takes, issued, placed, tells, cut}
+use Rattle.laws_reading.proofs.Macros.{Runs, macro-to}
 
 module _ (C : Type 0) (g : Given) (at : ℕ) (inside : C → at < length (g .input)) where
   emit-or : (kind : IssueKind) → (C → Shown (g .input) kind) → (c : ℕ) (s : State) → To C g 1 s (emitOr kind c at s)

@@ -5,6 +5,7 @@ use mathlib.Core.Bool.{Bool, true, false, cond, _&&_}
 use mathlib.Core.List.{List, [], _∷_, _++_}
 use lib.Dec.{leb}
 use lib.ListN.{length, drop}
+use Rattle.base.specs.Lists.{All}
 use Rattle.issues.specs.Issue.{Issue}
 use Rattle.issues.specs.declared.IssueKind.the-variants.{UnknownEscape}
 use Rattle.decode_output.specs.Output.{release}
@@ -13,11 +14,6 @@ use Rattle.reading.specs.Macros.{Run}
 use Rattle.reading.specs.Steps.{step, steps, run, decode}
 use Rattle.reading.specs.Call.{Lent, reading, textBytes, issueList, fits, escapePart}
 use Rattle.reading.specs.Examples.{Rows}
-
--- P holds of every element
-abbrev pub All : {A : Type 0} → (A → Type 0) → List A → Type 0
-All P [] = Unit {0}
-All P (x ∷ xs) = P x × All P xs
 
 -- "its length is within what remains of 64 × length + 4,096"
 abbrev pub ChargeBound : Type 0

@@ -9,8 +9,8 @@ use Rattle.coding.specs.State.{sameState}
 use Rattle.coding.specs.Candidates.{Cand}
 use Rattle.coding.specs.Search.{Node, push, pushAll, byCand, byCands, reach, keep}
 use Rattle.coding.specs.Admissible.{Some, here, there}
-use Rattle.laws.specs.Reading.{All}
-use Rattle.laws.proofs.Controls.{either}
+use Rattle.base.specs.Lists.{All}
+use Rattle.base.proofs.Tests.{either}
 
 -- all nodes that a node reaches, that some nodes reach
 unfoldable pub byEach : Node → ℕ → List Cand → List Node

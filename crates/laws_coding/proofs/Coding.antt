@@ -10,15 +10,13 @@ use Rattle.coding.specs.Candidates.{Cand, candidates}
 use Rattle.coding.specs.Search.{Node, byCand}
 use Rattle.coding.specs.Admissible.{here}
 use Rattle.coding.specs.Call.{Lent, choices, coding, outcomeOf}
-use Rattle.coding.specs.Examples.{rows}
-use Rattle.laws.specs.Reading.{All}
-use Rattle.laws.specs.Coding.{NoShorter, CodingAdmissible, GapExact, NineBytes, returned, Accepted, StoreFree, TableOfTwelve}
-use Rattle.laws.proofs.Every.{all-map}
-use Rattle.laws.proofs.Reading.{table-of-twelve-reading}
-use Rattle.laws.proofs.Written.{Fine, Step, cand-steps}
-use Rattle.laws.proofs.Choices.{candidates-fine, choices-fine, choices-length, scalars-most, choices-filled}
-use Rattle.laws.proofs.Searches.{out-admissible, out-nine, gap-by, no-shorter-any}
-use Rattle.laws.proofs.Answers.{Passes, passes, whatever-store}
+use Rattle.base.specs.Lists.{All}
+use Rattle.laws_coding.specs.Coding.{NoShorter, CodingAdmissible, GapExact, NineBytes, returned, Accepted, StoreFree}
+use Rattle.base.proofs.Every.{all-map}
+use Rattle.laws_coding.proofs.Written.{Fine, Step, cand-steps}
+use Rattle.laws_coding.proofs.Choices.{candidates-fine, choices-fine, choices-length, scalars-most, choices-filled}
+use Rattle.laws_coding.proofs.Searches.{out-admissible, out-nine, gap-by, no-shorter-any}
+use Rattle.laws_coding.proofs.Answers.{Passes, passes, whatever-store}
 
 pub no-shorter : NoShorter
 unfolding coding
@@ -67,6 +65,3 @@ accepted c e =
 
 pub store-free : StoreFree
 store-free = whatever-store
-
-pub table-of-twelve : TableOfTwelve
-table-of-twelve = record { reading = table-of-twelve-reading; coding = rows }

@@ -9,11 +9,12 @@ use lib.ListN.{length, length-append}
 use borrow.Author.Tests.{eqb-false, lt-ltb, le-leb}
 use Rattle.sets.specs.Sets.{designation}
 use Rattle.coding.specs.State.{State, setIn, designate, invokeGL, invokeGR, lockGL, lockGR, single}
-use Rattle.coding.specs.Ways.{Way, way, when, through, byElement, ways}
+use Rattle.coding.specs.Ways.{Way, way, through, byElement, ways}
+use Rattle.base.specs.Lists.{when}
 use Rattle.coding.specs.Admissible.{Some, here, there}
-use Rattle.laws.proofs.Controls.{by-test}
-use Rattle.laws.proofs.Somewhere.{some-map, some-left, some-right}
-use Rattle.laws.proofs.Distance.{distance, designated, lockedGL, lockedGR}
+use Rattle.base.proofs.Tests.{by-test}
+use Rattle.laws_coding.proofs.Somewhere.{some-map, some-left, some-right}
+use Rattle.laws_coding.proofs.Distance.{distance, designated, lockedGL, lockedGR}
 
 -- a way that, with the distance left, takes at most c bytes
 abbrev pub Within : State → ℕ → Way → Type 0

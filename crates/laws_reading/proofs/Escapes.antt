@@ -14,9 +14,11 @@ use Rattle.issues.specs.declared.IssueKind.the-variants.{UnknownEscape}
 use Rattle.reading.specs.State.{Given, State}
 use Rattle.reading.specs.Controls.{leading, lockingShift, designated, applied, appliedOr, escapeAt, escape}
 use Rattle.reading.specs.Call.{escapePart}
-use Rattle.laws.specs.Reading.{All, isIntermediate, isFinal, Escape}
-use Rattle.laws.proofs.Changes.{part}
-use Rattle.laws.proofs.Controls.{either, by-test, To, Good, takes, invoked-left, invoked-right, designates, tells, cut}
+use Rattle.base.specs.Lists.{All}
+use Rattle.laws_reading.specs.Reading.{isIntermediate, isFinal, Escape}
+use Rattle.laws_reading.proofs.Changes.{part}
+use Rattle.base.proofs.Tests.{either, by-test}
+use Rattle.laws_reading.proofs.Controls.{To, Good, takes, invoked-left, invoked-right, designates, tells, cut}
 
 -- the bytes xs stand at a place of the input
 pub record Stands (input : List ℕ) (place : ℕ) (xs : List ℕ) : Type 0 where

@@ -13,7 +13,7 @@ use Rattle.utf8.specs.declared.Text.{Text}
 use Rattle.utf8.specs.declared.Text.the-variants.{WellFormed, FaultAt}
 use Rattle.coding.specs.Tokens.{tokens, baseless}
 use Rattle.coding.specs.Call.{Lent, ordering, choices, coding, without, Refusal, refuse, question4, question5, question6, question7, question8, refusal, outcomeOf, outcome}
-use Rattle.laws.specs.Coding.{lending, Alike, StoreFree}
+use Rattle.laws_coding.specs.Coding.{lending, Alike, StoreFree}
 
 -- the first refusal, the answers to 1 to 6 being known, and more the rest
 abbrev answers : ℕ → Text → Option ℕ → Option ℕ → Refusal → Refusal

@@ -10,10 +10,10 @@ use Rattle.coding.specs.State.{State, start}
 use Rattle.coding.specs.Candidates.{Cand}
 use Rattle.coding.specs.Search.{Node, node, reach, newest, least, keep, Run, layer, run, nodeAt, back}
 use Rattle.coding.specs.Admissible.{Admissible}
-use Rattle.laws.specs.Reading.{All}
-use Rattle.laws.proofs.Every.{all-append, all-map, all-at}
-use Rattle.laws.proofs.Layers.{byEach, reached, reach-flat, all-every, keep-every}
-use Rattle.laws.proofs.Written.{Fine, Step, each-steps}
+use Rattle.base.specs.Lists.{All}
+use Rattle.base.proofs.Every.{all-append, all-map, all-at}
+use Rattle.laws_coding.proofs.Layers.{byEach, reached, reach-flat, all-every, keep-every}
+use Rattle.laws_coding.proofs.Written.{Fine, Step, each-steps}
 
 -- the i-th node; past the end one that wrote nothing
 abbrev pub at : List Node → ℕ → Node

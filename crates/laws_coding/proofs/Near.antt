@@ -13,11 +13,11 @@ use Rattle.coding.specs.Candidates.{Cand}
 use Rattle.coding.specs.Ways.{Way}
 use Rattle.coding.specs.Search.{Node, node, sizeBytes, sized, byWays, byCand, reach}
 use Rattle.coding.specs.Admissible.{Some, here, there, Sized, either, narrow, wide, Shows, left, right, shifted, direct}
-use Rattle.laws.proofs.Controls.{by-test}
-use Rattle.laws.proofs.Somewhere.{some-map, some-left, some-right}
-use Rattle.laws.proofs.Distance.{distance, distance-same, resized, sized-closer}
-use Rattle.laws.proofs.WaysNear.{Within, single-one, ways-GL, ways-GR, ways-single}
-use Rattle.laws.proofs.Layers.{byEach, reached, reach-flat, all-some}
+use Rattle.base.proofs.Tests.{by-test}
+use Rattle.laws_coding.proofs.Somewhere.{some-map, some-left, some-right}
+use Rattle.laws_coding.proofs.Distance.{distance, distance-same, resized, sized-closer}
+use Rattle.laws_coding.proofs.WaysNear.{Within, single-one, ways-GL, ways-GR, ways-single}
+use Rattle.laws_coding.proofs.Layers.{byEach, reached, reach-flat, all-some}
 
 -- a node that, with the distance left, costs at most c
 abbrev pub Near : State → ℕ → Node → Type 0

@@ -9,15 +9,15 @@ use Rattle.coding.specs.State.{State, start}
 use Rattle.coding.specs.Candidates.{Cand}
 use Rattle.coding.specs.Search.{Node, node, newest, least, firstOf, begin, Run, run, finish, gapOf, code}
 use Rattle.coding.specs.Admissible.{Some, here, Admissible, done, control, write}
-use Rattle.laws.specs.Reading.{All}
-use Rattle.laws.specs.Coding.{dropped, Gap}
-use Rattle.laws.proofs.Somewhere.{some-map, meet}
-use Rattle.laws.proofs.Distance.{distance-none}
-use Rattle.laws.proofs.Near.{Near, Invokes}
-use Rattle.laws.proofs.Gap.{lowered, run-floor, floor-least, ends}
-use Rattle.laws.proofs.Written.{Fine}
-use Rattle.laws.proofs.Chains.{Chain, begins, run-chain, back-length, back-writes, back-nine}
-use Rattle.laws.proofs.Cheapest.{Filled, least-most, cheapest, run-filled}
+use Rattle.base.specs.Lists.{All}
+use Rattle.laws_coding.specs.Coding.{dropped, Gap}
+use Rattle.laws_coding.proofs.Somewhere.{some-map, meet}
+use Rattle.laws_coding.proofs.Distance.{distance-none}
+use Rattle.laws_coding.proofs.Near.{Near, Invokes}
+use Rattle.laws_coding.proofs.Gap.{lowered, run-floor, floor-least, ends}
+use Rattle.laws_coding.proofs.Written.{Fine}
+use Rattle.laws_coding.proofs.Chains.{Chain, begins, run-chain, back-length, back-writes, back-nine}
+use Rattle.laws_coding.proofs.Cheapest.{Filled, least-most, cheapest, run-filled}
 
 -- a search for characters with the candidates css
 module _ (css : List (List Cand)) (initial : ℕ) where

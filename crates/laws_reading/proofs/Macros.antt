@@ -11,9 +11,10 @@ use lib.ListN.{length, take, drop, getD, take-append-drop}
 use Rattle.issues.specs.declared.IssueKind.the-variants.{MalformedControl, UndefinedMacro, MacroLimit}
 use Rattle.reading.specs.State.{Given, State, define, charge}
 use Rattle.reading.specs.Macros.{Run, builtinSets, builtinOf, builtin, limit, runBody, runMacro, endOf, defined, definition, macroCmd}
-use Rattle.laws.proofs.Changes.{part, stays, follows}
-use Rattle.laws.proofs.Controls.{either, by-test, To, Good, takes, passes, issued, tells, cut}
-use Rattle.laws.proofs.Escapes.{Stands}
+use Rattle.laws_reading.proofs.Changes.{part, stays, follows}
+use Rattle.base.proofs.Tests.{either, by-test}
+use Rattle.laws_reading.proofs.Controls.{To, Good, takes, passes, issued, tells, cut}
+use Rattle.laws_reading.proofs.Escapes.{Stands}
 
 -- a body is a part of the input, or built in
 abbrev pub Body : List ℕ → ℕ → List ℕ → Type 0

@@ -15,13 +15,14 @@ use Rattle.reading.specs.State.{Given, State, Step, writes, isNarrow, resize, i
 use Rattle.reading.specs.Characters.{isGL, isGR}
 use Rattle.reading.specs.Macros.{Run, builtinSets, builtinOf}
 use Rattle.reading.specs.Steps.{space, control0, control1, step, offset, steps, run}
-use Rattle.laws.specs.Reading.{All}
-use Rattle.laws.proofs.Every.{all-at}
-use Rattle.laws.proofs.Changes.{part, Fine, Kept, stays, follows, more, emits, newlines}
-use Rattle.laws.proofs.Controls.{either, by-test, To, Good, takes, resized, invoked-left, szx-good, rpc-good, colour-good, csi-good, time-good, fixed-good}
-use Rattle.laws.proofs.Escapes.{Stands, escape-good}
-use Rattle.laws.proofs.Macros.{Body, Runs, command-good}
-use Rattle.laws.proofs.Characters.{graphic-good, shift-good}
+use Rattle.base.specs.Lists.{All}
+use Rattle.base.proofs.Every.{all-at}
+use Rattle.laws_reading.proofs.Changes.{part, Fine, Kept, stays, follows, more, emits, newlines}
+use Rattle.base.proofs.Tests.{either, by-test}
+use Rattle.laws_reading.proofs.Controls.{To, Good, takes, resized, invoked-left, szx-good, rpc-good, colour-good, csi-good, time-good, fixed-good}
+use Rattle.laws_reading.proofs.Escapes.{Stands, escape-good}
+use Rattle.laws_reading.proofs.Macros.{Body, Runs, command-good}
+use Rattle.laws_reading.proofs.Characters.{graphic-good, shift-good}
 
 module _ (C : Type 0) (g : Given) (left : ℕ) (R : Run) (runs : Runs C g R) (x : ℕ) (rest : List ℕ) (place at : ℕ) (s : State) (inside : C → at < length (g .input)) (stands : C → Stands (g .input) place (x ∷ rest)) where
   abbrev Well : Step → Type 0

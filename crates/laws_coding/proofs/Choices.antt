@@ -17,14 +17,14 @@ use Rattle.tables.specs.declared.Place.the-variants.{At, Nowhere}
 use Rattle.utf8.specs.Utf8.{utf8, sequence, scalarsFrom, scalars}
 use Rattle.utf8.specs.declared.Sequence.{Sequence}
 use Rattle.utf8.specs.declared.Sequence.the-variants.{Scalar, Fault, End}
-use Rattle.coding.specs.Candidates.{Cand, plain, ofCode, ofPlace, when, fullwidth, letters, candidates, candidatesOf}
+use Rattle.coding.specs.Candidates.{Cand, plain, ofCode, ofPlace, fullwidth, letters, candidates, candidatesOf}
 use Rattle.coding.specs.Tokens.{Token, placed, tokens, ordered, inOrder, chars}
 use Rattle.coding.specs.Call.{Lent, ordering, choices, without}
 use Rattle.coding.specs.Admissible.{here}
-use Rattle.laws.specs.Reading.{All}
-use Rattle.laws.proofs.Every.{all-append}
-use Rattle.laws.proofs.Written.{Fine}
-use Rattle.laws.proofs.Cheapest.{Filled}
+use Rattle.base.specs.Lists.{All, when}
+use Rattle.base.proofs.Every.{all-append}
+use Rattle.laws_coding.proofs.Written.{Fine}
+use Rattle.laws_coding.proofs.Cheapest.{Filled}
 
 of-code : (x size : ℕ) → x < 15 → size ≤ 2 → (k : Code) → All Fine (ofCode x size k)
 unfolding ofCode

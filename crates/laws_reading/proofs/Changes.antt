@@ -9,8 +9,9 @@ use Rattle.issues.specs.declared.IssueKind.{IssueKind}
 use Rattle.issues.specs.declared.IssueKind.the-variants.{UnknownEscape, UndefinedControl, MalformedControl, Truncated, UndefinedCode, UnsupportedCode, Drcs, Mosaic, UndefinedMacro, MacroLimit, LoneSingleShift, DanglingNonSpacing, RepeatToEndOfLine}
 use Rattle.decode_output.specs.Output.{Output, times, emit, mark, firstAt, report, release, releaseOf, newline, setRepeat}
 use Rattle.reading.specs.State.{State}
-use Rattle.laws.specs.Reading.{All, Escape}
-use Rattle.laws.proofs.Every.{all-append}
+use Rattle.base.specs.Lists.{All}
+use Rattle.laws_reading.specs.Reading.{Escape}
+use Rattle.base.proofs.Every.{all-append}
 
 -- the parts of a state that the laws speak of
 pub record Part : Type 0 where
