@@ -7,14 +7,14 @@ ghost use Rattle.coding.specs.Candidates.{candidatesOf};
 ghost use Rattle.coding.specs.Search.{code, gapOf};
 ghost use Rattle.encode_tokens.specs.Contracts as tokens;
 ghost use Rattle.encode_search.specs.Layers.{Arrays};
-ghost use Rattle.encode.specs.Plans.{asked, Characters, Planned, Led};
+ghost use Rattle.encode_find.specs.Plans.{asked, Characters, Planned, Led};
 
-// What questions 4 to 7 say of a text.
+/// What questions 4 to 7 say of a text.
 pub enum Plan {
-    // All yes, and there is no character.
+    /// All yes, and there is no character.
     Nothing,
-    // All yes: how many characters there are, the node to which the coding leads, by its place in the
-    // layer that begins at the node from of the store, the coding's length and its gap.
+    /// All yes: how many characters there are, the node to which the coding leads, by its place in the
+    /// layer that begins at the node from of the store, the coding's length and its gap.
     Leads {
         count: usize,
         from: usize,
@@ -22,14 +22,14 @@ pub enum Plan {
         length: usize,
         gap: usize,
     },
-    // One no: its number, and the place.
+    /// One no: its number, and the place.
     Refused {
         number: u32,
         place: usize,
     },
 }
 
-// The length less the floor, or 0 where that is negative or there is none.
+/// The length less the floor, or 0 where that is negative or there is none.
 fn gap_of(length: usize, floor: u32) -> usize
     ensures { λ r. ⌜ r ≡ gapOf length floor ⌝ }
 {
@@ -43,7 +43,7 @@ fn gap_of(length: usize, floor: u32) -> usize
     0
 }
 
-// Searches, question 7, for the n characters in the arrays, whose shortest codes are of rest bytes.
+/// Searches, question 7, for the n characters in the arrays, whose shortest codes are of rest bytes.
 fn lead(
     chars: &[u32],
     kanji: &[u16],
@@ -83,8 +83,8 @@ fn lead(
     }
 }
 
-// Puts questions 4 to 7 to a text of at most 7,281 bytes. The arrays then hold its characters in the
-// order in which they are coded, and the store what was searched.
+/// Puts questions 4 to 7 to a text of at most 7,281 bytes. The arrays then hold its characters in the
+/// order in which they are coded, and the store what was searched.
 pub fn find(
     cells: &[u16],
     initial: u32,

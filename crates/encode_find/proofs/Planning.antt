@@ -28,9 +28,9 @@ use Rattle.laws_coding.proofs.Chains.{Chain, begins, run-chain, back-length}
 use Rattle.base.specs.Lists.{All}
 use Rattle.laws_coding.proofs.Choices.{choices-filled}
 use Rattle.laws_coding.proofs.Cheapest.{Filled, cheapest, run-filled}
-use Rattle.encode.specs.Plans.{asked, Characters, planned, leads, Planned, Led}
-use Rattle.encode.specs.declared.find.Plan.{Plan}
-use Rattle.encode.specs.declared.find.Plan.the-variants.{Nothing, Leads, Refused}
+use Rattle.encode_find.specs.Plans.{asked, Characters, planned, leads, Planned, Led}
+use Rattle.encode_find.specs.declared.Plan.{Plan}
+use Rattle.encode_find.specs.declared.Plan.the-variants.{Nothing, Leads, Refused}
 
 -- the gap
 pub gap-none : (len floor : ℕ) → floor ≡ 0 → 0 ≡ gapOf len floor

@@ -1,10 +1,10 @@
--- `encode::find::lead` meets its contract: by what the search answers. Assumes nothing.
+-- `encode_find::lead` meets its contract: by what the search answers. Assumes nothing.
 use mathlib.Core.Path.{refl}
 use native.Mathlib.Omega.{arith}
-use Rattle.encode.proofs.Planning.{not-so, so, led-nothing, led-full, led-found}
+use Rattle.encode_find.proofs.Planning.{not-so, so, led-nothing, led-full, led-found}
 use borrow.Author.Needs.{needs}
-use Rattle.encode.proofs.find.lead.Statement.{statement}
-use Rattle.encode.proofs.find.lead.Tie as tie
+use Rattle.encode_find.proofs.lead.Statement.{statement}
+use Rattle.encode_find.proofs.lead.Tie as tie
 
 returns : tie.Need-returns
 returns c = λ t. led-nothing (c .before .before .before .before .before .args .annex) (c .before .before .before .before .before .args .initial) (c .before .before .before .before .before .args .store .now) (c .before .before .before .before .before .args .store .now) (c .before .before .before .before .before .args .chars .now) (c .before .before .before .before .before .args .kanji .now) (c .before .before .before .before .before .args .symbols .now) (c .before .before .before .before .before .args .n) (c .before .before .before .before .before .args .rest) t refl (c .if1 .taken)

@@ -12,8 +12,8 @@ use Rattle.encode_tokens.specs.Contracts.{Holds}
 use Rattle.coding.specs.Search.{begin, run, back, Coded}
 use Rattle.coding.specs.Call.{Lent, coding, Refusal, refuse, question4, question7, question8}
 use Rattle.encode_backtrack.specs.Contracts.{Searched, Held}
-use Rattle.encode.specs.declared.find.Plan.{Plan}
-use Rattle.encode.specs.declared.find.Plan.the-variants.{Nothing, Leads, Refused}
+use Rattle.encode_find.specs.declared.Plan.{Plan}
+use Rattle.encode_find.specs.declared.Plan.the-variants.{Nothing, Leads, Refused}
 
 -- what a call is lent, with so many bytes of room for the coding
 abbrev pub asked : List ℕ → ℕ → ℕ → List ℕ → List ℕ → ℕ → Lent

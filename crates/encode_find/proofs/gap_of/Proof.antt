@@ -1,8 +1,8 @@
--- `encode::find::gap_of` meets its contract: the floor by its two cases. Assumes nothing.
-use Rattle.encode.proofs.Planning.{gap-none, gap-some, gap-over}
+-- `encode_find::gap_of` meets its contract: the floor by its two cases. Assumes nothing.
+use Rattle.encode_find.proofs.Planning.{gap-none, gap-some, gap-over}
 use borrow.Author.Needs.{needs}
-use Rattle.encode.proofs.find.gap_of.Statement.{statement}
-use Rattle.encode.proofs.find.gap_of.Tie as tie
+use Rattle.encode_find.proofs.gap_of.Statement.{statement}
+use Rattle.encode_find.proofs.gap_of.Tie as tie
 
 returns : tie.Need-returns
 returns c = gap-none _ _ (c .if1 .taken)

@@ -1,9 +1,9 @@
--- `encode::find::find` meets its contract: by what the passes over the text answer. Assumes nothing.
+-- `encode_find::find` meets its contract: by what the passes over the text answer. Assumes nothing.
 use native.Mathlib.Omega.{arith}
-use Rattle.encode.proofs.Planning.{arrays-of, characters-of, planned-on, planned-not}
+use Rattle.encode_find.proofs.Planning.{arrays-of, characters-of, planned-on, planned-not}
 use borrow.Author.Needs.{needs}
-use Rattle.encode.proofs.find.find.Statement.{statement}
-use Rattle.encode.proofs.find.find.Tie as tie
+use Rattle.encode_find.proofs.find.Statement.{statement}
+use Rattle.encode_find.proofs.find.Tie as tie
 
 tokenise-requires : tie.Need-tokenise-requires
 tokenise-requires c κs = search needs
