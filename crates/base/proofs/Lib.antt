@@ -1,1 +1,3 @@
 pub mod Table
+pub mod Every
+pub mod Tests

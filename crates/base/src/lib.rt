@@ -1,6 +1,6 @@
-// Laws that the proofs of several crates cite: proofs/Table.antt.
+// Words for lists (specs/Lists.antt) and laws of lists and tests (proofs/) that several crates use.
 
-// A crate has a function; nothing calls this one.
+/// A crate has a function; nothing calls this one.
 pub fn none() -> usize {
     0
 }

@@ -4,6 +4,7 @@ use mathlib.Core.Bool.{Bool, true, false, cond, _&&_}
 use mathlib.Core.List.{List, [], _∷_, _++_}
 use lib.Dec.{eqb}
 use lib.ListN.{length}
+use Rattle.base.specs.Lists.{when}
 use Rattle.control.specs.Codes.{APR, SP}
 use Rattle.tables.specs.Kanji.{nonSpacing, isMark, cellWith}
 use Rattle.tables.specs.Reverse.{oneByteReverse, kanjiReverse, additionalReverse}
@@ -37,11 +38,6 @@ ofCode x size (Gl b) = graphic x (b ∷ []) size ∷ []
 unfoldable pub ofPlace : ℕ → ℕ → Place → List Cand
 ofPlace x size Nowhere = []
 ofPlace x size (At row cell) = graphic x ((0x20 + row) ∷ (0x20 + cell) ∷ []) size ∷ []
-
--- the candidate, where the test holds
-abbrev pub when : Bool → Cand → List Cand
-when true k = k ∷ []
-when false k = []
 
 -- the alphanumeric whose full-width form is the character, in CharacterSize alone
 unfoldable pub fullwidth : Bool → ℕ → List Cand

@@ -3,6 +3,7 @@ use Prim.Native.Nat.{ℕ}
 use mathlib.Core.Bool.{Bool, true, false, cond, _||_}
 use mathlib.Core.List.{List, [], _∷_, _++_}
 use lib.Dec.{eqb, leb, ltb}
+use Rattle.base.specs.Lists.{when}
 use Rattle.sets.specs.Sets.{designation}
 use Rattle.coding.specs.State.{State, setIn, designate, invokeGL, invokeGR, lockGL, lockGR, single}
 
@@ -14,11 +15,6 @@ pub record Way : Type 0 where
 
 abbrev pub way : List ℕ → State → ℕ → Way
 way p s h = record { pre = p; to = s; hi = h }
-
--- the way, where the test holds
-abbrev pub when : Bool → Way → List Way
-when true w = w ∷ []
-when false w = []
 
 -- the ways through the code element n after the bytes p, the state then being s: as it is invoked, else by a locking shift to GL, one to GR, a
 -- single shift

@@ -12,10 +12,10 @@ use Rattle.questions.specs.Buffer.{padded, cleared}
 use Rattle.questions.proofs.Buffers.{clear-all, clear-past}
 use Rattle.coding.specs.Search.{Coded}
 use Rattle.coding.specs.Call.{Lent, coding, Refusal, refuse, question4, question8, refusal, Outcome, outcomeOf, outcome}
-use Rattle.encode.specs.Plans.{asked, planned, leads, Leading, Planned}
+use Rattle.encode_find.specs.Plans.{asked, planned, leads, Leading, Planned}
 use Rattle.encode.specs.Answers.{numberOf, placeOf, lengthOf, gapOf, Zeroed, Refuses, Answers, lent, Answered}
-use Rattle.encode.specs.declared.find.Plan.{Plan}
-use Rattle.encode.specs.declared.find.Plan.the-variants as plan
+use Rattle.encode_find.specs.declared.Plan.{Plan}
+use Rattle.encode_find.specs.declared.Plan.the-variants as plan
 use Rattle.encode.specs.declared.call.Answer.{Answer}
 use Rattle.encode.specs.declared.call.Answer.the-variants as answer
 

@@ -6,7 +6,7 @@ use lib.ListN.{length}
 use Rattle.questions.specs.Buffer.{padded}
 use Rattle.coding.specs.Search.{Coded}
 use Rattle.coding.specs.Call.{Lent, Refusal, outcome}
-use Rattle.encode.specs.Plans.{asked}
+use Rattle.encode_find.specs.Plans.{asked}
 use Rattle.encode.specs.declared.call.Answer.{Answer}
 use Rattle.encode.specs.declared.call.Answer.the-variants.{Coded as Written, Refused}
 

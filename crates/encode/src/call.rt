@@ -1,5 +1,5 @@
 // The coding call: the questions in order, and every element of buffer and store.
-use crate::find::Plan;
+use encode_find::Plan;
 ghost use mathlib.Core.Path.{_≡_};
 ghost use mathlib.Core.List.{[]};
 ghost use lib.ListN.{length};
@@ -7,17 +7,17 @@ ghost use Rattle.questions.specs.Questions.{firstRefusal};
 ghost use Rattle.coding.specs.Search.{Coded};
 ghost use Rattle.coding.specs.Call.{question8};
 ghost use Rattle.encode_backtrack.specs.Contracts.{Searched, Held};
-ghost use Rattle.encode.specs.Plans.{Leading};
+ghost use Rattle.encode_find.specs.Plans.{Leading};
 ghost use Rattle.encode.specs.Answers.{Zeroed, Refuses, Answers, lent, Answered};
 
-// What a coding call answers: the coding's length and its gap, or the number of the first question
-// that it fails, with its place.
+/// What a coding call answers: the coding's length and its gap, or the number of the first question
+/// that it fails, with its place.
 pub enum Answer {
     Coded { length: usize, gap: usize },
     Refused { number: u32, place: usize },
 }
 
-// Fills buffer and store with zero.
+/// Fills buffer and store with zero.
 fn zero(store: &mut [u32], coding: &mut [u8])
     ensures { λ _. ⌜ Zeroed (now (store .entry)) (now (coding .entry)) (now (store .exit)) (now (coding .exit)) ⌝ }
 {
@@ -25,7 +25,7 @@ fn zero(store: &mut [u32], coding: &mut [u8])
     questions::clear(coding, 0);
 }
 
-// Refuses.
+/// Refuses.
 fn refuse(number: u32, place: usize, store: &mut [u32], coding: &mut [u8]) -> Answer
     ensures { λ r. ⌜ Refuses number place (now (store .entry)) (now (coding .entry)) r (now (store .exit)) (now (coding .exit)) ⌝ }
 {
@@ -33,7 +33,7 @@ fn refuse(number: u32, place: usize, store: &mut [u32], coding: &mut [u8]) -> An
     Answer::Refused { number, place }
 }
 
-// The coding of no character.
+/// The coding of no character.
 fn nothing(store: &mut [u32], coding: &mut [u8]) -> Answer
     ensures { λ r. ⌜ ((k : Coded) → k .out ≡ [] → k .gap ≡ 0 → Answers (question8 (length (now (coding .entry))) k) k (now (store .entry)) (now (coding .entry)) r (now (store .exit)) (now (coding .exit))) ⌝ }
 {
@@ -41,7 +41,7 @@ fn nothing(store: &mut [u32], coding: &mut [u8]) -> Answer
     Answer::Coded { length: 0, gap: 0 }
 }
 
-// Question 8, then the coding, with zeros behind it, from the layers that the search left in the store.
+/// Question 8, then the coding, with zeros behind it, from the layers that the search left in the store.
 fn write(
     chars: &[u32],
     kanji: &[u16],
@@ -77,8 +77,8 @@ fn write(
     Answer::Coded { length, gap }
 }
 
-// Codes where questions 1 to 3 were put and passed: for whoever codes many texts with one cell table.
-pub fn encode_checked(
+/// Codes where questions 1 to 3 were put and passed.
+fn encode_checked(
     cells: &[u16],
     initial: u32,
     width: u32,
@@ -92,7 +92,7 @@ pub fn encode_checked(
     let mut chars = [0u32; 7281];
     let mut kanji = [0u16; 7281];
     let mut symbols = [0u16; 7281];
-    let plan = crate::find::find(
+    let plan = encode_find::find(
         cells,
         initial,
         width,
@@ -127,7 +127,7 @@ pub fn encode_checked(
     }
 }
 
-// Codes a text: `encode_with`.
+/// Codes a text: `encode_with`.
 pub fn encode_with(
     cells: &[u16],
     initial: u32,

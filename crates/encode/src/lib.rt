@@ -1,3 +1,2 @@
 // Text to the eight-unit code: encode.rs.
 pub mod call;
-pub mod find;

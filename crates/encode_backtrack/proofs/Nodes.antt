@@ -11,22 +11,17 @@ use Rattle.coding.specs.State.{State, start}
 use Rattle.coding.specs.Candidates.{Cand}
 use Rattle.coding.specs.Search.{Node, node, newest, firstOf, nodeAt}
 use Rattle.encode_layer.specs.Entries.{Entry, entry, nodeOf, entriesOf, layerOf, entryAt}
-use Rattle.encode_layer.specs.Stands.{All, none, more, Sound}
+use Rattle.encode_layer.specs.Stands.{Sound}
 use Rattle.encode_search.specs.Layers.{Layers, first, behind}
 use Rattle.encode_layer.proofs.Entries.{length-of, entry-of}
-use Rattle.laws.proofs.Every.{all-map}
-use Rattle.laws.proofs.Chains.{Link, Chain, begins, grows, at}
-use Rattle.laws.specs.Reading as laws
+use Rattle.base.proofs.Every.{all-map, all-at}
+use Rattle.laws_coding.proofs.Chains.{Link, Chain, begins, grows, at}
+use Rattle.base.specs.Lists.{All}
 
 get-map : {A B : Type 0} (f : A → B) (l : List A) (i : ℕ) (y : B) (x : A) → i < length l → getD (map f l) i y ≡ f (getD l i x)
 get-map f [] i y x h = absurd (omega arith)
 get-map f (a ∷ l) zero y x h = refl
 get-map f (a ∷ l) (suc i) y x h = get-map f l i y x (omega arith)
-
-pub all-entry : (P : Entry → Type 0) {l : List Entry} → All P l → (i : ℕ) → i < length l → P (getD l i (entry 0 0 0 0))
-all-entry P none i h = absurd (omega arith)
-all-entry P (more p a) zero h = p
-all-entry P (more p a) (suc i) h = all-entry P a i (omega arith)
 
 pub node-at : (l : List Node) (i : ℕ) → nodeAt l i ≡ (at l i .bytes, at l i .prev)
 unfolding nodeAt
@@ -48,7 +43,7 @@ module _ (s : List ℕ) (from count : ℕ) (fits : (from + count) * 4 ≤ length
   pub entry-has : (P : Entry → Type 0) → All P (entriesOf s from count) → (i : ℕ) → i < count → P (entryAt s (from + i))
   entry-has P a i h =
       let e = length-of s from count fits in
-      rw (sym (entry-of s from count fits i (entry 0 0 0 0) h)) (all-entry P a i (omega arith))
+      rw (sym (entry-of s from count fits i (entry 0 0 0 0) h)) (all-at P (entry 0 0 0 0) (entriesOf s from count) a i (omega arith))
 
 -- the node before, in the layer l, and the cost of what was written from there
 pub record Linking (l : List Node) (m : Node) : Type 0 where
@@ -58,7 +53,7 @@ pub record Linking (l : List Node) (m : Node) : Type 0 where
 -- layers, the newest first, from a start on
 pub data Linked (t : State) : List (List Node) → Type 0 where
   starts : Linked t ((node 0 0 t [] ∷ []) ∷ [])
-  follows : {l : List Node} {ls : List (List Node)} → laws.All (Linking (newest ls)) l → Linked t ls → Linked t (l ∷ ls)
+  follows : {l : List Node} {ls : List (List Node)} → All (Linking (newest ls)) l → Linked t ls → Linked t (l ∷ ls)
 
 pub linked-of : {C : Type 0} {t : State} {css : List (List Cand)} {ls : List (List Node)} → Chain C t css ls → Linked t ls
 linked-of begins = starts
@@ -68,7 +63,7 @@ linked-some : {t : State} {ls : List (List Node)} → Linked t ls → 1 ≤ leng
 linked-some starts = omega arith
 linked-some (follows a c) = omega arith
 
-pub linked-link : {t : State} {l : List Node} {ls : List (List Node)} → 1 ≤ length ls → Linked t (l ∷ ls) → laws.All (Linking (newest ls)) l
+pub linked-link : {t : State} {l : List Node} {ls : List (List Node)} → 1 ≤ length ls → Linked t (l ∷ ls) → All (Linking (newest ls)) l
 linked-link h starts = absurd (omega arith)
 linked-link h (follows a c) = a
 

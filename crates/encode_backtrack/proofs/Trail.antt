@@ -15,8 +15,8 @@ use Rattle.encode_states.specs.Written.{written}
 use Rattle.encode_layer.specs.Entries.{nodeOf, entryAt, layerOf}
 use Rattle.encode_layer.specs.Stands.{Sound}
 use Rattle.encode_search.specs.Layers.{Layers}
-use Rattle.laws.proofs.Chains.{begins, run-chain, at}
-use Rattle.laws.proofs.Every.{all-at}
+use Rattle.laws_coding.proofs.Chains.{begins, run-chain, at}
+use Rattle.base.proofs.Every.{all-at}
 use Rattle.encode_writing.proofs.Laws.{sets-before}
 use Rattle.encode_backtrack.specs.Contracts.{Chosen, Searched}
 use Rattle.encode_backtrack.proofs.Nodes.{node-at, length-layer, at-layer, entry-has, Linking, Linked, linked-of, linked-link, linked-rest, linked-start, Newest, newest-of, Behind, behind-of, Alone, alone-of}

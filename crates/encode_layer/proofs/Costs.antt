@@ -8,13 +8,13 @@ use native.Mathlib.Omega.{arith}
 use lib.ListN.{length, getD, take, drop, drop-of-length-le, length-map, List·getD-map}
 use lib.Seq.{drop-cons}
 use borrow.Author.Tests.{le-leb, lt-leb}
+use Rattle.base.specs.Lists.{All}
+use Rattle.base.proofs.Every.{all-at}
 use Rattle.coding.specs.Candidates.{Cand}
 use Rattle.coding.specs.Search.{Node, least, lower, floorOf}
 use Rattle.encode_layer.specs.Entries.{Entry, nodeOf, entriesOf, layerOf}
 use Rattle.encode_layer.proofs.Entries.{length-of, entry-of}
-use Rattle.encode_layer.specs.Stands.{All}
 use Rattle.encode_layer.proofs.Pushing.{blank}
-use Rattle.encode_layer.proofs.Standing.{all-at}
 
 module _ (cs : List Cand) (s : List ℕ) (from count : ℕ) (fits : (from + count) * 4 ≤ length s) where
   pub length-layer : length (layerOf cs s from count) ≡ count
@@ -115,4 +115,4 @@ module _ (s : List ℕ) (from count : ℕ) (fits : (from + count) * 4 ≤ length
       rw e at (g cs)
 
 pub cost-bound : (s : List ℕ) (from count : ℕ) → (from + count) * 4 ≤ length s → All (λ e. e .cost ≤ 65535) (entriesOf s from count) → (i : ℕ) → i < count → getD s ((from + i) * 4 + 1) 0 ≤ 65535
-cost-bound s from count fits a i h = rw (entry-of s from count fits i blank h) at (all-at a i blank (omega (arith, length-of s from count fits)))
+cost-bound s from count fits a i h = rw (entry-of s from count fits i blank h) at (all-at (λ e. e .cost ≤ 65535) blank (entriesOf s from count) a i (omega (arith, length-of s from count fits)))

@@ -9,10 +9,11 @@ use lib.Dec.{leb}
 use lib.ListN.{length, getD, set, take, drop, drop-of-length-le, length-drop}
 use lib.Seq.{drop-cons, append-snoc, drop-set-add, drop-set-lt, take-set-lt, take-suc-set}
 use borrow.Author.Tests.{le-leb, lt-leb}
+use Rattle.base.specs.Lists.{All}
 use Rattle.coding.specs.Candidates.{Cand}
 use Rattle.coding.specs.Search.{Node, keep}
 use Rattle.encode_layer.specs.Entries.{Entry, nodeOf, entries, entriesOf, layerOf, entryAt, setEntry}
-use Rattle.encode_layer.specs.Stands.{All, none, more, Sound}
+use Rattle.encode_layer.specs.Stands.{Sound}
 use Rattle.encode_layer.specs.Kept.{Kept}
 use Rattle.encode_layer.proofs.Entries.{length-entries, entries-set, length-of, entry-of, length-set-entry, before-set}
 use Rattle.encode_layer.proofs.Pushing.{blank}
@@ -39,13 +40,13 @@ kept-nodes cs most (e ∷ es) = go (leb (e .cost) most) refl (kept-nodes cs most
     go true h r = rw (h, kept, keep) (ap (λ (l : List Node). nodeOf cs e ∷ l) r)
     go false h r = rw (h, kept, keep) r
 
-kept-all : {P : Entry → Type 0} (most : ℕ) {q : List Entry} → All P q → All P (kept most q)
+kept-all : (P : Entry → Type 0) (most : ℕ) (q : List Entry) → All P q → All P (kept most q)
 unfolding kept
-kept-all most none = none
-kept-all {P} most (more {e} {es} p a) = go (leb (e .cost) most) refl (kept-all most a)
+kept-all P most [] a = tt
+kept-all P most (e ∷ es) a = go (leb (e .cost) most) refl (kept-all P most es (a .1))
   where
     go : (b : Bool) → leb (e .cost) most ≡ b → All P (kept most es) → All P (kept most (e ∷ es))
-    go true h r = rw (h, kept) (more p r)
+    go true h r = rw (h, kept) (a .0, r)
     go false h r = rw (h, kept) r
 
 -- where the loop stands: i nodes are seen, w of them kept
@@ -103,7 +104,7 @@ module _ (s₀ : List ℕ) (from count most : ℕ) (fits : (from + count) * 4 �
         let q : entriesOf s from w ≡ kept most (entriesOf s₀ from count) = sym (append-nil (entriesOf s from w)) ∙ (rw e at (g .rest)) in
         record {
           layer = λ cs. ap (map (nodeOf cs)) q ∙ kept-nodes cs most (entriesOf s₀ from count);
-          sound = λ back top a. rw q (kept-all most a);
+          sound = λ back top a. rw q (kept-all (Sound back top) most (entriesOf s₀ from count) a);
           fewer = omega (arith, g .w-le, g .i-le);
           before = g .before;
         }

@@ -7,35 +7,22 @@ use native.Mathlib.Numerals.{add-one}
 use native.Mathlib.Omega.{arith}
 use lib.ListN.{length, getD, set, take, drop, length-set, length-append, length-drop, length-map, List·getD-append}
 use lib.Seq.{getD-set-same, getD-set-other, getD-append-seam, drop-set-add, take-set-lt, take-suc-set}
+use Rattle.base.specs.Lists.{All}
+use Rattle.base.proofs.Every.{all-append, all-at, all-set}
 use Rattle.coding.specs.Candidates.{Cand}
 use Rattle.coding.specs.Search.{Node, push, pushAll}
 use Rattle.encode_states.proofs.Dense.{dense, spread, spread-dense, dense-small, below}
 use Rattle.encode_layer.specs.Entries.{Entry, entry, nodeOf, entries, entriesOf, layerOf, entryAt, setEntry}
-use Rattle.encode_layer.specs.Stands.{All, none, more, Sound, Indexed, Room, room, Held, Over, Stands, held, over, Changes, Pushes}
+use Rattle.encode_layer.specs.Stands.{Sound, Indexed, Room, room, Held, Over, Stands, held, over, Changes, Pushes}
 use Rattle.encode_layer.proofs.Entries.{length-entries, entries-set, length-of, entry-of, before-set}
 use Rattle.encode_layer.proofs.Pigeonhole.{Hit, pigeonhole}
 use Rattle.encode_layer.proofs.Pushing.{blank, push-grows, push-kept, push-replaced, push-new}
-
-module _ {P : Entry → Type 0} where
-  pub all-at : {q : List Entry} → All P q → (i : ℕ) (z : Entry) → i < length q → P (getD q i z)
-  all-at none i z h = absurd (omega arith)
-  all-at (more p a) zero z h = p
-  all-at (more p a) (suc i) z h = all-at a i z (omega arith)
-
-  pub all-set : {q : List Entry} (i : ℕ) {e : Entry} → All P q → P e → All P (set q i e)
-  all-set i none p = none
-  all-set zero (more o a) p = more p a
-  all-set (suc i) (more o a) p = more o (all-set i a p)
-
-  pub all-snoc : {q : List Entry} {e : Entry} → All P q → P e → All P (q ++ (e ∷ []))
-  all-snoc none p = more p none
-  all-snoc (more o a) p = more o (all-snoc a p)
 
 -- no more nodes than states that the coder can reach
 pub few : (ix : List ℕ) (q : List Entry) (back most : ℕ) → Indexed ix q → All (Sound back most) q → length q ≤ 48384
 few ix q back most h a =
     pigeonhole 48384 (length q) (λ k. getD ix (spread k) 0) (λ i l.
-    let p = all-at a i blank l .proper in
+    let p = all-at (Sound back most) blank q a i l .proper in
     record { at = dense (getD q i blank .state); small = dense-small (getD q i blank .state) p; is = ap (λ (k : ℕ). getD ix k 0) (spread-dense (getD q i blank .state) p) ∙ h i l })
 
 -- the nodes after a node of the layer is replaced, and after one is added
@@ -119,7 +106,7 @@ module _ (cs : List Cand) (from cap back most : ℕ) (s ix : List ℕ) (count : 
           go l (held x) =
               let n = length-of s from count (omega arith) in
               let q = push-replaced cs (entriesOf s from count) e p (omega arith) (ap (λ (y : Entry). y .state) there ∙ same) (λ j i y. omega (arith, first l x j (omega arith) y)) (rw there k) in
-              held (record { fits = x .fits; layer = ap (map (nodeOf cs)) after ∙ (sym q ∙ ap (λ (y : List Node). push y (nodeOf cs e)) (x .layer)); indexed = rw after (index l x); sound = rw after (all-set p (x .sound) sound) })
+              held (record { fits = x .fits; layer = ap (map (nodeOf cs)) after ∙ (sym q ∙ ap (λ (y : List Node). push y (nodeOf cs e)) (x .layer)); indexed = rw after (index l x); sound = rw after (all-set (Sound back most) (entriesOf s from count) p e (x .sound) sound) })
 
     -- or that it stands nowhere
     module _ (miss : p < count → getD s ((from + p) * 4) 0 ≡ e .state → ⊥) where
@@ -156,4 +143,4 @@ module _ (cs : List Cand) (from cap back most : ℕ) (s ix : List ℕ) (count : 
           go : (l : List Node) → Stands cs (room from cap back most) s ix count l → Stands cs (room from cap back most) s′ ix′ (count + 1) (push l (nodeOf cs e))
           go l (over x) = absurd (omega (arith, x .full))
           go l (held x) =
-              held (record { fits = omega arith; layer = ap (map (nodeOf cs)) after ∙ sym (grown l x); indexed = rw (v, after) (index l x); sound = rw after (all-snoc (x .sound) sound) })
+              held (record { fits = omega arith; layer = ap (map (nodeOf cs)) after ∙ sym (grown l x); indexed = rw (v, after) (index l x); sound = rw after (all-append (Sound back most) (entriesOf s from count) (e ∷ []) (x .sound) (sound, tt)) })

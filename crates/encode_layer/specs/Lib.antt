@@ -1,4 +1,3 @@
 pub mod Entries
 pub mod Stands
 pub mod Kept
-pub mod Stored

@@ -3,15 +3,11 @@ use Prim.Native.Nat.{ℕ, _+_, _*_, _≤_, _<_}
 use mathlib.Core.Path.{_≡_}
 use mathlib.Core.List.{List, [], _∷_}
 use lib.ListN.{length, take, getD}
+use Rattle.base.specs.Lists.{All}
 use Rattle.coding.specs.Candidates.{Cand}
 use Rattle.coding.specs.Search.{Node, pushAll}
 use Rattle.encode_states.specs.Packed.{Proper}
 use Rattle.encode_layer.specs.Entries.{Entry, entry, entriesOf, layerOf}
-
--- each has a property
-pub data All (P : Entry → Type 0) : List Entry → Type 0 where
-  none : All P []
-  more : {e : Entry} {es : List Entry} → P e → All P es → All P (e ∷ es)
 
 -- a node of a state that the coder can reach, that costs at most `most`, and that tells where the layer before begins
 pub record Sound (back most : ℕ) (e : Entry) : Type 0 where

@@ -4,11 +4,12 @@ ghost use mathlib.Core.Path.{_≡_};
 ghost use mathlib.Core.List.{List, [], _∷_};
 ghost use Prim.Native.Nat.{ℕ, _+_, _*_, _≤_, _<_};
 ghost use lib.ListN.{length};
+ghost use Rattle.base.specs.Lists.{All};
 ghost use Rattle.coding.specs.Candidates.{Cand};
 ghost use Rattle.coding.specs.Search.{least, lower, floorOf};
 ghost use Rattle.encode_states.specs.Packed.{Proper};
 ghost use Rattle.encode_layer.specs.Entries.{entry, setEntry, nodeOf, entriesOf, layerOf};
-ghost use Rattle.encode_layer.specs.Stands.{All, room, Lent, Pushes};
+ghost use Rattle.encode_layer.specs.Stands.{room, Lent, Pushes};
 ghost use Rattle.encode_layer.specs.Kept.{Kept};
 
 // Writes a node at a place.

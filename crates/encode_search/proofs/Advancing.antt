@@ -5,10 +5,12 @@ use mathlib.Core.List.{List, [], _∷_, map}
 use Prim.Native.Nat.{ℕ, zero, suc, _+_, _*_, _/_, _≤_, _<_, min}
 use native.Mathlib.Omega.{arith}
 use lib.ListN.{length, take}
+use Rattle.base.specs.Lists.{All}
+use Rattle.base.proofs.Every.{all-map}
 use Rattle.coding.specs.Candidates.{Cand}
 use Rattle.coding.specs.Search.{Node, reach, least, keep, floorOf}
 use Rattle.encode_layer.specs.Entries.{Entry, nodeOf, entriesOf, layerOf}
-use Rattle.encode_layer.specs.Stands.{All, none, more, Sound, room, Held, Over, Stands, held, over}
+use Rattle.encode_layer.specs.Stands.{Sound, room, Held, Over, Stands, held, over}
 use Rattle.encode_layer.specs.Kept.{Kept}
 use Rattle.encode_layer.proofs.Entries.{length-of}
 use Rattle.encode_layer.proofs.Standing.{few}
@@ -17,19 +19,14 @@ use Rattle.encode_ways.specs.Turn.{MatchAll}
 use Rattle.encode_ways.proofs.Choosing.{anyFrom, any-all}
 use Rattle.encode_search.specs.Layers.{Able, Reached, Capped, Next, Advanced}
 
-cheap-of : {back most : ℕ} {q : List Entry} → All (Sound back most) q → All (λ e. e .cost ≤ most) q
-cheap-of none = none
-cheap-of (more p a) = more (p .cheap) (cheap-of a)
-
-least-of : (cs : List Cand) {most : ℕ} {q : List Entry} → All (λ e. e .cost ≤ most) q → least (map (nodeOf cs) q) ≤ most
+least-of : (cs : List Cand) (most : ℕ) (q : List Entry) → All (λ e. e .cost ≤ most) q → least (map (nodeOf cs) q) ≤ most
 unfolding least nodeOf
-least-of cs none = omega arith
-least-of cs (more p none) = p
-least-of cs (more p (more {e} {es} r a)) = omega (arith, p, least-of cs (more {e = e} {es = es} r a))
+least-of cs most [] a = omega arith
+least-of cs most (d ∷ []) a = a .0
+least-of cs most (d ∷ (e ∷ es)) a = omega (arith, a .0, least-of cs most (e ∷ es) (a .1))
 
-pub abled : {b c : ℕ} {q : List Entry} → b ≤ c → All (Able b) q → All (Able c) q
-abled h none = none
-abled h (more {e} {es} p a) = more {e = e} {es = es} (record { proper = p .proper; cheap = omega (arith, p .cheap) }) (abled h a)
+pub abled : (b c : ℕ) (q : List Entry) → b ≤ c → All (Able b) q → All (Able c) q
+abled b c q h a = all-map (Able b) (Able c) q (λ e p. record { proper = p .proper; cheap = omega (arith, p .cheap) }) a
 
 module _ (s s₁ ix₁ : List ℕ) (pfrom pcount cap m n : ℕ) (sets codes sizes : List ℕ) (q : Reached s s₁ ix₁ pfrom pcount cap m sets codes sizes n) (k : Capped (length s) (pfrom + pcount) cap) (same : length s₁ ≡ length s) (a : All (Able 65526) (entriesOf s pfrom pcount)) where
   -- there are more states than have room
@@ -53,7 +50,7 @@ module _ (s s₁ ix₁ : List ℕ) (pfrom pcount cap m n : ℕ) (sets codes size
     reached-sound b x = holds (anyFrom sets codes sizes 0 m) [] b (any-all sets codes sizes m) x .sound
 
     pub reached-cheap : All (λ e. e .cost ≤ 65535) (entriesOf s₁ (pfrom + pcount) n)
-    reached-cheap = cheap-of (reached-sound 65526 a)
+    reached-cheap = all-map (Sound pfrom 65535) (λ e. e .cost ≤ 65535) (entriesOf s₁ (pfrom + pcount) n) (λ e p. p .cheap) (reached-sound 65526 a)
 
     pub reached-few : n ≤ 48384
     reached-few =
@@ -62,7 +59,7 @@ module _ (s s₁ ix₁ : List ℕ) (pfrom pcount cap m n : ℕ) (sets codes size
 
     pub least-small : (r : ℕ) → ((cs : List Cand) → r ≡ least (layerOf cs s₁ (pfrom + pcount) n)) → r ≤ 65535
     unfolding layerOf
-    least-small r e = omega (arith, e [], least-of [] reached-cheap)
+    least-small r e = omega (arith, e [], least-of [] 65535 (entriesOf s₁ (pfrom + pcount) n) reached-cheap)
 
     -- the others are dropped
     module _ (s₂ : List ℕ) (best rest floor low kept : ℕ) (el : (cs : List Cand) → best ≡ least (layerOf cs s₁ (pfrom + pcount) n)) (ef : (cs : List Cand) → low ≡ floorOf (best + 10) rest floor (layerOf cs s₁ (pfrom + pcount) n)) (ek : Kept s₁ s₂ (pfrom + pcount) n (best + 10) kept) where
@@ -95,7 +92,7 @@ module _ (s s₁ ix₁ : List ℕ) (pfrom pcount cap m n : ℕ) (sets codes size
         before = q .before;
         few = omega arith;
         inside = omega arith;
-        sound = λ b x. none;
+        sound = λ b x. tt;
         full = λ e. too-many h;
         kept = λ e. absurd (false≢true e);
       }

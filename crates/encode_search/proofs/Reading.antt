@@ -7,14 +7,15 @@ use native.Mathlib.Numerals.{add-one}
 use native.Mathlib.Omega.{arith}
 use lib.ListN.{length, getD, take, drop, length-map, List·getD-map}
 use lib.Seq.{getD-take, take-suc, take-all, length-take-le}
+use Rattle.base.specs.Lists.{All}
+use Rattle.base.proofs.Every.{all-at}
 use Rattle.coding.specs.Candidates.{Cand}
 use Rattle.coding.specs.Search.{Node, byCands, reach}
 use Rattle.encode_states.specs.Packed.{unpack, Proper}
 use Rattle.encode_layer.specs.Entries.{Entry, entry, nodeOf, entriesOf, layerOf, entryAt}
-use Rattle.encode_layer.specs.Stands.{All, none, more, Sound, Room, room, Held, Stands, held}
+use Rattle.encode_layer.specs.Stands.{Sound, Room, room, Held, Stands, held}
 use Rattle.encode_layer.proofs.Entries.{length-of, entry-of}
 use Rattle.encode_layer.proofs.Pushing.{blank}
-use Rattle.encode_layer.proofs.Standing.{all-at}
 use Rattle.encode_layer.proofs.Costs.{length-layer}
 use Rattle.encode_ways.specs.Turn.{Is}
 use Rattle.encode_search.specs.Layers.{Able}
@@ -31,7 +32,7 @@ module _ (s₀ s : List ℕ) (pfrom pcount i : ℕ) (fits : (pfrom + pcount) * 4
   same-cost = same-number s s₀ ((pfrom + pcount) * 4) ((pfrom + i) * 4 + 1) e (omega arith)
 
   able : (b : ℕ) → All (Able b) (entriesOf s₀ pfrom pcount) → Able b (entryAt s₀ (pfrom + i))
-  able b a = rw (entry-of s₀ pfrom pcount fits i blank h) at (all-at a i blank (omega (arith, length-of s₀ pfrom pcount fits)))
+  able b a = rw (entry-of s₀ pfrom pcount fits i blank h) at (all-at (Able b) blank (entriesOf s₀ pfrom pcount) a i (omega (arith, length-of s₀ pfrom pcount fits)))
 
   pub proper : (b : ℕ) → All (Able b) (entriesOf s₀ pfrom pcount) → Proper (getD s ((pfrom + i) * 4) 0)
   proper b a = rw same-state (able b a .proper)
@@ -64,7 +65,7 @@ reach-more cs ns i z h =
 -- an empty layer, and the whole one
 pub reach-none : (cs : List Cand) (from cap back most : ℕ) (s ix : List ℕ) (ns : List Node) → Stands cs (room from cap back most) s ix 0 (reach cs (take 0 ns) 0 [])
 unfolding reach layerOf entriesOf
-reach-none cs from cap back most s ix ns = held (record { fits = omega arith; layer = refl; indexed = λ i h. absurd (omega arith); sound = none })
+reach-none cs from cap back most s ix ns = held (record { fits = omega arith; layer = refl; indexed = λ i h. absurd (omega arith); sound = tt })
 
 pub reach-all : (cs : List Cand) (ns : List Node) (i : ℕ) → length ns ≤ i → reach cs (take i ns) 0 [] ≡ reach cs ns 0 []
 reach-all cs ns i h = ap (λ (m : List Node). reach cs m 0 []) (take-all i ns h)

@@ -7,6 +7,8 @@ use native.Mathlib.Numerals.{add-one}
 use native.Mathlib.Omega.{arith}
 use lib.ListN.{length, getD, take, drop, drop-of-length-le}
 use lib.Seq.{drop-cons, getD-take, take-take}
+use Rattle.base.specs.Lists.{All}
+use Rattle.base.proofs.Every.{all-map}
 use Rattle.tables.specs.Reverse.{kanjiReverse, additionalReverse}
 use Rattle.coding.specs.State.{State, start}
 use Rattle.coding.specs.Candidates.{Cand, candidates, candidatesOf, restOf, shortest}
@@ -16,7 +18,7 @@ use Rattle.encode_tokens.specs.Contracts.{Holds}
 use Rattle.encode_states.specs.Packed.{Packs}
 use Rattle.encode_states.specs.Written.{written, writtenAt}
 use Rattle.encode_layer.specs.Entries.{Entry, entry, nodeOf, entriesOf, layerOf, setEntry}
-use Rattle.encode_layer.specs.Stands.{All, none, more, Sound}
+use Rattle.encode_layer.specs.Stands.{Sound}
 use Rattle.encode_layer.proofs.Entries.{same-entries}
 use Rattle.encode_layer.proofs.Standing.{of-new}
 use Rattle.encode_layer.proofs.Costs.{length-layer}
@@ -135,9 +137,8 @@ pub record Going (chs ks ss : List ℕ) (n : ℕ) (annexE : Bool) (rest : ℕ) (
   pub able : All (Able (9 * j)) (entriesOf s from count)
   pub going : (cells cs : List ℕ) → Holds cells cs chs ks ss → n ≡ length cs → (initial : ℕ) → Begins initial s₀ → At (candidatesOf cells annexE cs) initial rest (length s₀ / 4) s j from count left floor
 
-abled : {back most : ℕ} {q : List Entry} → All (Sound back most) q → All (Able most) q
-abled none = none
-abled (more {e} {es} p a) = more {e = e} {es = es} (record { proper = p .proper; cheap = p .cheap }) (abled a)
+abled : (back most : ℕ) (q : List Entry) → All (Sound back most) q → All (Able most) q
+abled back most q a = all-map (Sound back most) (Able most) q (λ e p. record { proper = p .proper; cheap = p .cheap }) a
 
 module _ (chs ks ss : List ℕ) (n : ℕ) (annexE : Bool) (rest : ℕ) (s₀ : List ℕ) where
   pub going-start : (ix : List ℕ) → length ix ≡ 98304 → 4 ≤ length s₀ → rest ≤ 65535 → All (Able 0) (entriesOf s₀ 0 1) → Going chs ks ss n annexE rest s₀ s₀ ix 0 0 1 rest 0
@@ -170,7 +171,7 @@ module _ (chs ks ss : List ℕ) (n : ℕ) (annexE : Bool) (rest : ℕ) (s₀ : L
             few = t .few;
             low = omega (arith, g .low, t .few);
             left-le = omega (arith, g .left-le, t .less);
-            able = subst (λ (m : ℕ). All (Able m) (entriesOf s′ (from + count) count′)) (omega arith) (abled (t .sound (9 * j) (g .able)));
+            able = subst (λ (m : ℕ). All (Able m) (entriesOf s′ (from + count) count′)) (omega arith) (abled from (9 * j + 9) (entriesOf s′ (from + count) count′) (t .sound (9 * j) (g .able)));
             going = λ cells cs h k initial b.
                 let css = candidatesOf cells annexE cs in
                 let hk = h .kanji j (omega arith) in
@@ -214,7 +215,7 @@ module _ (s : List ℕ) (a initial : ℕ) (h : 4 ≤ length s) (p : Packs a (sta
   begins = ap (λ (q : List Entry). mathlib.Core.List.map (nodeOf []) q) entries-start ∙ ap (λ (t : State). node 0 0 t [] ∷ []) (p .is)
 
   pub able-start : All (Able 0) (entriesOf (setEntry s 0 (entry a 0 0 0)) 0 1)
-  able-start = rw entries-start (more {e = entry a 0 0 0} (record { proper = p .proper; cheap = omega arith }) none)
+  able-start = rw entries-start (record { proper = p .proper; cheap = omega arith }, tt)
 
 -- any layer needs room
 needs-room : (css : List (List Cand)) (initial : ℕ) → 1 ≤ length css → 0 < found css initial .most

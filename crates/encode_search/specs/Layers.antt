@@ -4,6 +4,7 @@ use mathlib.Core.Path.{_≡_}
 use mathlib.Core.Bool.{Bool, true, false}
 use mathlib.Core.List.{List, [], _∷_}
 use lib.ListN.{length, getD, take}
+use Rattle.base.specs.Lists.{All}
 use Rattle.coding.specs.State.{start}
 use Rattle.coding.specs.Candidates.{Cand, candidates, candidatesOf, restOf, shortest}
 use Rattle.coding.specs.Search.{Node, node, Run, reach, least, keep, floorOf, run, begin}
@@ -12,7 +13,7 @@ use Rattle.encode_candidates.specs.Packed.{packed}
 use Rattle.encode_tokens.specs.Contracts.{Holds}
 use Rattle.encode_states.specs.Packed.{Proper}
 use Rattle.encode_layer.specs.Entries.{Entry, entriesOf, layerOf}
-use Rattle.encode_layer.specs.Stands.{All, Sound, room, Stands}
+use Rattle.encode_layer.specs.Stands.{Sound, room, Stands}
 use Rattle.encode_ways.specs.Turn.{MatchAll}
 
 -- a node whose successors have room: its state can be reached, and its cost is small

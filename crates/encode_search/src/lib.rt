@@ -4,9 +4,10 @@ ghost use mathlib.Core.Path.{_≡_};
 ghost use mathlib.Core.List.{List, [], _∷_};
 ghost use Prim.Native.Nat.{ℕ, _+_, _-_, _*_, _/_, _%_, _≤_, _<_};
 ghost use lib.ListN.{length, take};
+ghost use Rattle.base.specs.Lists.{All};
 ghost use Rattle.coding.specs.Candidates.{Cand};
 ghost use Rattle.encode_layer.specs.Entries.{entriesOf};
-ghost use Rattle.encode_layer.specs.Stands.{All, Lent};
+ghost use Rattle.encode_layer.specs.Stands.{Lent};
 ghost use Rattle.encode_search.specs.Layers.{Able, Reached, Capped, Advanced, Turned, Begins, Arrays, Searched};
 
 // Every state that the pcount nodes from the node pfrom on reach by the m candidates, behind them.

@@ -14,8 +14,8 @@ use Rattle.utf8.specs.declared.Text.{Text}
 use Rattle.utf8.specs.declared.Text.the-variants.{WellFormed, FaultAt}
 use Rattle.coding.specs.Tokens.{tokens, baseless}
 use Rattle.coding.specs.Call.{Lent, ordering, choices, coding, without, Refusal, refuse, question4, question5, question6, question7, question8, refusal, outcomeOf, outcome}
-use Rattle.laws.proofs.Choices.{scalars-most}
-use Rattle.laws.proofs.Coding.{nine-bytes}
+use Rattle.laws_coding.proofs.Choices.{scalars-most}
+use Rattle.laws_coding.proofs.Coding.{nine-bytes}
 use Rattle.encoding_lines.specs.Lines.{call}
 use Rattle.encoding_lines.specs.Laws.{NeverEight}
 

@@ -7,7 +7,7 @@ use native.Mathlib.Omega.{arith}
 use lib.ListN.{length, take, replicate, length-append, length-replicate}
 use Rattle.coding.specs.Search.{Run, begin, run, gapOf, finish, code}
 use Rattle.coding.specs.Call.{Lent, Outcome, choices, coding, outcomeOf, outcome}
-use Rattle.laws.proofs.Answers.{passes}
+use Rattle.laws_coding.proofs.Answers.{passes}
 use Rattle.encode.specs.declared.call.Answer.{Answer}
 use Rattle.encode.specs.Answers.{numberOf, placeOf, lengthOf, lent, Answered}
 use Rattle.encode.specs.Answers as answers

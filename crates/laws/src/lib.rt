@@ -1,6 +1,6 @@
-// The laws of reading and of coding: specs/Reading.antt and specs/Coding.antt state them, proofs/Reading.antt and proofs/Coding.antt prove them.
+// What needs both the laws of reading and those of coding: specs/TableOfTwelve.antt states it, proofs/TableOfTwelve.antt proves it.
 
-// A crate has a function; nothing calls this one.
+/// A crate has a function; nothing calls this one.
 pub fn none() -> usize {
     0
 }

@@ -14,8 +14,8 @@ use Rattle.utf8.specs.declared.Text.{Text}
 use Rattle.utf8.specs.declared.Text.the-variants.{WellFormed, FaultAt}
 use Rattle.coding.specs.Tokens.{tokens, baseless}
 use Rattle.coding.specs.Call as coding
-use Rattle.laws.specs.Coding.{returned}
-use Rattle.laws.proofs.Coding.{accepted}
+use Rattle.laws_coding.specs.Coding.{returned}
+use Rattle.laws_coding.proofs.Coding.{accepted}
 use Rattle.laws_readback.specs.ReadBack.{Based, Accepted, AcceptedCall, RoundTrip}
 use Rattle.laws_readback.proofs.ReadBack.{call-read-back}
 

@@ -14,7 +14,7 @@ use Rattle.reading.specs.State as reading
 use Rattle.reading.specs.Macros.{Run}
 use Rattle.reading.specs.Characters.{isGL, isGR, isGraphic, graphicOf, graphic, singleShift}
 use Rattle.reading.specs.Steps.{step, offset}
-use Rattle.laws.specs.Reading.{All}
+use Rattle.base.specs.Lists.{All}
 use Rattle.laws_readback.proofs.States.{read, Invokes, set-in, Moves, one-step}
 use Rattle.laws_readback.proofs.Halves.{Byte, is-left, not-left, is-right, in-half}
 use Rattle.laws_readback.proofs.Codes.{puts, ReadsCode, Reads, candidates-read}

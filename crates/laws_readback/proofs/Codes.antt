@@ -23,15 +23,15 @@ use Rattle.issues.specs.declared.IssueKind.{IssueKind}
 use Rattle.issues.specs.declared.IssueKind.the-variants.{UndefinedCode}
 use Rattle.decode_output.specs.Output.{Output, emit, mark, newline}
 use Rattle.coding.specs.State.{State}
-use Rattle.coding.specs.Candidates.{Cand, graphic, plain, ofCode, ofPlace, when, fullwidth, letters, candidates}
+use Rattle.coding.specs.Candidates.{Cand, graphic, plain, ofCode, ofPlace, fullwidth, letters, candidates}
 use Rattle.coding.specs.Admissible.{Sized, narrow, wide, Half}
 use Rattle.reading.specs.State as reading
 use Rattle.reading.specs.Macros.{Run}
 use Rattle.reading.specs.Characters.{emitOr, cellOr, char2, letter, graphic2, graphicOf}
 use Rattle.reading.specs.Steps.{step}
-use Rattle.laws.specs.Reading.{All}
-use Rattle.laws.proofs.Every.{all-append}
-use Rattle.laws.proofs.Controls.{by-test}
+use Rattle.base.specs.Lists.{All, when}
+use Rattle.base.proofs.Every.{all-append}
+use Rattle.base.proofs.Tests.{by-test}
 use Rattle.laws_readback.proofs.States.{read}
 use Rattle.laws_readback.proofs.Halves.{Byte, in-half, whole}
 

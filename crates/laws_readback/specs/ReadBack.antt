@@ -19,7 +19,7 @@ use Rattle.coding.specs.Call as coding
 use Rattle.reading.specs.State.{State}
 use Rattle.reading.specs.Steps.{decode}
 use Rattle.reading.specs.Call as reading
-use Rattle.laws.specs.Coding.{returned}
+use Rattle.laws_coding.specs.Coding.{returned}
 
 -- bs is an admissible coding of the text: "It begins in the start state, under the call's options and cell table"
 abbrev pub Codes : coding.Lent → List ℕ → Type 0

@@ -9,7 +9,7 @@ use lib.Dec.{eqb, leb}
 use lib.ListN.{length, take, replicate, length-replicate}
 use Rattle.questions.specs.Questions.{firstRefusal, decodeLimit}
 use Rattle.reading.specs.Call.{Lent, Outcome, reading, textBytes, issueList, fits, refusal, outcomeOf, outcome}
-use Rattle.laws.proofs.Reading.{charge-bound, question-8-9}
+use Rattle.laws_reading.proofs.Reading.{charge-bound, question-8-9}
 use Rattle.decode.specs.declared.call.Answer.{Answer}
 use Rattle.decode.specs.Answers.{numberOf, textOf, issuesOf, chargedOf, lent, Answered}
 use Rattle.questions.proofs.Refusals.{passed}

@@ -6,7 +6,8 @@ use mathlib.Core.List.{List, [], _∷_, _++_}
 use Prim.Native.Nat.{ℕ}
 use lib.Dec.{eqb}
 use borrow.Author.Tests.{eq-eqb, ne-eqb}
-use Rattle.coding.specs.Candidates.{Cand, plain, when}
+use Rattle.coding.specs.Candidates.{Cand, plain}
+use Rattle.base.specs.Lists.{when}
 use Rattle.encode_candidates.specs.Packed.{candOf}
 use Rattle.encode_candidates.proofs.Adding.{likewise, none-more}
 use Rattle.encode_candidates.proofs.with_space.Statement.{statement}

@@ -1,4 +1,5 @@
 use native.Mathlib.Omega.{arith}
+use Rattle.encode_layer.specs.Entries.{entriesOf}
 use Rattle.encode_search.proofs.Advancing.{abled, too-large, reached-cheap, least-small, advanced}
 use borrow.Author.Needs.{needs}
 use Rattle.encode_search.proofs.advance.Statement.{statement}
@@ -21,7 +22,11 @@ room-requires c κs = search needs
 
 -- src/lib.rt:95:9
 reach-requires : tie.Need-reach-requires
-reach-requires c κs = (record { store = c .before .before .room .ensures .inside; index = omega arith; few = c .before .before .room .ensures .few }, c .before .before .before .before .before .pre .2, c .before .before .before .before .before .pre .3, c .before .before .before .before .before .pre .4, abled (omega arith) (c .before .before .before .before .before .pre .6))
+reach-requires c κs =
+    let start = c .before .before .before .before .before in
+    let capped = c .before .before .room .ensures in
+    let layer = entriesOf (start .args .store .now) (start .args .pfrom) (start .args .pcount) in
+    (record { store = capped .inside; index = omega arith; few = capped .few }, start .pre .2, start .pre .3, start .pre .4, abled 65526 65535 layer (omega arith) (start .pre .6))
 
 -- src/lib.rt:97:9
 same-length : tie.Need-same-length

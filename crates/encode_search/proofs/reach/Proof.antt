@@ -3,10 +3,11 @@ use mathlib.Core.List.{List, []}
 use Prim.Native.Nat.{ℕ, _+_, _*_, _-_, _≤_, _<_}
 use native.Mathlib.Omega.{arith}
 use lib.ListN.{length, getD, take}
+use Rattle.base.specs.Lists.{All}
 use Rattle.coding.specs.Candidates.{Cand}
 use Rattle.coding.specs.Search.{Node, reach}
 use Rattle.encode_layer.specs.Entries.{nodeOf, entriesOf, layerOf}
-use Rattle.encode_layer.specs.Stands.{All, room, Stands}
+use Rattle.encode_layer.specs.Stands.{room, Stands}
 use Rattle.encode_layer.proofs.Pushing.{blank}
 use Rattle.encode_layer.proofs.Costs.{length-layer}
 use Rattle.encode_ways.specs.Turn.{MatchAll}

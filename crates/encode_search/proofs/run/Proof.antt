@@ -1,9 +1,10 @@
 use mathlib.Core.Path.{_≡_, sym}
 use mathlib.Core.Bool.{true≢false, false≢true}
-use Prim.Native.Nat.{ℕ, _-_}
+use Prim.Native.Nat.{ℕ, _-_, _*_}
 use native.Mathlib.Omega.{arith}
 use borrow.Author.Needs.{needs}
 use borrow.Author.Tests.{not-true, not-false}
+use Rattle.encode_layer.specs.Entries.{entriesOf}
 use Rattle.encode_search.proofs.Advancing.{abled}
 use Rattle.encode_search.proofs.Running.{Going, going-start, going-on, going-full, going-end}
 use Rattle.encode_search.proofs.run.Statement.{statement}
@@ -50,7 +51,12 @@ shared-slice-read-s c = omega arith
 
 -- src/lib.rt:202:13
 turn-requires : tie.Need-turn-requires Inv-loop μ-loop
-turn-requires c κs = (omega (arith, c .before .before .before .before .before .before .loop .inv .inside), omega (arith, c .before .before .before .before .before .before .loop .inv .index), omega (arith, c .before .before .before .before .before .before .loop .inv .low, c .before .before .before .before .before .before .before .before .before .before .before .before .pre .0 .few), omega (arith, c .before .before .before .before .before .before .loop .inv .few), c .before .before .before .before .before .before .loop .inv .left-le, abled (omega (arith, c .before .before .before .before .before .before .before .before .before .before .before .before .pre .0 .few)) (c .before .before .before .before .before .before .loop .inv .able))
+turn-requires c κs =
+    let start = c .before .before .before .before .before .before .before .before .before .before .before .before in
+    let at = c .before .before .before .before .before .before .loop in
+    let layer = entriesOf (at .store) (at .from) (at .count) in
+    let able = abled (9 * at .j) 65526 layer (omega (arith, start .pre .0 .few)) (at .inv .able) in
+    (omega (arith, at .inv .inside), omega (arith, at .inv .index), omega (arith, at .inv .low, start .pre .0 .few), omega (arith, at .inv .few), at .inv .left-le, able)
 
 -- src/lib.rt:205:13
 same-length : tie.Need-same-length Inv-loop μ-loop

@@ -3,7 +3,7 @@ use mathlib.Core.List.{List}
 use Prim.Native.Nat.{ℕ}
 use native.Mathlib.Omega.{arith}
 use Rattle.encode_layer.specs.Entries.{entriesOf}
-use Rattle.encode_layer.specs.Stands.{All}
+use Rattle.base.specs.Lists.{All}
 use Rattle.encode_search.specs.Layers.{Able, Begins}
 use Rattle.encode_search.proofs.Running.{begins, able-start, no-room, searched-as}
 use borrow.Author.Needs.{needs}

@@ -1,0 +1,204 @@
+-- The search for a coding, against the definition. Assumes nothing.
+use mathlib.Core.Path.{_≡_, refl, sym, ap, subst, _∙_}
+use mathlib.Core.Bool.{Bool, true, false, not}
+use mathlib.Core.List.{List, [], _∷_, reverseAux}
+use Prim.Native.Nat.{ℕ, zero, suc, _+_, _-_, _*_, _/_, _≤_, _<_}
+use native.Mathlib.Omega.{arith}
+use borrow.Author.Tests.{lt-leb, le-leb}
+use mathlib.Core.Option.{none}
+use lib.Dec.{eqb}
+use lib.ListN.{length, getD}
+use lib.Seq.{getD-take}
+use Rattle.coding.specs.State.{start}
+use Rattle.coding.specs.Candidates.{Cand, candidates, candidatesOf}
+use Rattle.coding.specs.Search.{Node, begin, Run, run, newest, least, firstOf, nodeAt, back, gapOf, Coded, finish, code}
+use Rattle.coding.specs.Admissible.{Some, here}
+use Rattle.coding.specs.Tokens.{tokens, inOrder, chars}
+use Rattle.coding.specs.Call.{question7, question8, without, coding, choices, ordering}
+use Rattle.encode_tokens.specs.Contracts.{Holds, Ready, Tokenised, answered}
+use Rattle.encode_tokens.specs.Contracts as tokens-contracts
+use Rattle.encode_tokens.specs.declared.Tokens.{Tokens}
+use Rattle.encode_tokens.specs.declared.Tokens.the-variants as tokens-variants
+use Rattle.encode_layer.specs.Entries.{layerOf}
+use Rattle.encode_search.specs.Layers.{Found, Arrays}
+use Rattle.encode_search.specs.Layers as search
+use Rattle.encode_backtrack.specs.Contracts.{Chosen, Searched, Held}
+use Rattle.encode_backtrack.proofs.Nodes.{length-layer, Newest, newest-of}
+use Rattle.laws_coding.proofs.Chains.{Chain, begins, run-chain, back-length}
+use Rattle.base.specs.Lists.{All}
+use Rattle.laws_coding.proofs.Choices.{choices-filled}
+use Rattle.laws_coding.proofs.Cheapest.{Filled, cheapest, run-filled}
+use Rattle.encode_find.specs.Plans.{asked, Characters, planned, leads, Planned, Led}
+use Rattle.encode_find.specs.declared.Plan.{Plan}
+use Rattle.encode_find.specs.declared.Plan.the-variants.{Nothing, Leads, Refused}
+
+-- the gap
+pub gap-none : (len floor : ℕ) → floor ≡ 0 → 0 ≡ gapOf len floor
+unfolding gapOf
+gap-none len zero e = refl
+gap-none len (suc f) e = absurd (omega arith)
+
+pub gap-some : (len floor : ℕ) → (floor ≡ 0 → ⊥) → len - (floor - 1) ≡ gapOf len floor
+unfolding gapOf
+gap-some len zero e = absurd (e refl)
+gap-some len (suc f) e = omega arith
+
+pub gap-over : (len floor : ℕ) → (floor ≡ 0 → ⊥) → len ≤ floor - 1 → 0 ≡ gapOf len floor
+unfolding gapOf
+gap-over len zero e h = absurd (e refl)
+gap-over len (suc f) e h = omega arith
+
+-- the characters' candidates
+module _ (cells : List ℕ) (annexE : Bool) where
+  candidates-at : (cs : List ℕ) (j : ℕ) → j < length cs → getD (candidatesOf cells annexE cs) j [] ≡ candidates cells annexE (getD cs j 0)
+  unfolding candidatesOf
+  candidates-at [] j h = absurd (omega arith)
+  candidates-at (c ∷ cs) zero h = refl
+  candidates-at (c ∷ cs) (suc j) h = candidates-at cs j (omega arith)
+
+  chosen-at : (chs ks ss cs : List ℕ) → Holds cells cs chs ks ss → (j : ℕ) → j < length cs → Chosen cells annexE chs ks ss j (getD (candidatesOf cells annexE cs) j [])
+  chosen-at chs ks ss cs h j g =
+      let e : getD cs j 0 ≡ getD chs j 0 = ap (λ (l : List ℕ). getD l j 0) (sym (h .chars)) ∙ getD-take (length cs) chs j 0 g in
+      record { list = candidates-at cs j g ∙ ap (candidates cells annexE) e; kanji = h .kanji j g; symbol = h .symbols j g }
+
+  no-candidates : (cs : List ℕ) → 0 ≡ length cs → candidatesOf cells annexE cs ≡ []
+  unfolding candidatesOf
+  no-candidates [] e = refl
+  no-candidates (c ∷ cs) e = absurd (omega arith)
+
+-- the coding of no character
+code-none : (initial : ℕ) → code [] initial ≡ record { out = []; gap = 0; states = 0 }
+unfolding code finish run begin back nodeAt firstOf least newest gapOf
+code-none initial = refl
+
+question-none : (k : Coded) (s : List ℕ) (room : ℕ) → k ≡ record { out = []; gap = 0; states = 0 } → question7 (length s) room k ≡ question8 room k
+unfolding question7
+question-none k s room e =
+    let h : k .states ≤ length s / 4 = omega (arith, ap (λ (x : Coded). x .states) e) in
+    rw (le-leb _ _ h) refl
+
+-- a test the other way round
+pub not-so : (b : Bool) → not b ≡ true → b ≡ false
+not-so true e = sym e
+not-so false e = refl
+
+pub so : (b : Bool) → not b ≡ false → b ≡ true
+so true e = refl
+so false e = sym e
+
+-- the search's answer
+module _ (annexE : Bool) (initial : ℕ) (s s′ chs ks ss : List ℕ) (n rest : ℕ) (t : Characters annexE chs ks ss n rest) (same : length s′ ≡ length s) where
+  abbrev css : List (List Cand)
+  css = candidatesOf (t .cells) annexE (t .chars)
+
+  abbrev ran : Run
+  ran = run css (begin initial)
+
+  abbrev last : List Node
+  last = newest (ran .layers)
+
+  pub led-nothing : n ≡ 0 → Led annexE (code css initial) Nothing s′ chs ks ss
+  unfolding planned leads
+  led-nothing e =
+      let k : code css initial ≡ record { out = []; gap = 0; states = 0 } = ap (λ (x : List (List Cand)). code x initial) (no-candidates (t .cells) annexE (t .chars) (sym e ∙ t .count)) ∙ code-none initial in
+      record { answer = λ room. question-none _ s′ room k; found = (ap (λ (x : Coded). x .out) k, ap (λ (x : Coded). x .gap) k) }
+
+  module _ {fits : Bool} {from count floor : ℕ} (d : search.Searched chs ks ss n annexE initial rest s s′ fits from count floor) where
+    pub led-full : fits ≡ false → Led annexE (code css initial) (Refused 7 0) s′ chs ks ss
+    unfolding code finish question7 planned leads
+    led-full e =
+        let h : length s′ / 4 < ran .most = omega (arith, d .full (t .cells) (t .chars) (t .holds) (t .count) e, same) in
+        record { answer = λ room. rw (lt-leb _ _ h) refl; found = omega arith }
+
+    module _ (e : fits ≡ true) where
+      found-at : Found css initial s′ n from count floor
+      found-at = d .done (t .cells) (t .chars) (t .holds) (t .count) (t .shortest) e
+
+      pub found-fits : (from + count) * 4 ≤ length s′
+      found-fits = omega (arith, d .inside e, same)
+
+      head : Newest css s′ from count (ran .layers)
+      head = newest-of (found-at .layers)
+
+      chain : Chain ⊥ (start initial) (reverseAux css []) (ran .layers)
+      unfolding begin
+      chain = run-chain ⊥ (start initial) css (λ x. absurd x) [] (begin initial) begins
+
+      filled : Filled last
+      unfolding begin newest
+      filled = run-filled css (t .each) (begin initial) (here tt)
+
+      pub led-found : (best node gap : ℕ) → Held chs ks ss n → ((cs : List Cand) → best ≡ least (layerOf cs s′ from count)) → ((cs : List Cand) → node ≡ firstOf best (layerOf cs s′ from count)) → gap ≡ gapOf best floor → Led annexE (code css initial) (Leads n from node best gap) s′ chs ks ss
+      unfolding code finish question7 planned leads
+      led-found best node gap held eb en eg =
+          let f = found-at in
+          let b : best ≡ least last = eb (head .cs) ∙ ap least (sym (head .is)) in
+          let i : node ≡ firstOf (least last) last = en (head .cs) ∙ ap (λ (x : ℕ). firstOf x (layerOf (head .cs) s′ from count)) b ∙ ap (firstOf (least last)) (sym (head .is)) in
+          let q = cheapest last filled in
+          let m : length last ≡ count = ap length (head .is) ∙ length-layer s′ from count found-fits (head .cs) in
+          let o : length (code css initial .out) ≡ least last = omega (arith, back-length ⊥ (start initial) chain (firstOf (least last) last) (q .0) [], q .1) in
+          let z : best ≡ length (code css initial .out) = b ∙ sym o in
+          record {
+            answer = λ room. rw (le-leb _ _ (f .room)) refl;
+            found = record {
+              held = held;
+              searched = record {
+                cells = t .cells;
+                css = css;
+                initial = initial;
+                count = count;
+                chosen = λ j h. chosen-at (t .cells) annexE chs ks ss (t .chars) (t .holds) j (omega (arith, t .count));
+                layers = f .layers;
+                fits = found-fits;
+                node = omega (arith, q .0, m, i);
+              };
+              out = ap (λ (x : ℕ). back (ran .layers) x []) i;
+              length-is = z;
+              gap-is = eg ∙ ap (λ (x : ℕ). gapOf x floor) z ∙ ap (gapOf (length (code css initial .out))) (sym (f .floors));
+            };
+          }
+
+-- questions 4 to 6
+pub filled-all : (cells : List ℕ) (width : ℕ) (text : List ℕ) → without (inOrder (tokens text)) (candidatesOf cells (eqb width 1) (chars (inOrder (tokens text)))) ≡ none → All (λ cs. Some (λ k. Unit {0}) cs) (candidatesOf cells (eqb width 1) (chars (inOrder (tokens text))))
+unfolding choices ordering
+filled-all cells width text e = choices-filled (asked cells 0 width text [] 0) e
+
+module _ (cells : List ℕ) (initial width : ℕ) (text : List ℕ) (chs ks ss : List ℕ) (r : Tokens) (d : Tokenised cells (eqb width 1) text r chs ks ss) where
+  pub ready : {n rest : ℕ} → r ≡ tokens-variants.Ordered n rest → Ready cells (eqb width 1) text n rest chs ks ss
+  unfolding tokens-contracts.left
+  ready e = subst (λ (x : Tokens). tokens-contracts.left x cells (eqb width 1) text chs ks ss) e (d .arrays)
+
+  abbrev pub characters-of : {n rest : ℕ} → r ≡ tokens-variants.Ordered n rest → Characters (eqb width 1) chs ks ss n rest
+  characters-of {n} {rest} e =
+      let q = ready e in
+      record {
+        cells = cells;
+        chars = chars (inOrder (tokens text));
+        holds = q .holds;
+        count = q .count;
+        shortest = q .rest;
+        each = filled-all cells width text (q .each);
+      }
+
+  pub arrays-of : {n rest : ℕ} → r ≡ tokens-variants.Ordered n rest → length text ≤ 7281 → length text ≤ length chs → length text ≤ length ks → length text ≤ length ss → Arrays chs ks ss n rest
+  arrays-of e h a b g =
+      let q = ready e in
+      record { chars = omega (arith, q .few); kanji = omega (arith, q .few); symbols = omega (arith, q .few); few = omega (arith, q .few); rest-small = omega (arith, q .few, q .short) }
+
+  pub planned-on : {n rest : ℕ} (s s′ : List ℕ) (room : ℕ) {p : Plan} → r ≡ tokens-variants.Ordered n rest → length s′ ≡ length s → Led (eqb width 1) (code (candidatesOf cells (eqb width 1) (chars (inOrder (tokens text)))) initial) p s′ chs ks ss → Planned (asked cells initial width text s room) p s′ chs ks ss
+  unfolding answered coding choices ordering
+  planned-on s s′ room {p} e m l =
+      let c = asked cells initial width text s room in
+      record {
+        answer = d .answer c refl refl refl ∙ ap (λ (x : Tokens). answered x c) e ∙ ap (λ (x : ℕ). question7 x room (coding c)) (sym m) ∙ l .answer room;
+        found = l .found;
+      }
+
+  pub planned-not : {number place : ℕ} (s s′ : List ℕ) (room : ℕ) → r ≡ tokens-variants.Refused number place → Planned (asked cells initial width text s room) (Refused number place) s′ chs ks ss
+  unfolding answered planned leads tokens-contracts.left
+  planned-not s s′ room e =
+      let c = asked cells initial width text s room in
+      record {
+        answer = d .answer c refl refl refl ∙ ap (λ (x : Tokens). answered x c) e;
+        found = subst (λ (x : Tokens). tokens-contracts.left x cells (eqb width 1) text chs ks ss) e (d .arrays);
+      }

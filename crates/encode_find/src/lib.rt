@@ -1,0 +1,116 @@
+// The search for a coding: questions 4 to 7, the coding's length and its gap. No byte is written yet.
+use encode_tokens::Tokens;
+ghost use mathlib.Core.Path.{_≡_};
+ghost use Prim.Native.Nat.{ℕ, _≤_};
+ghost use lib.ListN.{length};
+ghost use Rattle.coding.specs.Candidates.{candidatesOf};
+ghost use Rattle.coding.specs.Search.{code, gapOf};
+ghost use Rattle.encode_tokens.specs.Contracts as tokens;
+ghost use Rattle.encode_search.specs.Layers.{Arrays};
+ghost use Rattle.encode_find.specs.Plans.{asked, Characters, Planned, Led};
+
+/// What questions 4 to 7 say of a text.
+pub enum Plan {
+    /// All yes, and there is no character.
+    Nothing,
+    /// All yes: how many characters there are, the node to which the coding leads, by its place in the
+    /// layer that begins at the node from of the store, the coding's length and its gap.
+    Leads {
+        count: usize,
+        from: usize,
+        node: usize,
+        length: usize,
+        gap: usize,
+    },
+    /// One no: its number, and the place.
+    Refused {
+        number: u32,
+        place: usize,
+    },
+}
+
+/// The length less the floor, or 0 where that is negative or there is none.
+fn gap_of(length: usize, floor: u32) -> usize
+    ensures { λ r. ⌜ r ≡ gapOf length floor ⌝ }
+{
+    if floor == 0 {
+        return 0;
+    }
+    let least = (floor - 1) as usize;
+    if least < length {
+        return length - least;
+    }
+    0
+}
+
+/// Searches, question 7, for the n characters in the arrays, whose shortest codes are of rest bytes.
+fn lead(
+    chars: &[u32],
+    kanji: &[u16],
+    symbols: &[u16],
+    annex: bool,
+    n: usize,
+    rest: usize,
+    initial: u32,
+    store: &mut [u32],
+) -> Plan
+    requires { ⌜ Arrays (now chars) (now kanji) (now symbols) n rest ⌝ }
+    ensures { λ r. ⌜ ((t : Characters annex (now (chars .entry)) (now (kanji .entry)) (now (symbols .entry)) n rest) → Led annex (code (candidatesOf (t .cells) annex (t .chars)) initial) r (now (store .exit)) (now (chars .entry)) (now (kanji .entry)) (now (symbols .entry))) ⌝ }
+{
+    if n == 0 {
+        return Plan::Nothing;
+    }
+    let last = encode_search::search(&mut *store, chars, kanji, symbols, n, annex, initial, rest);
+    let fits = last.fits;
+    if !fits {
+        return Plan::Refused {
+            number: 7,
+            place: 0,
+        };
+    }
+    let from = last.from;
+    let count = last.count;
+    let best = encode_layer::least(&*store, from, count);
+    let node = encode_backtrack::first_of(&*store, from, count, best);
+    let length = best as usize;
+    let gap = gap_of(length, last.floor);
+    Plan::Leads {
+        count: n,
+        from,
+        node,
+        length,
+        gap,
+    }
+}
+
+/// Puts questions 4 to 7 to a text of at most 7,281 bytes. The arrays then hold its characters in the
+/// order in which they are coded, and the store what was searched.
+pub fn find(
+    cells: &[u16],
+    initial: u32,
+    width: u32,
+    text: &[u8],
+    store: &mut [u32],
+    chars: &mut [u32],
+    kanji: &mut [u16],
+    symbols: &mut [u16],
+) -> Plan
+    requires { ⌜ (length (now text) ≤ 7281) × tokens.Room (now text) (now chars) (now kanji) (now symbols) ⌝ }
+    ensures { λ r. ⌜ ((room : ℕ) → Planned (asked (now (cells .entry)) initial width (now (text .entry)) (now (store .entry)) room) r (now (store .exit)) (now (chars .exit)) (now (kanji .exit)) (now (symbols .exit))) ⌝ }
+{
+    let annex = width == 1;
+    let t = encode_tokens::tokenise(cells, annex, text, &mut *chars, &mut *kanji, &mut *symbols);
+    match t {
+        Tokens::Ordered { count, rest } => lead(
+            &*chars,
+            &*kanji,
+            &*symbols,
+            annex,
+            count,
+            rest,
+            initial,
+            store,
+        ),
+        Tokens::Refused { number, place } => Plan::Refused { number, place },
+    }
+}

@@ -1,0 +1,136 @@
+-- The candidates of characters: they are fine, and there is a list for each character of the text. Assumes nothing.
+use mathlib.Core.Path.{_≡_, refl, _∙_, ap}
+use mathlib.Core.Bool.{Bool, true, false, cond}
+use mathlib.Core.List.{List, [], _∷_}
+use mathlib.Core.Option.{none}
+use Prim.Native.Nat.{ℕ, zero, suc, _+_, _-_, _≤_, _<_}
+use native.Mathlib.Omega.{arith}
+use lib.Dec.{eqb}
+use lib.ListN.{length}
+use Rattle.tables.specs.Kanji.{nonSpacing, isMark, cellWith}
+use Rattle.tables.specs.Reverse.{oneByteReverse, kanjiReverse, additionalReverse}
+use Rattle.tables.specs.declared.OneByteTable.the-variants.{Alphanumeric, Fullwidth, Hiragana, Katakana, JisX0201Katakana}
+use Rattle.tables.specs.declared.Code.{Code}
+use Rattle.tables.specs.declared.Code.the-variants.{Gl, Nothing}
+use Rattle.tables.specs.declared.Place.{Place}
+use Rattle.tables.specs.declared.Place.the-variants.{At, Nowhere}
+use Rattle.utf8.specs.Utf8.{utf8, sequence, scalarsFrom, scalars}
+use Rattle.utf8.specs.declared.Sequence.{Sequence}
+use Rattle.utf8.specs.declared.Sequence.the-variants.{Scalar, Fault, End}
+use Rattle.coding.specs.Candidates.{Cand, plain, ofCode, ofPlace, fullwidth, letters, candidates, candidatesOf}
+use Rattle.coding.specs.Tokens.{Token, placed, tokens, ordered, inOrder, chars}
+use Rattle.coding.specs.Call.{Lent, ordering, choices, without}
+use Rattle.coding.specs.Admissible.{here}
+use Rattle.base.specs.Lists.{All, when}
+use Rattle.base.proofs.Every.{all-append}
+use Rattle.laws_coding.proofs.Written.{Fine}
+use Rattle.laws_coding.proofs.Cheapest.{Filled}
+
+of-code : (x size : ℕ) → x < 15 → size ≤ 2 → (k : Code) → All Fine (ofCode x size k)
+unfolding ofCode
+of-code x size h z Nothing = tt
+of-code x size h z (Gl b) = ((h, omega arith, z), tt)
+
+of-place : (x size : ℕ) → x < 15 → size ≤ 2 → (p : Place) → All Fine (ofPlace x size p)
+unfolding ofPlace
+of-place x size h z Nowhere = tt
+of-place x size h z (At row cell) = ((h, omega arith, z), tt)
+
+of-space : (b : Bool) (size : ℕ) → size ≤ 2 → All Fine (when b (plain 0x20 size))
+of-space true size z = (z, tt)
+of-space false size z = tt
+
+of-fullwidth : (annexE : Bool) (c : ℕ) → All Fine (fullwidth annexE c)
+unfolding fullwidth
+of-fullwidth true c = tt
+of-fullwidth false c = of-code 1 2 (omega arith) (omega arith) (oneByteReverse Fullwidth c)
+
+of-wide-space : (annexE : Bool) (c : ℕ) → All Fine (cond annexE [] (when (eqb c 0x3000) (plain 0x20 2)))
+of-wide-space true c = tt
+of-wide-space false c = of-space (eqb c 0x3000) 2 (omega arith)
+
+letters-fine : (cells : List ℕ) (annexE : Bool) (c : ℕ) → All Fine (letters cells annexE c)
+unfolding letters
+letters-fine cells annexE c =
+    all-append Fine (ofCode 2 2 (oneByteReverse Hiragana c)) _ (of-code 2 2 (omega arith) (omega arith) (oneByteReverse Hiragana c))
+    (all-append Fine (ofCode 3 2 (oneByteReverse Katakana c)) _ (of-code 3 2 (omega arith) (omega arith) (oneByteReverse Katakana c))
+    (all-append Fine (ofCode 1 1 (oneByteReverse Alphanumeric c)) _ (of-code 1 1 (omega arith) (omega arith) (oneByteReverse Alphanumeric c))
+    (all-append Fine (fullwidth annexE c) _ (of-fullwidth annexE c)
+    (all-append Fine (ofPlace 0 2 (kanjiReverse cells c)) _ (of-place 0 2 (omega arith) (omega arith) (kanjiReverse cells c))
+    (all-append Fine (ofPlace 14 2 (additionalReverse c)) _ (of-place 14 2 (omega arith) (omega arith) (additionalReverse c))
+    (all-append Fine (ofCode 11 1 (oneByteReverse JisX0201Katakana c)) _ (of-code 11 1 (omega arith) (omega arith) (oneByteReverse JisX0201Katakana c))
+    (all-append Fine (when (eqb c 0x20) (plain 0x20 1)) _ (of-space (eqb c 0x20) 1 (omega arith)) (of-wide-space annexE c))))))))
+
+pub candidates-fine : (cells : List ℕ) (annexE : Bool) (c : ℕ) → All Fine (candidates cells annexE c)
+unfolding candidates
+candidates-fine cells annexE c = go (eqb c 10) (isMark nonSpacing c)
+  where
+    go : (newline mark : Bool) → All Fine (elim newline [ true ↦ plain 0x0D 0 ∷ [] | false ↦ elim mark [ true ↦ ofPlace 0 0 (cellWith nonSpacing c) | false ↦ letters cells annexE c ] ])
+    go true mark = (omega arith, tt)
+    go false true = of-place 0 0 (omega arith) (omega arith) (cellWith nonSpacing c)
+    go false false = letters-fine cells annexE c
+
+all-fine : (cells : List ℕ) (annexE : Bool) (cs : List ℕ) → All (All Fine) (candidatesOf cells annexE cs)
+unfolding candidatesOf
+all-fine cells annexE [] = tt
+all-fine cells annexE (c ∷ cs) = (candidates-fine cells annexE c, all-fine cells annexE cs)
+
+pub choices-fine : (c : Lent) → All (All Fine) (choices c)
+unfolding choices
+choices-fine c = all-fine (c .cells) (eqb (c .width) 1) (chars (ordering c))
+
+-- lengths
+candidates-length : (cells : List ℕ) (annexE : Bool) (ts : List Token) → length (candidatesOf cells annexE (chars ts)) ≡ length ts
+unfolding candidatesOf chars
+candidates-length cells annexE [] = refl
+candidates-length cells annexE (t ∷ ts) = ap suc (candidates-length cells annexE ts)
+
+placed-length : (p : ℕ) (cs : List ℕ) → length (placed p cs) ≡ length cs
+unfolding placed
+placed-length p [] = refl
+placed-length p (c ∷ cs) = ap suc (placed-length (p + length (utf8 c)) cs)
+
+ordered-length : (b : Token) (ts : List Token) → length (ordered b ts) ≡ suc (length ts)
+unfolding ordered
+ordered-length b [] = refl
+ordered-length b (t ∷ ts) = go (isMark nonSpacing (t .char)) (ordered-length b ts) (ordered-length t ts)
+  where
+    go : (mark : Bool) → length (ordered b ts) ≡ suc (length ts) → length (ordered t ts) ≡ suc (length ts) → length (cond mark (t ∷ ordered b ts) (b ∷ ordered t ts)) ≡ suc (suc (length ts))
+    go true e f = ap suc e
+    go false e f = ap suc f
+
+in-order-length : (ts : List Token) → length (inOrder ts) ≡ length ts
+unfolding inOrder
+in-order-length [] = refl
+in-order-length (t ∷ ts) = ordered-length t ts
+
+pub choices-length : (c : Lent) → length (choices c) ≡ length (scalars (c .text))
+unfolding choices ordering tokens
+choices-length c = candidates-length (c .cells) (eqb (c .width) 1) (ordering c) ∙ in-order-length (tokens (c .text)) ∙ placed-length 0 (scalars (c .text))
+
+scalars-from-most : (k : ℕ) (l : List ℕ) → length (scalarsFrom k l) ≤ length l
+unfolding scalarsFrom
+scalars-from-most k [] = omega arith
+scalars-from-most (suc k) (x ∷ l) = omega (arith, scalars-from-most k l)
+scalars-from-most zero (x ∷ l) = go (sequence (x ∷ l)) refl (λ k. scalars-from-most k l)
+  where
+    go : (q : Sequence) → sequence (x ∷ l) ≡ q → ((k : ℕ) → length (scalarsFrom k l) ≤ length l) → length (scalarsFrom zero (x ∷ l)) ≤ suc (length l)
+    go (Scalar c n) e h = rw (e, scalarsFrom) (omega (arith, h (n - 1)))
+    go Fault e h = rw (e, scalarsFrom) (omega arith)
+    go End e h = rw (e, scalarsFrom) (omega arith)
+
+pub scalars-most : (text : List ℕ) → length (scalars text) ≤ length text
+unfolding scalars
+scalars-most text = scalars-from-most 0 text
+
+-- "Has each character a candidate?"
+have : (ts : List Token) (css : List (List Cand)) → length css ≤ length ts → without ts css ≡ none → All Filled css
+unfolding without
+have ts [] h e = tt
+have [] (ks ∷ css) h e = absurd (omega arith)
+have (t ∷ ts) ([] ∷ css) h e = absurd (let z : _≡_ {A = ℕ} 0 1 = cc in omega arith)
+have (t ∷ ts) ((k ∷ ks) ∷ css) h e = (here tt, have ts css (omega arith) e)
+
+pub choices-filled : (c : Lent) → without (ordering c) (choices c) ≡ none → All Filled (choices c)
+unfolding choices
+choices-filled c e = have (ordering c) (choices c) (omega (arith, candidates-length (c .cells) (eqb (c .width) 1) (ordering c))) e

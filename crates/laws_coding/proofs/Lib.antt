@@ -1,0 +1,14 @@
+pub mod Distance
+pub mod Somewhere
+pub mod WaysNear
+pub mod Layers
+pub mod Near
+pub mod Gap
+pub mod WaysWrite
+pub mod Written
+pub mod Chains
+pub mod Cheapest
+pub mod Choices
+pub mod Searches
+pub mod Answers
+pub mod Coding

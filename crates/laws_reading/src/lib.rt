@@ -1,0 +1,6 @@
+// The laws of reading: specs/Reading.antt states them, proofs/Reading.antt proves them.
+
+/// A crate has a function; nothing calls this one.
+pub fn none() -> usize {
+    0
+}
