@@ -1,6 +1,7 @@
 -- `character` meets its contract, by the byte. Assumes nothing.
 use mathlib.Core.Path.{refl}
-use Rattle.decode_letters.proofs.Spelling.{reads-space, reads-newline}
+use native.Mathlib.Omega.{arith}
+use Rattle.decode_letters.proofs.Spelling.{graphic-is, reads-space, reads-newline}
 use borrow.Author.Needs.{needs}
 use Rattle.decode_letters.proofs.character.Statement.{statement}
 use Rattle.decode_letters.proofs.character.Tie as tie
@@ -12,20 +13,26 @@ space-requires : tie.Need-space-requires
 space-requires c κs = search needs
 
 graphic-requires : tie.Need-graphic-requires
-graphic-requires c κs = search needs
+graphic-requires c κs =
+    let entry = c .before .before .before .before .before .before in
+    (entry .pre .0, entry .pre .1, graphic-is _ (omega arith) (omega arith) (omega arith))
 
 graphic-requires-2 : tie.Need-graphic-requires-2
-graphic-requires-2 c κs = search needs
+graphic-requires-2 c κs =
+    let entry = c .before .before .before .before .before .before .before .before in
+    (entry .pre .0, entry .pre .1, graphic-is _ (omega arith) (omega arith) (omega (arith, c .before .before .before .before .before .before .shared-slice-known2 .given (entry .args .i))))
 
 returns : tie.Need-returns
 returns c =
-    let a = c .before .before .before .before .before .args in
-    λ f. reads-space (a .cells .now) (a .b .now) (a .i) (a .to) (a .gl) (a .gr) (a .narrow) (c .before .before .before .before .before .pre .0) (c .before .match .keys1) (c .space .ensures)
+    let entry = c .before .before .before .before .before in
+    let a = entry .args in
+    λ f. reads-space (a .cells .now) (a .b .now) (a .i) (a .to) (a .sets) (entry .pre .0) (c .before .match .keys1) (c .space .ensures)
 
 returns-2 : tie.Need-returns-2
 returns-2 c =
-    let a = c .before .before .before .before .args in
-    λ f. reads-newline (a .cells .now) (a .b .now) (a .i) (a .to) (a .gl) (a .gr) (a .narrow) (c .before .before .before .before .pre .0) (c .match .keys2)
+    let entry = c .before .before .before .before in
+    let a = entry .args in
+    λ f. reads-newline (a .cells .now) (a .b .now) (a .i) (a .to) (a .sets) (entry .pre .0) (c .match .keys2)
 
 returns-3 : tie.Need-returns-3
 returns-3 c = search needs

@@ -1,5 +1,6 @@
 -- `graphic` meets its contract. Assumes nothing.
-use Prim.Native.Nat.{_+_, _<_}
+use Prim.Native.Nat.{_<_}
+use mathlib.Core.Path.{sym, _∙_}
 use native.Mathlib.Omega.{arith}
 use lib.ListN.{getD}
 use Rattle.decode_letters.proofs.Spelling.{reads-letter, reads-pair}
@@ -21,21 +22,27 @@ pair-at-requires c κs = search needs
 
 returns : tie.Need-returns
 returns c =
-    let a = c .before .before .before .before .before .before .before .args in
-    let x : getD (a .b .now) (a .i) 0 < 256 = omega (arith, c .before .before .before .before .before .shared-slice-known2 .given (a .i)) in
-    let y : getD (a .b .now) (a .i + 1) 0 < 256 = omega (arith, c .before .before .before .before .before .shared-slice-known2 .given (a .i + 1)) in
+    let at-set = c .before .before .before in
+    let at-byte = at-set .before .before in
+    let entry = at-byte .before .before in
+    let a = entry .args in
+    let x : getD (a .b .now) (a .i) 0 < 256 = omega (arith, at-byte .shared-slice-known2 .given (a .i)) in
     λ f.
     let w = c .pair-at .ensures f in
-    reads-pair (a .cells .now) (a .b .now) (a .i) (a .to) (a .gl) (a .gr) (a .narrow) (c .before .before .before .before .before .before .before .pre .0) x (c .before .before .before .set-of .ensures) y (w .0) (w .1)
+    reads-pair (a .cells .now) (a .b .now) (a .i) (a .to) (a .sets) (entry .pre .0) x (at-set .set-of .ensures)
+    (sym (c .before .before .two-bytes .ensures) ∙ c .before .if1 .taken) (w .0) (w .1)
 
 letter-at-requires : tie.Need-letter-at-requires
 letter-at-requires c κs = search needs
 
 returns-2 : tie.Need-returns-2
 returns-2 c =
-    let a = c .before .before .before .before .before .before .before .args in
-    let x : getD (a .b .now) (a .i) 0 < 256 = omega (arith, c .before .before .before .before .before .shared-slice-known2 .given (a .i)) in
-    λ f. reads-letter (a .cells .now) (a .b .now) (a .i) (a .to) (a .gl) (a .gr) (a .narrow) (c .before .before .before .before .before .before .before .pre .0) x (c .before .before .before .set-of .ensures) (c .letter-at .ensures) f
+    let at-set = c .before .before .before in
+    let at-byte = at-set .before .before in
+    let entry = at-byte .before .before in
+    let a = entry .args in
+    let x : getD (a .b .now) (a .i) 0 < 256 = omega (arith, at-byte .shared-slice-known2 .given (a .i)) in
+    λ f. reads-letter (a .cells .now) (a .b .now) (a .i) (a .to) (a .sets) (entry .pre .0) x (at-set .set-of .ensures) (c .letter-at .ensures) f
 
 pub graphic-spec : {M : Type 1} → statement M
 graphic-spec =

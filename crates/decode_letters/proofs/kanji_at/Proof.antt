@@ -70,11 +70,18 @@ returns-7 c = λ f. absurd (f refl)
 
 returns-8 : tie.Need-returns-8
 returns-8 c =
-    let a = c .before .before .before .before .before .before .before .before .before .before .args in
+    let at-cell = c .before .before in
+    let at-second = at-cell .before .before in
+    let at-end = at-second .before .before in
+    let at-row = at-end .before .before in
+    let a = at-row .before .before .args in
     λ f.
     let k = (getD (a .b .now) (a .i) 0 % 128 - 0x21) * 94 + (getD (a .b .now) (a .i + 1) 0 % 128 - 0x21) in
     let small : getD (a .cells .now) k 0 < 0x10000 = omega (arith, c .before .shared-slice-known3 .given k) in
-    ideograph (a .cells .now) (a .b .now) (a .i) (c .before .before .before .before .before .before .if3 .left) (c .before .before .before .before .if4 .left) (c .before .before .before .before .before .before .before .before .if1 .left) (c .before .before .before .before .before .before .before .if2 .left) (c .before .before .before .if5 .left) (c .before .before .if6 .left) (c .if7 .left) small
+    let x : getD (a .b .now) (a .i) 0 < 256 = omega (arith, at-second .before .shared-slice-known2 .given (a .i)) in
+    let y : getD (a .b .now) (a .i + 1) 0 < 256 = omega (arith, at-second .before .shared-slice-known2 .given (a .i + 1)) in
+    ideograph (a .cells .now) (a .b .now) (a .i) x y (at-end .if3 .left) (at-second .if4 .left) (at-row .if1 .left) (at-end .before .if2 .left)
+    (at-cell .before .if5 .left) (at-cell .if6 .left) (c .if7 .left) small
 
 pub kanji-at-spec : {M : Type 1} → statement M
 kanji-at-spec =

@@ -1,6 +1,9 @@
 -- `pair_at` meets its contract. Assumes nothing.
-use mathlib.Core.Path.{refl, sym}
+use Prim.Native.Nat.{_+_, _<_}
+use mathlib.Core.Path.{refl, sym, _∙_}
 use native.Mathlib.Omega.{arith}
+use lib.ListN.{getD}
+use Rattle.decode_codes.proofs.Laws.{and-left, in-area}
 use borrow.Author.Needs.{needs}
 use Rattle.decode_letters.proofs.pair_at.Statement.{statement}
 use Rattle.decode_letters.proofs.pair_at.Tie as tie
@@ -20,33 +23,49 @@ add-y c = search needs
 shared-slice-read-y : tie.Need-shared-slice-read-y
 shared-slice-read-y c = search needs
 
-returns-2 : tie.Need-returns-2
-returns-2 c = λ f. absurd (f refl)
+is-second-requires : tie.Need-is-second-requires
+is-second-requires c κs = search needs
 
-returns-3 : tie.Need-returns-3
-returns-3 c = λ f. absurd (f refl)
+sub-row : tie.Need-sub-row
+sub-row c =
+    let entry = c .before .before .before .before .before .before .before in
+    let a = entry .args in
+    let x : getD (a .b .now) (a .i) 0 < 256 = omega (arith, c .before .before .before .before .before .shared-slice-known2 .given (a .i)) in
+    omega (arith, in-area _ x (entry .pre .2) .low)
 
-returns-4 : tie.Need-returns-4
-returns-4 c = λ f. absurd (f refl)
-
-returns-5 : tie.Need-returns-5
-returns-5 c = λ f. absurd (f refl)
-
-returns-6 : tie.Need-returns-6
-returns-6 c = λ f. absurd (f refl)
-
-sub-cell-at : tie.Need-sub-cell-at
-sub-cell-at c = search needs
-
-sub-cell-at-2 : tie.Need-sub-cell-at-2
-sub-cell-at-2 c = search needs
+sub-cell : tie.Need-sub-cell
+sub-cell c =
+    let a = c .before .before .before .before .before .before .before .args in
+    let y : getD (a .b .now) (a .i + 1) 0 < 256 = omega (arith, c .before .before .before .before .before .shared-slice-known2 .given (a .i + 1)) in
+    omega (arith, in-area _ y (and-left _ _ (sym (c .before .is-second .ensures) ∙ c .if2 .taken)) .low)
 
 cell-at-requires : tie.Need-cell-at-requires
 cell-at-requires c κs = search needs
 
-returns-7 : tie.Need-returns-7
-returns-7 c =
-    λ f. (c .before .before .before .before .before .before .before .before .if1 .left, record { two = omega (arith, c .before .before .before .before .before .before .before .before .if1 .left, c .before .before .before .before .before .before .before .before .before .before .before .pre .1); area = sym (c .before .before .before .before .before .if2 .left); row-low = c .before .before .before .before .if3 .left; row-high = c .before .before .before .if4 .left; cell-low = c .before .before .if5 .left; cell-high = c .before .if6 .left; has = c .cell-at .ensures f })
+spacing-requires : tie.Need-spacing-requires
+spacing-requires c κs = search needs
+
+returns-2 : tie.Need-returns-2
+returns-2 c =
+    let second = c .before .before .before in
+    let first = second .before .before .before in
+    let pre = first .before .before .before .pre in
+    λ f.
+    let w = c .spacing .ensures _ (c .before .cell-at .ensures) f in
+    (
+      first .if1 .left,
+      record {
+        two = omega (arith, first .if1 .left, pre .1);
+        first = pre .2;
+        second = sym (second .is-second .ensures) ∙ c .before .before .if2 .taken;
+        has = w .0;
+        some = f;
+        spacing = w .1;
+      },
+    )
+
+returns-3 : tie.Need-returns-3
+returns-3 c = λ f. absurd (f refl)
 
 pub pair-at-spec : {M : Type 1} → statement M
 pair-at-spec =
@@ -57,12 +76,10 @@ pair-at-spec =
     shared-slice-read-x
     add-y
     shared-slice-read-y
-    returns-2
-    returns-3
-    returns-4
-    returns-5
-    returns-6
-    sub-cell-at
-    sub-cell-at-2
+    is-second-requires
+    sub-row
+    sub-cell
     cell-at-requires
-    returns-7)
+    spacing-requires
+    returns-2
+    returns-3)
