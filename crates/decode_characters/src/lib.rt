@@ -1,68 +1,21 @@
-// Graphic characters: `graphic`, `char1` and `char2` of decode.rs, but for the macro set, whose characters run bodies.
-// Sets are 01's numbers, codes are in GL form.
+// Graphic characters, written: `graphic`, `char1` and `char2` of decode.rs, but for the macro set, whose characters run
+// bodies. What a code reads as is in `decode_codes`. Sets are 01's numbers, codes are in GL form.
 use decode_state::Core;
 use decode_state::Stepped;
 use issues::IssueKind;
 use tables::Cell;
-use tables::OneByteChar;
 ghost use mathlib.Core.Path.{_≡_};
-ghost use mathlib.Core.Bool.{true, _||_, _&&_};
-ghost use Prim.Native.Nat.{ℕ, _+_, _*_, _/_, _≤_, _<_};
+ghost use mathlib.Core.Bool.{true};
+ghost use Prim.Native.Nat.{ℕ, _+_, _≤_, _<_};
 ghost use mathlib.Core.List.{List};
-ghost use lib.Dec.{eqb};
 ghost use lib.ListN.{length, drop, getD};
-ghost use Rattle.sets.specs.Sets.{bytesPerChar};
 ghost use Rattle.tables.specs.Kanji.{cellOf};
-ghost use Rattle.tables.specs.OneByte.{oneByteOf};
 ghost use Rattle.decode_output.specs.Output.{emit, mark};
 ghost use Rattle.reading.specs.State.{issue, placeholder, truncated, writes};
 ghost use Rattle.reading.specs.Macros.{Run};
-ghost use Rattle.reading.specs.Characters.{isGraphic, emitOr, cellOr, char1, char2, letter, mosaic, graphic2, graphicOf, singleShift};
+ghost use Rattle.reading.specs.Characters.{isGraphic, emitOr, cellOr, char1, char2, mosaic, graphic2, graphicOf, singleShift};
 ghost use Rattle.decode_state.specs.Contracts.{Good, TookOver};
 ghost use Rattle.decode_characters.specs.Contracts.{Did};
-
-/// Whether a byte is in GL's area, 02/1 to 07/14, or in GR's, 10/1 to 15/14.
-pub fn is_graphic(x: u8) -> bool
-    ensures { λ r. ⌜ r ≡ isGraphic x ⌝ }
-{
-    match x {
-        0x21..=0x7E => true,
-        0xA1..=0xFE => true,
-        _ => false,
-    }
-}
-
-/// Whether a set has two bytes a character. Table 7-3.
-pub fn two_bytes(set: u8) -> bool
-    ensures { λ r. ⌜ r ≡ eqb (bytesPerChar set) 2 ⌝ }
-{
-    match set {
-        0 => true,
-        12..=14 => true,
-        16 => true,
-        _ => false,
-    }
-}
-
-/// Whether `y` can be the second byte of a character that begins with `x`: a graphic byte of the same area.
-fn is_second(x: u8, y: u8) -> bool
-    ensures { λ r. ⌜ r ≡ (isGraphic y && eqb (x / 128) (y / 128)) ⌝ }
-{
-    if x / 128 == y / 128 {
-        return is_graphic(y);
-    }
-    false
-}
-
-/// Whether alphanumerics and SP are narrow. Table 7-16, Annex E.4.
-pub fn is_narrow(annex: bool, narrow: bool) -> bool
-    ensures { λ r. ⌜ r ≡ (annex || narrow) ⌝ }
-{
-    if annex {
-        return true;
-    }
-    narrow
-}
 
 /// An issue.
 pub fn report(at: u32, kind: IssueKind, s: Core, issues: &mut [u32]) -> Core
@@ -171,156 +124,26 @@ fn cell_or(
     }
 }
 
-/// A character of a two-byte set. Tables 7-4, 7-10, 7-11.
-pub fn char2(
-    cells: &[u16],
+/// A code of a two-byte set.
+struct Code2 {
     set: u8,
     a: u8,
     b: u8,
-    at: u32,
-    s: Core,
-    text: &mut [u8],
-    issues: &mut [u32],
-) -> Core
+}
+
+/// A character of a two-byte set.
+fn char2(cells: &[u16], c: Code2, at: u32, s: Core, text: &mut [u8], issues: &mut [u32]) -> Core
     requires { ⌜ Good 1 s ⌝ }
-    requires { ⌜ (0x21 ≤ a) × (a ≤ 0x7E) × (0x21 ≤ b) × (b ≤ 0x7E) ⌝ }
-    ensures { λ r. ⌜ Did (now (cells .entry)) (λ g. char2 g set a b at) s (now (text .entry)) (now (issues .entry)) r (now (text .exit)) (now (issues .exit)) ⌝ }
+    requires { ⌜ (0x21 ≤ c .a) × (c .a ≤ 0x7E) × (0x21 ≤ c .b) × (c .b ≤ 0x7E) ⌝ }
+    ensures { λ r. ⌜ Did (now (cells .entry)) (λ g. char2 g (c .set) (c .a) (c .b) at) s (now (text .entry)) (now (issues .entry)) r (now (text .exit)) (now (issues .exit)) ⌝ }
 {
-    let code = code_of(a, b);
-    let row = a - 0x20;
-    let cell = b - 0x20;
-    match set {
-        0 => {
-            let c = tables::kanji(cells, row, cell);
-            cell_or(
-                c,
-                IssueKind::UndefinedCode {
-                    set: set,
-                    code: code,
-                },
-                at,
-                s,
-                text,
-                issues,
-            )
-        }
-        12 => plane1(cells, a, b, at, s, text, issues),
-        14 => {
-            let c = tables::additional_symbols(row, cell);
-            cell_or(
-                c,
-                IssueKind::UndefinedCode {
-                    set: set,
-                    code: code,
-                },
-                at,
-                s,
-                text,
-                issues,
-            )
-        }
-        16 => report_placeholder(at, IssueKind::Drcs { n: 0, code: code }, s, text, issues),
-        _ => report_placeholder(
-            at,
-            IssueKind::UnsupportedCode {
-                set: set,
-                code: code,
-            },
-            s,
-            text,
-            issues,
-        ),
-    }
-}
-
-/// The two bytes of a code as 16 bits.
-fn code_of(a: u8, b: u8) -> u16
-    ensures { λ r. ⌜ r ≡ a * 256 + b ⌝ }
-{
-    (a as u16) * 256 + (b as u16)
-}
-
-/// A character of JIS compatible Kanji plane 1, of which rows 1 to 84 are those of the Kanji set. 7.1.1.3.
-fn plane1(
-    cells: &[u16],
-    a: u8,
-    b: u8,
-    at: u32,
-    s: Core,
-    text: &mut [u8],
-    issues: &mut [u32],
-) -> Core
-    requires { ⌜ Good 1 s ⌝ }
-    requires { ⌜ (0x21 ≤ a) × (a ≤ 0x7E) × (0x21 ≤ b) × (b ≤ 0x7E) ⌝ }
-    ensures { λ r. ⌜ Did (now (cells .entry)) (λ g. char2 g 12 a b at) s (now (text .entry)) (now (issues .entry)) r (now (text .exit)) (now (issues .exit)) ⌝ }
-{
-    let code = code_of(a, b);
-    let row = a - 0x20;
-    if row <= 84 {
-        let c = tables::kanji(cells, row, b - 0x20);
-        return cell_or(
-            c,
-            IssueKind::UnsupportedCode {
-                set: 12,
-                code: code,
-            },
-            at,
-            s,
-            text,
-            issues,
-        );
-    }
-    report_placeholder(
-        at,
-        IssueKind::UnsupportedCode {
-            set: 12,
-            code: code,
-        },
-        s,
-        text,
-        issues,
-    )
-}
-
-/// The character of a one-byte code, 0 for none.
-pub fn scalar(answer: OneByteChar) -> u32
-    ensures { λ r. ⌜ ((x : ℕ) → answer ≡ oneByteOf x → r ≡ x) ⌝ }
-{
-    match answer {
-        OneByteChar::Char(c) => c,
-        OneByteChar::Undefined => 0,
-    }
-}
-
-/// An alphanumeric, full-width unless narrow, 0 for none. Table 7-5.
-pub fn alphanumeric_at(narrow: bool, c: u8) -> u32
-    ensures { λ r. ⌜ r ≡ letter narrow 1 c ⌝ }
-{
-    let half = scalar(tables::alphanumeric(c));
-    if narrow {
-        return half;
-    }
-    tables::fullwidth(half)
-}
-
-/// The character of a one-byte set other than mosaic, macro and DRCS, 0 for none. Tables 7-5, 7-6, 7-7 and 7-9.
-pub fn letter_at(narrow: bool, set: u8, c: u8) -> u32
-    ensures { λ r. ⌜ r ≡ letter narrow set c ⌝ }
-{
-    match set {
-        1 => alphanumeric_at(narrow, c),
-        2 => scalar(tables::hiragana(c)),
-        3 => scalar(tables::katakana(c)),
-        8 => alphanumeric_at(narrow, c),
-        9 => scalar(tables::hiragana(c)),
-        10 => scalar(tables::katakana(c)),
-        11 => scalar(tables::jis_x0201_katakana(c)),
-        _ => 0,
-    }
+    let cell = decode_codes::cell_at(cells, c.set, c.a - 0x20, c.b - 0x20);
+    let kind = decode_codes::issue_of(c.set, c.a, c.b);
+    cell_or(cell, kind, at, s, text, issues)
 }
 
 /// A character of a one-byte set.
-pub fn char1(set: u8, c: u8, at: u32, s: Core, text: &mut [u8], issues: &mut [u32]) -> Core
+fn char1(set: u8, c: u8, at: u32, s: Core, text: &mut [u8], issues: &mut [u32]) -> Core
     requires { ⌜ Good 1 s ⌝ }
     requires { ⌜ (c < 128) × (set ≡ 15 → ⊥) ⌝ }
     ensures { λ r. ⌜ ((cells : List ℕ) (left : ℕ) (R : Run) → Did cells (λ g. char1 g left R set c at) s (now (text .entry)) (now (issues .entry)) r (now (text .exit)) (now (issues .exit))) ⌝ }
@@ -338,7 +161,8 @@ pub fn char1(set: u8, c: u8, at: u32, s: Core, text: &mut [u8], issues: &mut [u3
             issues,
         ),
         _ => {
-            let x = letter_at(is_narrow(s.annex, s.narrow), set, c);
+            let narrow = decode_codes::is_narrow(s.annex, s.narrow);
+            let x = decode_codes::letter_at(narrow, set, c);
             emit_or(
                 x,
                 IssueKind::UndefinedCode {
@@ -364,7 +188,7 @@ fn truncated(at: u32, s: Core, issues: &mut [u32]) -> Stepped
 }
 
 /// A character of a two-byte set that begins at the byte `i`: its second byte is in the same area, or it is none.
-pub fn graphic2(
+fn graphic2(
     cells: &[u16],
     b: &[u8],
     i: usize,
@@ -383,8 +207,13 @@ pub fn graphic2(
     }
     let x = b[i];
     let y = b[i + 1];
-    if is_second(x, y) {
-        let r = char2(cells, set, x % 128, y % 128, at, s, text, issues);
+    if decode_codes::is_second(x, y) {
+        let c = Code2 {
+            set,
+            a: x % 128,
+            b: y % 128,
+        };
+        let r = char2(cells, c, at, s, text, issues);
         return Stepped { used: 2, core: r };
     }
     truncated(at, s, issues)
@@ -405,7 +234,7 @@ pub fn graphic(
     requires { ⌜ (i < length (now b)) × (isGraphic (getD (now b) i 0) ≡ true) × (set ≡ 15 → ⊥) ⌝ }
     ensures { λ r. ⌜ ((left : ℕ) (R : Run) → TookOver (now (cells .entry)) (now (b .entry)) i (λ g. graphicOf g left R set (getD (now (b .entry)) i 0) (drop (i + 1) (now (b .entry))) at) s (now (text .entry)) (now (issues .entry)) r (now (text .exit)) (now (issues .exit))) ⌝ }
 {
-    if two_bytes(set) {
+    if decode_codes::two_bytes(set) {
         return graphic2(cells, b, i, set, at, s, text, issues);
     }
     let r = char1(set, b[i] % 128, at, s, text, issues);
@@ -430,7 +259,7 @@ pub fn single_shift(
     if i + 1 >= b.len() {
         return truncated(at, s, issues);
     }
-    if is_graphic(b[i + 1]) {
+    if decode_codes::is_graphic(b[i + 1]) {
         let sets = s.sets;
         let set = sets[element];
         let w = graphic(cells, b, i + 1, set, at, s, text, issues);

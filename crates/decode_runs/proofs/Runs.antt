@@ -19,10 +19,12 @@ use Rattle.decode_state.proofs.Lift.{holds-writes}
 use Rattle.decode_state.proofs.Steps.{goes-none, goes-on, goes-step}
 use Rattle.decode_settings.specs.Contracts.{withSettings, Fine, Controls}
 use Rattle.decode_settings.proofs.Turning.{seven}
-use Rattle.decode_runs.specs.Contracts.{Sees, Spells, withText, Plain, Letters, coreAt, RunsTo}
+use Rattle.decode_letters.specs.declared.Invoked.{Invoked}
+use Rattle.decode_letters.specs.Contracts.{Sees, Spells}
+use Rattle.decode_runs.specs.Contracts.{withText, Plain, Letters, coreAt, RunsTo, Begins}
 
-sees : {gl gr : ℕ} {narrow : Bool} {n m : ℕ} {g : Given} {c : Core} {starts lens t₀ i₀ t i : List ℕ} {s : State} → Plain gl gr narrow n c
-    → Holds g t₀ i₀ s (whole (withText c m) starts lens) t i → Sees gl gr narrow g s
+sees : {v : Invoked} {n m : ℕ} {g : Given} {c : Core} {starts lens t₀ i₀ t i : List ℕ} {s : State} → Plain v n c
+    → Holds g t₀ i₀ s (whole (withText c m) starts lens) t i → Sees v g s
 unfolding isNarrow
 sees p h =
     record {
@@ -35,13 +37,13 @@ sees p h =
     }
 
 -- the loop: what is spelt up to the byte j₁, the text as long as it was, and room for three bytes a byte before `to`
-pub record Spelt (cells b : List ℕ) (j to gl gr : ℕ) (narrow : Bool) (n : ℕ) (t : List ℕ) (j₁ n₁ : ℕ) (t₁ : List ℕ) : Type 0 where
-  pub letters : Letters cells b j gl gr narrow n t j₁ n₁ t₁
+pub record Spelt (cells b : List ℕ) (j to : ℕ) (v : Invoked) (n : ℕ) (t : List ℕ) (j₁ n₁ : ℕ) (t₁ : List ℕ) : Type 0 where
+  pub letters : Letters cells b j v n t j₁ n₁ t₁
   pub as-long : length t₁ ≡ length t
   pub room : n₁ + 3 * (to - j₁) ≤ length t
 
-module _ {cells b : List ℕ} {j to gl gr : ℕ} {narrow : Bool} {n : ℕ} {t : List ℕ} where
-  pub spelt-start : j ≤ length b → n + 3 * (to - j) ≤ length t → Spelt cells b j to gl gr narrow n t j n t
+module _ {cells b : List ℕ} {j to : ℕ} {v : Invoked} {n : ℕ} {t : List ℕ} where
+  pub spelt-start : j ≤ length b → n + 3 * (to - j) ≤ length t → Spelt cells b j to v n t j n t
   spelt-start h r =
       record {
         letters =
@@ -57,9 +59,9 @@ module _ {cells b : List ℕ} {j to gl gr : ℕ} {narrow : Bool} {n : ℕ} {t : 
       }
 
   -- a character more
-  pub spelt-more : {j₁ n₁ : ℕ} {t₁ : List ℕ} (u l : ℕ) {t₂ : List ℕ} {w : ℕ} → Spelt cells b j to gl gr narrow n t j₁ n₁ t₁ → 1 ≤ u → j₁ + u ≤ length b
-      → Spells cells b j₁ gl gr narrow u l → w ≡ length (utf8 l) → w ≤ 3 * u → w + 3 * (to - (j₁ + u)) ≤ 3 * (to - j₁) → t₂ ≡ sets t₁ n₁ (utf8 l)
-      → Spelt cells b j to gl gr narrow n t (j₁ + u) (n₁ + w) t₂
+  pub spelt-more : {j₁ n₁ : ℕ} {t₁ : List ℕ} (u l : ℕ) {t₂ : List ℕ} {w : ℕ} → Spelt cells b j to v n t j₁ n₁ t₁ → 1 ≤ u → j₁ + u ≤ length b
+      → Spells cells b j₁ v u l → w ≡ length (utf8 l) → w ≤ 3 * u → w + 3 * (to - (j₁ + u)) ≤ 3 * (to - j₁) → t₂ ≡ sets t₁ n₁ (utf8 l)
+      → Spelt cells b j to v n t (j₁ + u) (n₁ + w) t₂
   spelt-more {j₁} {n₁} {t₁} u l {t₂} {w} s a v k e m q d =
       let p = s .letters in
       let past = p .past in
@@ -120,8 +122,8 @@ module _ {cells b : List ℕ} {j : ℕ} {annex : Bool} {l : List ℕ} {n : ℕ} 
 
   module _ {j₁ : ℕ} {l₁ : List ℕ} {n₁ : ℕ} {t₁ : List ℕ} (r : RunsTo cells b j annex l n t j₁ l₁ n₁ t₁) where
     -- characters more, by the sets in GL and GR
-    pub runs-letters : {gl gr : ℕ} {narrow : Bool} {j₂ n₂ : ℕ} {t₂ : List ℕ} → gl ≡ getD (take 4 l₁) (getD l₁ 4 0) 0 → gr ≡ getD (take 4 l₁) (getD l₁ 5 0) 0
-        → narrow ≡ (annex || eqb (getD l₁ 6 0) 1) → Letters cells b j₁ gl gr narrow n₁ t₁ j₂ n₂ t₂ → RunsTo cells b j annex l n t j₂ l₁ n₂ t₂
+    pub runs-letters : {v : Invoked} {j₂ n₂ : ℕ} {t₂ : List ℕ} → v .gl ≡ getD (take 4 l₁) (getD l₁ 4 0) 0 → v .gr ≡ getD (take 4 l₁) (getD l₁ 5 0) 0
+        → v .narrow ≡ (annex || eqb (getD l₁ 6 0) 1) → Letters cells b j₁ v n₁ t₁ j₂ n₂ t₂ → RunsTo cells b j annex l n t j₂ l₁ n₂ t₂
     runs-letters {j₂ = j₂} {n₂} {t₂} x y z w =
         let past = r .past in
         let most = r .most in
@@ -196,9 +198,9 @@ module _ {cells b : List ℕ} {j to : ℕ} {annex : Bool} {l : List ℕ} {n : �
   running-start h r f = record { runs = runs-none h f; as-long = refl; room = r }
 
   -- characters, a character, and controls more
-  pub running-more : {j₁ : ℕ} {l₁ : List ℕ} {n₁ : ℕ} {t₁ : List ℕ} {gl gr : ℕ} {narrow : Bool} {j₂ n₂ : ℕ} {t₂ : List ℕ} {j₃ n₃ : ℕ} {t₃ : List ℕ} {j₄ : ℕ} {l₄ : List ℕ}
-      → Running cells b j to annex l n t j₁ l₁ n₁ t₁ → gl ≡ getD l₁ (getD l₁ 4 0) 0 → gr ≡ getD l₁ (getD l₁ 5 0) 0 → narrow ≡ (annex || eqb (getD l₁ 6 0) 1)
-      → Letters cells b j₁ gl gr narrow n₁ t₁ j₂ n₂ t₂ → Letters cells b j₂ gl gr narrow n₂ t₂ j₃ n₃ t₃ → Controls b j₃ l₁ j₄ l₄
+  pub running-more : {j₁ : ℕ} {l₁ : List ℕ} {n₁ : ℕ} {t₁ : List ℕ} {v : Invoked} {j₂ n₂ : ℕ} {t₂ : List ℕ} {j₃ n₃ : ℕ} {t₃ : List ℕ} {j₄ : ℕ} {l₄ : List ℕ}
+      → Running cells b j to annex l n t j₁ l₁ n₁ t₁ → v .gl ≡ getD l₁ (getD l₁ 4 0) 0 → v .gr ≡ getD l₁ (getD l₁ 5 0) 0 → v .narrow ≡ (annex || eqb (getD l₁ 6 0) 1)
+      → Letters cells b j₁ v n₁ t₁ j₂ n₂ t₂ → Letters cells b j₂ v n₂ t₂ j₃ n₃ t₃ → Controls b j₃ l₁ j₄ l₄
       → length t₂ ≡ length t₁ → length t₃ ≡ length t₂ → n₃ + 3 * (to - j₃) ≤ length t₃ → Running cells b j to annex l n t j₄ l₄ n₃ t₃
   running-more {l₁ = l₁} r x y z u v w p q h =
       let f = r .runs .fine in
@@ -236,12 +238,21 @@ four-of (a ∷ b ∷ c ∷ []) q = absurd (omega arith)
 four-of (a ∷ b ∷ c ∷ d ∷ []) q = refl
 four-of (a ∷ b ∷ c ∷ d ∷ e ∷ r) q = absurd (omega arith)
 
-pub settings-of : (c : Core) (x : ℕ) → length (c .sets) ≡ 4 → c .narrow ≡ eqb x 1 → c ≡ withText c (c .out .len)
-    → c ≡ coreAt (getD (c .sets) 0 0 ∷ getD (c .sets) 1 0 ∷ getD (c .sets) 2 0 ∷ getD (c .sets) 3 0 ∷ c .gl ∷ c .gr ∷ x ∷ []) (c .out .len) c
-settings-of c x h q e =
-    λ k. record { sets = four-of (c .sets) h k; gl = c .gl; gr = c .gr; narrow = q k; annex = c .annex; charged = c .charged; out = e k .out }
+pub settings-of : (c : Core) (x : ℕ) → length (c .sets) ≡ 4 → c .narrow ≡ eqb x 1 → (n : ℕ)
+    → coreAt (getD (c .sets) 0 0 ∷ getD (c .sets) 1 0 ∷ getD (c .sets) 2 0 ∷ getD (c .sets) 3 0 ∷ c .gl ∷ c .gr ∷ x ∷ []) n c ≡ withText c n
+settings-of c x h q n =
+    λ k.
+    record {
+      sets = sym (four-of (c .sets) h) k;
+      gl = c .gl;
+      gr = c .gr;
+      narrow = sym q k;
+      annex = c .annex;
+      charged = c .charged;
+      out = record { len = n; end = n; first = 0; repeat = 0; issues = c .out .issues };
+    }
 
-pub core-of : (l : List ℕ) (n : ℕ) (c : Core) → Fine l
+pub core-of : (l : List ℕ) (n : ℕ) (c : Core) → length l ≡ 7
     → record {
       sets = getD l 0 0 ∷ getD l 1 0 ∷ getD l 2 0 ∷ getD l 3 0 ∷ [];
       gl = getD l 4 0;
@@ -252,9 +263,9 @@ pub core-of : (l : List ℕ) (n : ℕ) (c : Core) → Fine l
       out = record { len = n; end = n; first = 0; repeat = 0; issues = c .out .issues };
     }
     ≡ coreAt l n c
-core-of l n c f =
+core-of l n c h =
     let e : getD l 0 0 ∷ getD l 1 0 ∷ getD l 2 0 ∷ getD l 3 0 ∷ [] ≡ take 4 l =
-    seven (λ (l : List ℕ). getD l 0 0 ∷ getD l 1 0 ∷ getD l 2 0 ∷ getD l 3 0 ∷ [] ≡ take 4 l) (λ a b c d x y z. refl) l (f .seven) in
+    seven (λ (l : List ℕ). getD l 0 0 ∷ getD l 1 0 ∷ getD l 2 0 ∷ getD l 3 0 ∷ [] ≡ take 4 l) (λ a b c d x y z. refl) l h in
     λ k.
     record {
       sets = e k;
@@ -266,9 +277,9 @@ core-of l n c f =
       out = record { len = n; end = n; first = 0; repeat = 0; issues = c .out .issues };
     }
 
--- nothing waits
-pub plain-text : (c : Core) → c .out .len ≡ c .out .end → c .out .first ≡ 0 → c .out .repeat ≡ 0 → c ≡ withText c (c .out .len)
-plain-text c e f r =
+-- where a run may begin, nothing waits
+pub plain-text : (c : Core) {cells text : ℕ} → Begins (c .out) cells text → c ≡ withText c (c .out .len)
+plain-text c w =
     λ k.
     record {
       sets = c .sets;
@@ -277,5 +288,5 @@ plain-text c e f r =
       narrow = c .narrow;
       annex = c .annex;
       charged = c .charged;
-      out = record { len = c .out .len; end = sym e k; first = f k; repeat = r k; issues = c .out .issues };
+      out = record { len = c .out .len; end = sym (w .end) k; first = w .first k; repeat = w .repeat k; issues = c .out .issues };
     }

@@ -49,7 +49,7 @@ fn stop_shift(b: &[u8], i: usize, s: Core, e: usize) -> Stop
     if i + 1 >= b.len() {
         return Stop::End;
     }
-    if decode_characters::is_graphic(b[i + 1]) {
+    if decode_codes::is_graphic(b[i + 1]) {
         Stop::Shifted(e)
     } else {
         Stop::End
@@ -89,7 +89,7 @@ fn space(s: Core, text: &mut [u8]) -> Stepped
     requires { ⌜ Good 1 s ⌝ }
     ensures { λ r. ⌜ ((cells b i₁ : List ℕ) (i : ℕ) → i < length b → TookOver cells b i (λ g s. took 1 (space g s)) s (now (text .entry)) i₁ r (now (text .exit)) i₁) ⌝ }
 {
-    let c = if decode_characters::is_narrow(s.annex, s.narrow) {
+    let c = if decode_codes::is_narrow(s.annex, s.narrow) {
         0x20
     } else {
         0x3000

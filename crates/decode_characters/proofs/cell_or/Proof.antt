@@ -1,4 +1,4 @@
--- `characters::cell_or` meets its contract. Assumes nothing.
+-- `cell_or` meets its contract. Assumes nothing.
 use mathlib.Core.Path.{sym, _∙_}
 use borrow.Author.Needs.{needs}
 use Rattle.decode_characters.proofs.Did.{did-as}

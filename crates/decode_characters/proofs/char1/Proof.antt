@@ -1,11 +1,12 @@
--- `characters::char1` meets its contract. Assumes nothing.
+-- `char1` meets its contract. Assumes nothing.
 use Prim.Native.Nat.{_≤_, _<_}
 use mathlib.Core.Logic.{⊎-elim}
 use mathlib.Core.Path.{_∙_}
 use native.Mathlib.Omega.{arith}
 use borrow.Author.Needs.{needs}
 use Rattle.decode_characters.proofs.Did.{did-as}
-use Rattle.decode_characters.proofs.Laws.{char1-mosaic, char1-drcs, char1-letter, letter-narrows}
+use Rattle.decode_codes.proofs.Laws.{char1-letter}
+use Rattle.decode_characters.proofs.Laws.{char1-mosaic, char1-drcs, letter-narrows}
 use Rattle.decode_characters.proofs.char1.Tie as tie
 use Rattle.decode_characters.proofs.char1.Statement.{statement}
 

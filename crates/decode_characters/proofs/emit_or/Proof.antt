@@ -1,7 +1,8 @@
--- `characters::emit_or` meets its contract. Assumes nothing.
+-- `emit_or` meets its contract. Assumes nothing.
 use borrow.Author.Needs.{needs}
 use Rattle.decode_characters.proofs.Did.{did-as}
-use Rattle.decode_characters.proofs.Laws.{emit-none, emit-some}
+use Rattle.decode_codes.proofs.Laws.{emit-some}
+use Rattle.decode_characters.proofs.Laws.{emit-none}
 use Rattle.decode_characters.proofs.emit_or.Tie as tie
 use Rattle.decode_characters.proofs.emit_or.Statement.{statement}
 

@@ -1,9 +1,9 @@
--- `characters::graphic` meets its contract. Assumes nothing.
+-- `graphic` meets its contract. Assumes nothing.
 use mathlib.Core.Path.{sym, _∙_}
 use native.Mathlib.Omega.{arith}
 use borrow.Author.Needs.{needs}
 use Rattle.decode_characters.proofs.Did.{took-as, took-did}
-use Rattle.decode_characters.proofs.Laws.{graphic-two, graphic-one}
+use Rattle.decode_codes.proofs.Laws.{graphic-two, graphic-one}
 use Rattle.decode_characters.proofs.graphic.Tie as tie
 use Rattle.decode_characters.proofs.graphic.Statement.{statement}
 

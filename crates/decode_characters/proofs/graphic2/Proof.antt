@@ -1,11 +1,12 @@
--- `characters::graphic2` meets its contract. Assumes nothing.
+-- `graphic2` meets its contract. Assumes nothing.
 use Prim.Native.Nat.{_+_, _<_}
 use mathlib.Core.Path.{sym, _∙_}
 use native.Mathlib.Omega.{arith}
 use borrow.Author.Needs.{needs}
 use lib.ListN.{getD}
 use Rattle.decode_characters.proofs.Did.{took-as, took-did}
-use Rattle.decode_characters.proofs.Laws.{and-left, in-area, graphic2-end, graphic2-pair, graphic2-other}
+use Rattle.decode_codes.proofs.Laws.{and-left, in-area, graphic2-pair}
+use Rattle.decode_characters.proofs.Laws.{graphic2-end, graphic2-other}
 use Rattle.decode_characters.proofs.graphic2.Tie as tie
 use Rattle.decode_characters.proofs.graphic2.Statement.{statement}
 

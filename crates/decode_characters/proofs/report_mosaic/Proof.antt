@@ -1,4 +1,4 @@
--- `characters::report_mosaic` meets its contract. Assumes nothing.
+-- `report_mosaic` meets its contract. Assumes nothing.
 use native.Mathlib.Omega.{arith}
 use borrow.Author.Needs.{needs}
 use Rattle.reading.specs.Characters.{mosaic}

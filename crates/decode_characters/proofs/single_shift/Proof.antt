@@ -1,4 +1,4 @@
--- `characters::single_shift` meets its contract. Assumes nothing.
+-- `single_shift` meets its contract. Assumes nothing.
 use Prim.Native.Nat.{ℕ, _+_, _<_, _≤_}
 use mathlib.Core.List.{List}
 use mathlib.Core.Path.{sym, ap, _∙_}

@@ -1,4 +1,4 @@
--- `characters::truncated` meets its contract. Assumes nothing.
+-- `truncated` meets its contract. Assumes nothing.
 use mathlib.Core.Path.{refl}
 use native.Mathlib.Omega.{arith}
 use borrow.Author.Needs.{needs}

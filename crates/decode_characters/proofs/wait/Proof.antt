@@ -1,4 +1,4 @@
--- `characters::wait` meets its contract. Assumes nothing.
+-- `wait` meets its contract. Assumes nothing.
 use native.Mathlib.Omega.{arith}
 use borrow.Author.Needs.{needs}
 use Rattle.decode_characters.proofs.Did.{did-writes}

@@ -1,4 +1,4 @@
--- `letters::letters` meets its contract. Assumes nothing.
+-- `letters` meets its contract. Assumes nothing.
 use mathlib.Core.Path.{_≡_, refl}
 use mathlib.Core.Bool.{Bool, true, false}
 use mir.Val.{boolByte}

@@ -1,4 +1,4 @@
--- `letters::letters_from` meets its contract. The invariant: what is spelt so far. Assumes nothing.
+-- `letters_from` meets its contract. The invariant: what is spelt so far. Assumes nothing.
 use Prim.Native.Nat.{_+_, _-_, _%_, _<_}
 use mathlib.Core.Path.{_≡_, sym, _∙_}
 use native.Mathlib.Omega.{arith}

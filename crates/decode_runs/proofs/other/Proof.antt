@@ -1,4 +1,4 @@
--- `letters::other` meets its contract. Assumes nothing.
+-- `other` meets its contract. Assumes nothing.
 use Prim.Native.Nat.{_+_, _-_, _*_, _≤_}
 use native.Mathlib.Omega.{arith}
 use lib.ListN.{length}

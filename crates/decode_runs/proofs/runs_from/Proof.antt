@@ -1,4 +1,4 @@
--- `letters::runs_from` meets its contract. The invariant: what was run so far. Assumes nothing.
+-- `runs_from` meets its contract. The invariant: what was run so far. Assumes nothing.
 use Prim.Native.Nat.{_-_}
 use mathlib.Core.Path.{refl, sym, _∙_}
 use native.Mathlib.Omega.{arith}

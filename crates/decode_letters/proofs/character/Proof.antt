@@ -1,0 +1,66 @@
+-- `character` meets its contract, by the byte. Assumes nothing.
+use mathlib.Core.Path.{refl}
+use native.Mathlib.Omega.{arith}
+use Rattle.decode_letters.proofs.Spelling.{graphic-is, reads-space, reads-newline}
+use borrow.Author.Needs.{needs}
+use Rattle.decode_letters.proofs.character.Statement.{statement}
+use Rattle.decode_letters.proofs.character.Tie as tie
+
+shared-slice-read-match : tie.Need-shared-slice-read-match
+shared-slice-read-match c = search needs
+
+space-requires : tie.Need-space-requires
+space-requires c κs = search needs
+
+graphic-requires : tie.Need-graphic-requires
+graphic-requires c κs =
+    let entry = c .before .before .before .before .before .before in
+    (entry .pre .0, entry .pre .1, graphic-is _ (omega arith) (omega arith) (omega arith))
+
+graphic-requires-2 : tie.Need-graphic-requires-2
+graphic-requires-2 c κs =
+    let entry = c .before .before .before .before .before .before .before .before in
+    (entry .pre .0, entry .pre .1, graphic-is _ (omega arith) (omega arith) (omega (arith, c .before .before .before .before .before .before .shared-slice-known2 .given (entry .args .i))))
+
+returns : tie.Need-returns
+returns c =
+    let entry = c .before .before .before .before .before in
+    let a = entry .args in
+    λ f. reads-space (a .cells .now) (a .b .now) (a .i) (a .to) (a .sets) (entry .pre .0) (c .before .match .keys1) (c .space .ensures)
+
+returns-2 : tie.Need-returns-2
+returns-2 c =
+    let entry = c .before .before .before .before in
+    let a = entry .args in
+    λ f. reads-newline (a .cells .now) (a .b .now) (a .i) (a .to) (a .sets) (entry .pre .0) (c .match .keys2)
+
+returns-3 : tie.Need-returns-3
+returns-3 c = search needs
+
+returns-4 : tie.Need-returns-4
+returns-4 c = search needs
+
+returns-5 : tie.Need-returns-5
+returns-5 c = λ f. absurd (f refl)
+
+returns-6 : tie.Need-returns-6
+returns-6 c = λ f. absurd (f refl)
+
+returns-7 : tie.Need-returns-7
+returns-7 c = λ f. absurd (f refl)
+
+pub character-spec : {M : Type 1} → statement M
+character-spec =
+    tie.close
+    (tie.spec
+    shared-slice-read-match
+    space-requires
+    graphic-requires
+    graphic-requires-2
+    returns
+    returns-2
+    returns-3
+    returns-4
+    returns-5
+    returns-6
+    returns-7)

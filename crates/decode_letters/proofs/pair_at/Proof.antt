@@ -1,0 +1,85 @@
+-- `pair_at` meets its contract. Assumes nothing.
+use Prim.Native.Nat.{_+_, _<_}
+use mathlib.Core.Path.{refl, sym, _∙_}
+use native.Mathlib.Omega.{arith}
+use lib.ListN.{getD}
+use Rattle.decode_codes.proofs.Laws.{and-left, in-area}
+use borrow.Author.Needs.{needs}
+use Rattle.decode_letters.proofs.pair_at.Statement.{statement}
+use Rattle.decode_letters.proofs.pair_at.Tie as tie
+
+add-if1 : tie.Need-add-if1
+add-if1 c = search needs
+
+returns : tie.Need-returns
+returns c = λ f. absurd (f refl)
+
+shared-slice-read-x : tie.Need-shared-slice-read-x
+shared-slice-read-x c = search needs
+
+add-y : tie.Need-add-y
+add-y c = search needs
+
+shared-slice-read-y : tie.Need-shared-slice-read-y
+shared-slice-read-y c = search needs
+
+is-second-requires : tie.Need-is-second-requires
+is-second-requires c κs = search needs
+
+sub-row : tie.Need-sub-row
+sub-row c =
+    let entry = c .before .before .before .before .before .before .before in
+    let a = entry .args in
+    let x : getD (a .b .now) (a .i) 0 < 256 = omega (arith, c .before .before .before .before .before .shared-slice-known2 .given (a .i)) in
+    omega (arith, in-area _ x (entry .pre .2) .low)
+
+sub-cell : tie.Need-sub-cell
+sub-cell c =
+    let a = c .before .before .before .before .before .before .before .args in
+    let y : getD (a .b .now) (a .i + 1) 0 < 256 = omega (arith, c .before .before .before .before .before .shared-slice-known2 .given (a .i + 1)) in
+    omega (arith, in-area _ y (and-left _ _ (sym (c .before .is-second .ensures) ∙ c .if2 .taken)) .low)
+
+cell-at-requires : tie.Need-cell-at-requires
+cell-at-requires c κs = search needs
+
+spacing-requires : tie.Need-spacing-requires
+spacing-requires c κs = search needs
+
+returns-2 : tie.Need-returns-2
+returns-2 c =
+    let second = c .before .before .before in
+    let first = second .before .before .before in
+    let pre = first .before .before .before .pre in
+    λ f.
+    let w = c .spacing .ensures _ (c .before .cell-at .ensures) f in
+    (
+      first .if1 .left,
+      record {
+        two = omega (arith, first .if1 .left, pre .1);
+        first = pre .2;
+        second = sym (second .is-second .ensures) ∙ c .before .before .if2 .taken;
+        has = w .0;
+        some = f;
+        spacing = w .1;
+      },
+    )
+
+returns-3 : tie.Need-returns-3
+returns-3 c = λ f. absurd (f refl)
+
+pub pair-at-spec : {M : Type 1} → statement M
+pair-at-spec =
+    tie.close
+    (tie.spec
+    add-if1
+    returns
+    shared-slice-read-x
+    add-y
+    shared-slice-read-y
+    is-second-requires
+    sub-row
+    sub-cell
+    cell-at-requires
+    spacing-requires
+    returns-2
+    returns-3)

@@ -1,0 +1,57 @@
+-- What is promised of a character that is written as it stands.
+use Prim.Native.Nat.{ℕ, _+_, _-_, _*_, _/_, _%_, _≤_, _<_}
+use mathlib.Core.Path.{_≡_}
+use mathlib.Core.Bool.{true, false, _&&_}
+use mathlib.Core.List.{List, []}
+use lib.Dec.{eqb}
+use lib.ListN.{length, drop, getD}
+use Rattle.tables.specs.Kanji.{nonSpacing, isMark}
+use Rattle.utf8.specs.Utf8.{utf8}
+use Rattle.decode_output.specs.Output.{emit}
+use Rattle.reading.specs.State.{Given, State, took, writes, isNarrow}
+use Rattle.reading.specs.Macros.{Run}
+use Rattle.reading.specs.Characters.{isGraphic}
+use Rattle.reading.specs.Steps.{step}
+use Rattle.decode_codes.specs.Codes.{cellAt}
+use Rattle.decode_letters.specs.declared.Invoked.{Invoked}
+
+-- r, where it is not 0, is the character x of a cell, and no mark
+abbrev pub Spacing : ℕ → ℕ → Type 0
+Spacing x r = (r ≡ 0 → ⊥) → (x ≡ r) × (isMark nonSpacing r ≡ false)
+
+-- the bytes i and i + 1 of b are a code of a two-byte set ("A two-byte character needs its second byte in the same half"), at which the set z has
+-- the character c, no mark
+pub record Pair (cells b : List ℕ) (i z c : ℕ) : Type 0 where
+  pub two : i + 1 < length b
+  pub first : isGraphic (getD b i 0) ≡ true
+  pub second : (isGraphic (getD b (i + 1) 0) && eqb (getD b i 0 / 128) (getD b (i + 1) 0 / 128)) ≡ true
+  pub has : cellAt cells z (getD b i 0 % 128 - 0x20) (getD b (i + 1) 0 % 128 - 0x20) ≡ c
+  pub some : c ≡ 0 → ⊥
+  pub spacing : isMark nonSpacing c ≡ false
+
+-- such a character of the Kanji set, from U+3000 to U+FFFF: three bytes
+pub record Ideograph (cells b : List ℕ) (i c : ℕ) : Type 0 where
+  pub pair : Pair cells b i 0 c
+  pub low : 0x3000 ≤ c
+  pub high : c < 0x10000
+
+-- what is known of a state: the sets in GL and GR are those of v, it says whether alphanumerics are narrow, and nothing waits
+pub record Sees (v : Invoked) (g : Given) (s : State) : Type 0 where
+  pub gl : v .gl ≡ getD (s .sets) (s .gl) 0
+  pub gr : v .gr ≡ getD (s .sets) (s .gr) 0
+  pub narrow : v .narrow ≡ isNarrow g s
+  pub marks : s .out .marks ≡ []
+  pub marks-at : s .out .marksAt ≡ 0
+  pub repeat : s .out .repeat ≡ 0
+
+-- the step at the byte j of b takes u bytes and writes the character l
+abbrev pub Spells : List ℕ → List ℕ → ℕ → Invoked → ℕ → ℕ → Type 0
+Spells cells b j v u l = (g : Given) → g .cells ≡ cells → (left : ℕ) (R : Run) (place at : ℕ) (s : State) → Sees v g s
+    → took u (writes (emit l) s) ≡ step g left R (getD b j 0) (drop (j + 1) b) place at s
+
+-- that character's bytes are before the byte `to`, and it is at most three bytes of text for each
+pub record Reads (cells b : List ℕ) (j to : ℕ) (v : Invoked) (u l : ℕ) : Type 0 where
+  pub some : 1 ≤ u
+  pub within : j + u ≤ to
+  pub most : length (utf8 l) ≤ 3 * u
+  pub spells : Spells cells b j v u l
