@@ -10,17 +10,17 @@ use lib.Dec.{eqb, leb}
 use lib.ListN.{length, drop, getD, drop-of-length-le}
 use Rattle.sets.specs.Sets.{bytesPerChar}
 use Rattle.addsym.specs.Symbols.{symbol}
-use Rattle.tables.specs.OneByte.{fullwidthOf, oneByteAt}
-use Rattle.tables.specs.Kanji.{cellOf, nonSpacing, isMark, kanjiAt}
+use Rattle.tables_onebyte.specs.OneByte.{fullwidthOf, oneByteAt}
+use Rattle.tables.specs.Kanji.{cellOf, nonSpacing, hasCharacter, kanjiAt}
 use Rattle.tables.specs.declared.Cell.the-variants.{Char, Undefined}
-use Rattle.tables.specs.declared.OneByteTable.the-variants.{Alphanumeric}
+use Rattle.tables_onebyte.specs.declared.OneByteTable.the-variants.{Alphanumeric}
 use Rattle.issues.specs.declared.IssueKind.{IssueKind}
 use Rattle.issues.specs.declared.IssueKind.the-variants.{UndefinedCode, UnsupportedCode, Drcs, LoneSingleShift}
 use Rattle.decode_output.specs.Output.{emit, mark}
 use Rattle.reading.specs.State.{Given, State, took, issue, placeholder, truncated, writes, isNarrow}
 use Rattle.reading.specs.Macros.{Run}
 use Rattle.reading.specs.Characters.{isGraphic, emitOr, cellOr, char1, char2, letter, mosaic, graphic2, graphicOf, graphic, singleShift}
-use Rattle.tables.proofs.OneByteLaws.{fullwidth-at}
+use Rattle.tables_onebyte.proofs.OneByteLaws.{fullwidth-at}
 use Rattle.decode_state.specs.declared.Core.{Core}
 use Rattle.decode_state.specs.Contracts.{whole, Holds}
 use Rattle.decode_state.proofs.Steps.{drop-one}
@@ -61,11 +61,11 @@ module _ (kind : IssueKind) (at : ℕ) (s : State) where
   unfolding cellOr
   cell-undefined x e = rw (cell-none x e)
 
-  pub cell-mark : (x c : ℕ) → Char c ≡ cellOf x → isMark nonSpacing c ≡ true → writes (mark c at) s ≡ cellOr kind x at s
+  pub cell-mark : (x c : ℕ) → Char c ≡ cellOf x → hasCharacter nonSpacing c ≡ true → writes (mark c at) s ≡ cellOr kind x at s
   unfolding cellOr
   cell-mark x c e m = rw (cell-some x c e .same, m)
 
-  pub cell-char : (x c : ℕ) → Char c ≡ cellOf x → isMark nonSpacing c ≡ false → writes (emit c) s ≡ cellOr kind x at s
+  pub cell-char : (x c : ℕ) → Char c ≡ cellOf x → hasCharacter nonSpacing c ≡ false → writes (emit c) s ≡ cellOr kind x at s
   unfolding cellOr
   cell-char x c e m = let f = cell-some x c e in rw (f .same, m) (emit-some c (f .some))
 

@@ -4,7 +4,7 @@ use decode_state::Core;
 use decode_state::Stepped;
 use issues::IssueKind;
 use tables::Cell;
-use tables::OneByteChar;
+use tables_onebyte::OneByteChar;
 ghost use mathlib.Core.Path.{_≡_};
 ghost use mathlib.Core.Bool.{true, _||_, _&&_};
 ghost use Prim.Native.Nat.{ℕ, _+_, _*_, _/_, _≤_, _<_};
@@ -13,7 +13,7 @@ ghost use lib.Dec.{eqb};
 ghost use lib.ListN.{length, drop, getD};
 ghost use Rattle.sets.specs.Sets.{bytesPerChar};
 ghost use Rattle.tables.specs.Kanji.{cellOf};
-ghost use Rattle.tables.specs.OneByte.{oneByteOf};
+ghost use Rattle.tables_onebyte.specs.OneByte.{oneByteOf};
 ghost use Rattle.decode_output.specs.Output.{emit, mark};
 ghost use Rattle.reading.specs.State.{issue, placeholder, truncated, writes};
 ghost use Rattle.reading.specs.Macros.{Run};
@@ -296,11 +296,11 @@ pub fn scalar(answer: OneByteChar) -> u32
 pub fn alphanumeric_at(narrow: bool, c: u8) -> u32
     ensures { λ r. ⌜ r ≡ letter narrow 1 c ⌝ }
 {
-    let half = scalar(tables::alphanumeric(c));
+    let half = scalar(tables_onebyte::alphanumeric(c));
     if narrow {
         return half;
     }
-    tables::fullwidth(half)
+    tables_onebyte::fullwidth(half)
 }
 
 /// The character of a one-byte set other than mosaic, macro and DRCS, 0 for none. Tables 7-5, 7-6, 7-7 and 7-9.
@@ -309,12 +309,12 @@ pub fn letter_at(narrow: bool, set: u8, c: u8) -> u32
 {
     match set {
         1 => alphanumeric_at(narrow, c),
-        2 => scalar(tables::hiragana(c)),
-        3 => scalar(tables::katakana(c)),
+        2 => scalar(tables_onebyte::hiragana(c)),
+        3 => scalar(tables_onebyte::katakana(c)),
         8 => alphanumeric_at(narrow, c),
-        9 => scalar(tables::hiragana(c)),
-        10 => scalar(tables::katakana(c)),
-        11 => scalar(tables::jis_x0201_katakana(c)),
+        9 => scalar(tables_onebyte::hiragana(c)),
+        10 => scalar(tables_onebyte::katakana(c)),
+        11 => scalar(tables_onebyte::jis_x0201_katakana(c)),
         _ => 0,
     }
 }

@@ -7,7 +7,7 @@ use mathlib.Core.Logic.{_⊎_}
 use lib.Dec.{eqb}
 use lib.ListN.{length, take, drop, getD}
 use Rattle.addsym.specs.Symbols.{symbol}
-use Rattle.tables.specs.Kanji.{nonSpacing, isMark, kanjiAt}
+use Rattle.tables.specs.Kanji.{nonSpacing, hasCharacter, kanjiAt}
 use Rattle.utf8.specs.Utf8.{utf8}
 use Rattle.decode_output.specs.Output.{emit}
 use Rattle.reading.specs.State.{Given, State, took, writes, isNarrow}
@@ -21,12 +21,12 @@ use Rattle.decode_settings.specs.Contracts.{Fine}
 
 -- r, where it is not 0, is the character x of a cell, and no mark
 abbrev pub Spacing : ℕ → ℕ → Type 0
-Spacing x r = (r ≡ 0 → ⊥) → (x ≡ r) × (isMark nonSpacing r ≡ false)
+Spacing x r = (r ≡ 0 → ⊥) → (x ≡ r) × (hasCharacter nonSpacing r ≡ false)
 
 -- the set z, Kanji or the additional symbols, has the character c, no mark, at a row and a cell
 pub record Has (cells : List ℕ) (z row cell c : ℕ) : Type 0 where
   pub some : c ≡ 0 → ⊥
-  pub spacing : isMark nonSpacing c ≡ false
+  pub spacing : hasCharacter nonSpacing c ≡ false
   pub reads : ((z ≡ 0) × (kanjiAt cells row cell ≡ c)) ⊎ ((z ≡ 14) × (symbol row cell ≡ c))
 
 -- the bytes i and i + 1 of b are of one area, and the set z has the character c there

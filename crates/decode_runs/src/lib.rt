@@ -91,8 +91,8 @@ fn letter_at(narrow: bool, set: u8, c: u8) -> u32
 {
     match set {
         1 => decode_characters::alphanumeric_at(narrow, c),
-        2 => decode_characters::scalar(tables::hiragana(c)),
-        3 => decode_characters::scalar(tables::katakana(c)),
+        2 => decode_characters::scalar(tables_onebyte::hiragana(c)),
+        3 => decode_characters::scalar(tables_onebyte::katakana(c)),
         _ => 0,
     }
 }
