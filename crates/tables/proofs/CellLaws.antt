@@ -1,15 +1,15 @@
 -- The lists of marks and overrides one step further, which is what the loops over them go by, and what a place found
 -- says. Assumes nothing.
-use mathlib.Core.Path.{_≡_, refl, sym}
+use mathlib.Core.Path.{_≡_, refl, sym, _∙_}
 use mathlib.Core.Bool.{Bool, true, false, cond}
 use mathlib.Core.List.{List, [], _∷_}
 use Prim.Native.Nat.{ℕ, suc, _+_, _<_, _≤_}
 use native.Mathlib.Numerals.{add-one}
 use native.Mathlib.Omega.{arith}
 use lib.Dec.{eqb, ltb}
-use lib.ListN.{length, getD, drop}
+use lib.ListN.{length, getD, drop, drop-of-length-le}
 use lib.Seq.{drop-cons}
-use borrow.Author.Tests.{eq-eqb, ne-eqb}
+use borrow.Author.Tests.{eq-eqb, ne-eqb, lt-ltb, le-ltb, ltb-true, ltb-false}
 use Rattle.tables.specs.Kanji.{assigned, hasCharacter, cellWith}
 use Rattle.tables.specs.Contracts.{placeWith}
 use Rattle.tables.specs.declared.Assignment.{Assignment}
@@ -43,6 +43,23 @@ module _ (list : List Assignment) (i : ℕ) (h : i < length list) where
     unfolding assigned
     assigned-cell er ec = rw (here, eq-eqb _ _ er, ne-eqb _ _ ec)
 
+-- past the end nothing is left
+module _ (list : List Assignment) (i : ℕ) (h : length list ≤ i) where
+  pub place-end : (c : ℕ) → placeWith (drop i list) c ≡ 0
+  unfolding placeWith
+  place-end c = rw (drop-of-length-le list h)
+
+  pub assigned-end : (row cell x : ℕ) → assigned (drop i list) row cell x ≡ x
+  unfolding assigned
+  assigned-end row cell x = rw (drop-of-length-le list h)
+
+ltb-suc : (a b : ℕ) → ltb (suc a) (suc b) ≡ ltb a b
+ltb-suc a b = go (ltb a b) refl
+  where
+    go : (d : Bool) → ltb a b ≡ d → ltb (suc a) (suc b) ≡ ltb a b
+    go true q = let h = ltb-true a b q in lt-ltb (suc a) (suc b) (omega arith) ∙ sym q
+    go false q = let h = ltb-false a b q in le-ltb (suc a) (suc b) (omega arith) ∙ sym q
+
 -- a character of a list has a place in it
 pub has-place : (list : List Assignment) (c : ℕ) → ltb (placeWith list c) (length list) ≡ hasCharacter list c
 unfolding placeWith hasCharacter
@@ -50,8 +67,8 @@ has-place [] c = refl
 has-place (a ∷ more) c = go (eqb (a .character) c) (has-place more c)
   where
     go : (b : Bool) → ltb (placeWith more c) (length more) ≡ hasCharacter more c → ltb (cond b 0 (suc (placeWith more c))) (suc (length more)) ≡ cond b true (hasCharacter more c)
-    go true e = refl
-    go false e = e
+    go true e = lt-ltb 0 (suc (length more)) (omega arith)
+    go false e = ltb-suc (placeWith more c) (length more) ∙ e
 
 -- and its cell is that of the place
 pub cell-there : (list : List Assignment) (c : ℕ) → placeWith list c < length list → At (getD list (placeWith list c) outside .row) (getD list (placeWith list c) outside .cell) ≡ cellWith list c

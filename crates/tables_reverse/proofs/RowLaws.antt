@@ -12,7 +12,7 @@ use Rattle.base.proofs.Table.{at}
 use Rattle.addsym.specs.Symbols.{rowPlace, symbol, cellIn, SymbolsIn}
 use Rattle.addsym.proofs.Places.{values}
 use Rattle.addsym.proofs.Cells.{symbols-in}
-use Rattle.tables.specs.Kanji.{nonSpacing, kanjiOverrides, assigned, isMark, tableAt, kanjiAt}
+use Rattle.tables.specs.Kanji.{nonSpacing, kanjiOverrides, assigned, hasCharacter, tableAt, kanjiAt}
 use Rattle.tables.specs.declared.Assignment.{Assignment}
 use Rattle.tables.proofs.KanjiLaws.{rows-1-2}
 
@@ -41,19 +41,19 @@ in-part t f n c k h b e r =
     e k (omega (arith, length-take n (drop f t), length-drop f t)) (getD-take n (drop f t) k 0 b ∙ getD-drop f t k 0 ∙ r)
 
 -- a list that assigns no cell the character leaves it to the number below
-pub unassigned : (l : List Assignment) (c row cell x : ℕ) → isMark l c ≡ false → assigned l row cell x ≡ c → x ≡ c
-unfolding isMark assigned
+pub unassigned : (l : List Assignment) (c row cell x : ℕ) → hasCharacter l c ≡ false → assigned l row cell x ≡ c → x ≡ c
+unfolding hasCharacter assigned
 unassigned [] c row cell x e r = r
 unassigned (a ∷ more) c row cell x e r = go (eqb (a .character) c) (eqb (a .row) row && eqb (a .cell) cell) refl e r (unassigned more c row cell x)
   where
-    go : (b d : Bool) → eqb (a .character) c ≡ b → cond b true (isMark more c) ≡ false → cond d (a .character) (assigned more row cell x) ≡ c
-        → (isMark more c ≡ false → assigned more row cell x ≡ c → x ≡ c) → x ≡ c
+    go : (b d : Bool) → eqb (a .character) c ≡ b → cond b true (hasCharacter more c) ≡ false → cond d (a .character) (assigned more row cell x) ≡ c
+        → (hasCharacter more c ≡ false → assigned more row cell x ≡ c → x ≡ c) → x ≡ c
     go true d p z w s = absurd (false≢true (sym z))
     go false true p z w s = absurd (eqb-false (a .character) c p w)
     go false false p z w s = s z w
 
 -- rows 1 and 2, for a character that is neither a mark nor an override's
-pub plain-row : (t : List ℕ) (row cell c : ℕ) → row < 3 → isMark nonSpacing c ≡ false → isMark kanjiOverrides c ≡ false → kanjiAt t row cell ≡ c → tableAt t row cell ≡ c
+pub plain-row : (t : List ℕ) (row cell c : ℕ) → row < 3 → hasCharacter nonSpacing c ≡ false → hasCharacter kanjiOverrides c ≡ false → kanjiAt t row cell ≡ c → tableAt t row cell ≡ c
 unfolding kanjiAt
 plain-row t row cell c h m o e =
     let x = tableAt t row cell in

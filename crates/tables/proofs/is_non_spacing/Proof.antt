@@ -1,0 +1,18 @@
+-- `tables::is_non_spacing` meets its contract. Assumes nothing.
+use mathlib.Core.Path.{ap, _∙_}
+use Prim.Native.Nat.{ℕ}
+use borrow.Author.Needs.{needs}
+use lib.Dec.{ltb}
+use Rattle.tables.specs.Kanji.{nonSpacing}
+use Rattle.tables.proofs.CellLaws.{has-place}
+use Rattle.tables.proofs.is_non_spacing.Statement.{statement}
+use Rattle.tables.proofs.is_non_spacing.Tie as tie
+
+place-with-requires : tie.Need-place-with-requires
+place-with-requires c κs = search needs
+
+returns : tie.Need-returns
+returns c = ap (λ (n : ℕ). ltb n 7) (c .place-with .ensures) ∙ has-place nonSpacing (c .before .args .c)
+
+pub is-non-spacing-spec : {M : Type 1} → statement M
+is-non-spacing-spec = tie.close (tie.spec place-with-requires returns)
