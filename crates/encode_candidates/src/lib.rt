@@ -9,9 +9,9 @@ ghost use Rattle.tables_onebyte.specs.Reverse.{oneByteReverse};
 ghost use Rattle.coding.specs.Candidates.{plain, ofCode, fullwidth, when, letters, shortest};
 ghost use Rattle.encode_states.specs.Packed.{setOf};
 ghost use Rattle.encode_candidates.specs.Packed.{packed, candOf, candsOf, Fits, Good, Adds, AddsCell, StandsFor, Stands};
+use tables::Place;
 use tables_onebyte::Code;
 use tables_onebyte::OneByteTable;
-use tables::Place;
 
 /// Candidates in the order of trial: a set's code (0 to 6: Kanji, Alphanumeric, Hiragana, Katakana, JisX0201Katakana,
 /// AdditionalSymbols, Macro; 7: none, for SP and APR), a code in GL form (one byte, or row byte × 256 + cell byte) and a

@@ -8,7 +8,6 @@ ghost use Rattle.base.specs.First.{firstFrom};
 ghost use Rattle.addsym.specs.Symbols.{symbol};
 ghost use Rattle.tables.specs.Kanji.{tableAt, kanjiAt};
 ghost use Rattle.tables_reverse.specs.Reverse.{kanjiReverse, additionalReverse, placeOf, kanjiPlace};
-
 use tables::Place;
 
 /// Whether one of the numbers is `c`. There is no early way out, so that several are compared at a time; so in
