@@ -1,3 +1,4 @@
 pub mod Table
 pub mod Every
 pub mod Tests
+pub mod FirstLaws

@@ -6,12 +6,13 @@ use lib.Dec.{eqb}
 use lib.ListN.{length}
 use Rattle.base.specs.Lists.{when}
 use Rattle.control.specs.Codes.{APR, SP}
-use Rattle.tables.specs.Kanji.{nonSpacing, isMark, cellWith}
-use Rattle.tables.specs.Reverse.{oneByteReverse, kanjiReverse, additionalReverse}
-use Rattle.tables.specs.declared.OneByteTable.{OneByteTable}
-use Rattle.tables.specs.declared.OneByteTable.the-variants.{Alphanumeric, Fullwidth, Hiragana, Katakana, JisX0201Katakana}
-use Rattle.tables.specs.declared.Code.{Code}
-use Rattle.tables.specs.declared.Code.the-variants.{Gl, Nothing}
+use Rattle.tables.specs.Kanji.{nonSpacing, hasCharacter, cellWith}
+use Rattle.tables_onebyte.specs.Reverse.{oneByteReverse}
+use Rattle.tables_reverse.specs.Reverse.{kanjiReverse, additionalReverse}
+use Rattle.tables_onebyte.specs.declared.OneByteTable.{OneByteTable}
+use Rattle.tables_onebyte.specs.declared.OneByteTable.the-variants.{Alphanumeric, Fullwidth, Hiragana, Katakana, JisX0201Katakana}
+use Rattle.tables_onebyte.specs.declared.Code.{Code}
+use Rattle.tables_onebyte.specs.declared.Code.the-variants.{Gl, Nothing}
 use Rattle.tables.specs.declared.Place.{Place}
 use Rattle.tables.specs.declared.Place.the-variants.{At, Nowhere}
 
@@ -55,11 +56,11 @@ letters cells annexE c =
 
 -- `candidates`: a newline is APR, and a mark is coded by its own cell of the seven
 unfoldable pub candidates : List ℕ → Bool → ℕ → List Cand
-unfolding letters ofPlace isMark cellWith
+unfolding letters ofPlace hasCharacter cellWith
 candidates cells annexE c =
     elim (eqb c 10) [
       | true ↦ plain APR either ∷ []
-      | false ↦ elim (isMark nonSpacing c) [ true ↦ ofPlace 0 either (cellWith nonSpacing c) | false ↦ letters cells annexE c ]
+      | false ↦ elim (hasCharacter nonSpacing c) [ true ↦ ofPlace 0 either (cellWith nonSpacing c) | false ↦ letters cells annexE c ]
     ]
 
 -- those of each character

@@ -5,7 +5,7 @@ use mathlib.Core.List.{List, [], _∷_}
 use mathlib.Core.Option.{Option, none, some}
 use lib.Dec.{eqb}
 use lib.ListN.{length}
-use Rattle.tables.specs.Kanji.{nonSpacing, isMark}
+use Rattle.tables.specs.Kanji.{nonSpacing, hasCharacter}
 use Rattle.utf8.specs.Utf8.{utf8, scalars}
 
 -- a character, and the place of its first byte in the text
@@ -26,9 +26,9 @@ tokens text = placed 0 (scalars text)
 
 -- "Marks move before their base, order kept": the characters after the base b, and b
 unfoldable pub ordered : Token → List Token → List Token
-unfolding isMark
+unfolding hasCharacter
 ordered b [] = b ∷ []
-ordered b (t ∷ ts) = cond (isMark nonSpacing (t .char)) (t ∷ ordered b ts) (b ∷ ordered t ts)
+ordered b (t ∷ ts) = cond (hasCharacter nonSpacing (t .char)) (t ∷ ordered b ts) (b ∷ ordered t ts)
 
 unfoldable pub inOrder : List Token → List Token
 unfolding ordered
@@ -41,10 +41,10 @@ chars (t ∷ ts) = t .char ∷ chars ts
 
 -- "Has each mark a base after the last newline?": the place of the first that has none, where there is a base or not before the list
 unfoldable pub baseless : Bool → List Token → Option ℕ
-unfolding isMark
+unfolding hasCharacter
 baseless base [] = none
 baseless base (t ∷ ts) =
-    elim (isMark nonSpacing (t .char)) [
+    elim (hasCharacter nonSpacing (t .char)) [
       | true ↦ elim base [ true ↦ baseless true ts | false ↦ some (t .place) ]
       | false ↦ baseless (not (eqb (t .char) 10)) ts
     ]

@@ -8,7 +8,7 @@ use borrow.Author.Tests.{ne-eqb, le-leb, lt-leb}
 use native.Mathlib.Numerals.{add-one}
 use lib.Dec.{eqb}
 use lib.ListN.{length, drop, getD, drop-of-length-le}
-use Rattle.tables.specs.Kanji.{cellOf, nonSpacing, isMark}
+use Rattle.tables.specs.Kanji.{cellOf, nonSpacing, hasCharacter}
 use Rattle.tables.specs.declared.Cell.the-variants.{Char, Undefined}
 use Rattle.issues.specs.declared.IssueKind.{IssueKind}
 use Rattle.issues.specs.declared.IssueKind.the-variants.{Drcs, LoneSingleShift}
@@ -32,11 +32,11 @@ module _ (kind : IssueKind) (at : ℕ) (s : State) where
   unfolding cellOr
   cell-undefined x e = rw (cell-none x e)
 
-  pub cell-mark : (x c : ℕ) → Char c ≡ cellOf x → isMark nonSpacing c ≡ true → writes (mark c at) s ≡ cellOr kind x at s
+  pub cell-mark : (x c : ℕ) → Char c ≡ cellOf x → hasCharacter nonSpacing c ≡ true → writes (mark c at) s ≡ cellOr kind x at s
   unfolding cellOr
   cell-mark x c e m = rw (cell-some x c e .same, m)
 
-  pub cell-char : (x c : ℕ) → Char c ≡ cellOf x → isMark nonSpacing c ≡ false → writes (emit c) s ≡ cellOr kind x at s
+  pub cell-char : (x c : ℕ) → Char c ≡ cellOf x → hasCharacter nonSpacing c ≡ false → writes (emit c) s ≡ cellOr kind x at s
   unfolding cellOr
   cell-char x c e m = let f = cell-some x c e in rw (f .same, m) (emit-some kind at s c (f .some))
 

@@ -9,17 +9,17 @@ use lib.Dec.{eqb, leb}
 use lib.ListN.{length, drop, getD}
 use Rattle.sets.specs.Sets.{bytesPerChar}
 use Rattle.addsym.specs.Symbols.{symbol}
-use Rattle.tables.specs.OneByte.{fullwidthOf, oneByteAt}
+use Rattle.tables_onebyte.specs.OneByte.{fullwidthOf, oneByteAt}
 use Rattle.tables.specs.Kanji.{cellOf, kanjiAt}
 use Rattle.tables.specs.declared.Cell.the-variants.{Char, Undefined}
-use Rattle.tables.specs.declared.OneByteTable.the-variants.{Alphanumeric}
+use Rattle.tables_onebyte.specs.declared.OneByteTable.the-variants.{Alphanumeric}
 use Rattle.issues.specs.declared.IssueKind.{IssueKind}
 use Rattle.issues.specs.declared.IssueKind.the-variants.{UndefinedCode, UnsupportedCode, Drcs}
 use Rattle.decode_output.specs.Output.{emit}
 use Rattle.reading.specs.State.{Given, State, took, placeholder, writes, isNarrow}
 use Rattle.reading.specs.Macros.{Run}
 use Rattle.reading.specs.Characters.{isGraphic, emitOr, cellOr, char1, char2, letter, graphic2, graphicOf}
-use Rattle.tables.proofs.OneByteLaws.{fullwidth-at}
+use Rattle.tables_onebyte.proofs.OneByteLaws.{fullwidth-at}
 use Rattle.decode_state.proofs.Steps.{drop-one}
 use Rattle.decode_codes.specs.Codes.{cellAt, issueOf}
 

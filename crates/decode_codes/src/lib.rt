@@ -2,14 +2,14 @@
 // From `char1` and `char2` of decode.rs. Sets are 01's numbers, codes are in GL form.
 use issues::IssueKind;
 use tables::Cell;
-use tables::OneByteChar;
+use tables_onebyte::OneByteChar;
 ghost use mathlib.Core.Path.{_≡_};
 ghost use mathlib.Core.Bool.{_||_, _&&_};
 ghost use Prim.Native.Nat.{ℕ, _+_, _*_, _/_};
 ghost use lib.Dec.{eqb};
 ghost use Rattle.sets.specs.Sets.{bytesPerChar};
 ghost use Rattle.tables.specs.Kanji.{cellOf};
-ghost use Rattle.tables.specs.OneByte.{oneByteOf};
+ghost use Rattle.tables_onebyte.specs.OneByte.{oneByteOf};
 ghost use Rattle.reading.specs.Characters.{isGraphic, letter};
 ghost use Rattle.decode_codes.specs.Codes.{cellAt, issueOf};
 
@@ -70,11 +70,11 @@ pub fn scalar(answer: OneByteChar) -> u32
 pub fn alphanumeric_at(narrow: bool, c: u8) -> u32
     ensures { λ r. ⌜ r ≡ letter narrow 1 c ⌝ }
 {
-    let half = scalar(tables::alphanumeric(c));
+    let half = scalar(tables_onebyte::alphanumeric(c));
     if narrow {
         return half;
     }
-    tables::fullwidth(half)
+    tables_onebyte::fullwidth(half)
 }
 
 /// The character of a one-byte set other than mosaic, macro and DRCS, 0 for none. Tables 7-5, 7-6, 7-7 and 7-9.
@@ -83,12 +83,12 @@ pub fn letter_at(narrow: bool, set: u8, c: u8) -> u32
 {
     match set {
         1 => alphanumeric_at(narrow, c),
-        2 => scalar(tables::hiragana(c)),
-        3 => scalar(tables::katakana(c)),
+        2 => scalar(tables_onebyte::hiragana(c)),
+        3 => scalar(tables_onebyte::katakana(c)),
         8 => alphanumeric_at(narrow, c),
-        9 => scalar(tables::hiragana(c)),
-        10 => scalar(tables::katakana(c)),
-        11 => scalar(tables::jis_x0201_katakana(c)),
+        9 => scalar(tables_onebyte::hiragana(c)),
+        10 => scalar(tables_onebyte::katakana(c)),
+        11 => scalar(tables_onebyte::jis_x0201_katakana(c)),
         _ => 0,
     }
 }

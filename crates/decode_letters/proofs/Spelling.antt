@@ -10,10 +10,10 @@ use lib.ListN.{length, drop, getD, set, replicate}
 use lib.Seq.{sets}
 use Rattle.base.proofs.Table.{every, at}
 use Rattle.sets.specs.Sets.{bytesPerChar}
-use Rattle.tables.specs.OneByte.{oneByteAt}
-use Rattle.tables.specs.Kanji.{nonSpacing, isMark, kanjiAt}
-use Rattle.tables.specs.declared.OneByteTable.{OneByteTable}
-use Rattle.tables.specs.declared.OneByteTable.the-variants.{Alphanumeric, Fullwidth, Hiragana, Katakana, JisX0201Katakana}
+use Rattle.tables_onebyte.specs.OneByte.{oneByteAt}
+use Rattle.tables.specs.Kanji.{nonSpacing, hasCharacter, kanjiAt}
+use Rattle.tables_onebyte.specs.declared.OneByteTable.{OneByteTable}
+use Rattle.tables_onebyte.specs.declared.OneByteTable.the-variants.{Alphanumeric, Fullwidth, Hiragana, Katakana, JisX0201Katakana}
 use Rattle.issues.specs.declared.IssueKind.{IssueKind}
 use Rattle.issues.specs.declared.IssueKind.the-variants.{UndefinedCode}
 use Rattle.decode_output.specs.Output.{Output, times, emit, newline}
@@ -186,7 +186,7 @@ module _ (cells b : List ℕ) (j : ℕ) (v : Invoked) {z : ℕ} (byte : getD b j
       ∙ ap (λ (k : ℕ). graphicOf g left R k x (drop (j + 1) b) at s) (set-seen g s h)
       ∙ sym (step-graphic x (w .low) (w .high) byte g left R (drop (j + 1) b) place at s)
 
-  shown : (kind : IssueKind) (c at : ℕ) (s : State) → isMark nonSpacing c ≡ false → (c ≡ 0 → ⊥) → writes (emit c) s ≡ cellOr kind c at s
+  shown : (kind : IssueKind) (c at : ℕ) (s : State) → hasCharacter nonSpacing c ≡ false → (c ≡ 0 → ⊥) → writes (emit c) s ≡ cellOr kind c at s
   unfolding cellOr
   shown kind c at s m f = rw m (emit-some kind at s c f)
 
@@ -264,8 +264,8 @@ module _ (cells b : List ℕ) (j to : ℕ) (v : Invoked) (inside : j < to) where
 
 -- ---- ideographs
 
-no-mark : (c : ℕ) → 0x3000 ≤ c → isMark nonSpacing c ≡ false
-unfolding isMark
+no-mark : (c : ℕ) → 0x3000 ≤ c → hasCharacter nonSpacing c ≡ false
+unfolding hasCharacter
 no-mark c h =
     rw (
       ne-eqb 0x301 c (λ q. omega arith),

@@ -5,7 +5,7 @@ use mathlib.Core.Bool.{true, false, _&&_}
 use mathlib.Core.List.{List, []}
 use lib.Dec.{eqb}
 use lib.ListN.{length, drop, getD}
-use Rattle.tables.specs.Kanji.{nonSpacing, isMark}
+use Rattle.tables.specs.Kanji.{nonSpacing, hasCharacter}
 use Rattle.utf8.specs.Utf8.{utf8}
 use Rattle.decode_output.specs.Output.{emit}
 use Rattle.reading.specs.State.{Given, State, took, writes, isNarrow}
@@ -17,7 +17,7 @@ use Rattle.decode_letters.specs.declared.Invoked.{Invoked}
 
 -- r, where it is not 0, is the character x of a cell, and no mark
 abbrev pub Spacing : ℕ → ℕ → Type 0
-Spacing x r = (r ≡ 0 → ⊥) → (x ≡ r) × (isMark nonSpacing r ≡ false)
+Spacing x r = (r ≡ 0 → ⊥) → (x ≡ r) × (hasCharacter nonSpacing r ≡ false)
 
 -- the bytes i and i + 1 of b are a code of a two-byte set ("A two-byte character needs its second byte in the same half"), at which the set z has
 -- the character c, no mark
@@ -27,7 +27,7 @@ pub record Pair (cells b : List ℕ) (i z c : ℕ) : Type 0 where
   pub second : (isGraphic (getD b (i + 1) 0) && eqb (getD b i 0 / 128) (getD b (i + 1) 0 / 128)) ≡ true
   pub has : cellAt cells z (getD b i 0 % 128 - 0x20) (getD b (i + 1) 0 % 128 - 0x20) ≡ c
   pub some : c ≡ 0 → ⊥
-  pub spacing : isMark nonSpacing c ≡ false
+  pub spacing : hasCharacter nonSpacing c ≡ false
 
 -- such a character of the Kanji set, from U+3000 to U+FFFF: three bytes
 pub record Ideograph (cells b : List ℕ) (i c : ℕ) : Type 0 where

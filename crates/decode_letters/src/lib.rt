@@ -78,8 +78,8 @@ pub fn initial_at(narrow: bool, set: u8, c: u8) -> u32
 {
     match set {
         1 => decode_codes::alphanumeric_at(narrow, c),
-        2 => decode_codes::scalar(tables::hiragana(c)),
-        3 => decode_codes::scalar(tables::katakana(c)),
+        2 => decode_codes::scalar(tables_onebyte::hiragana(c)),
+        3 => decode_codes::scalar(tables_onebyte::katakana(c)),
         _ => 0,
     }
 }

@@ -4,7 +4,7 @@ use mathlib.Core.Path.{_≡_}
 use mathlib.Core.Bool.{Bool}
 use mathlib.Core.List.{List, []}
 use lib.ListN.{length, getD}
-use Rattle.tables.specs.Reverse.{kanjiReverse, additionalReverse}
+use Rattle.tables_reverse.specs.Reverse.{kanjiReverse, additionalReverse}
 use Rattle.coding.specs.Candidates.{Cand, candidates}
 use Rattle.coding.specs.Search.{begin, run}
 use Rattle.encode_candidates.specs.Packed.{packed, FitsAt}

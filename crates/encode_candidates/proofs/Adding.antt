@@ -10,10 +10,10 @@ use lib.Dec.{ltb}
 use lib.ListN.{length, getD, set, replicate, length-set}
 use lib.Seq.{getD-set-same, getD-set-other}
 use borrow.Author.Tests.{ltb-true, ltb-false, lt-ltb, le-ltb, ne-eqb}
-use Rattle.tables.specs.Reverse.{kanjiReverse, additionalReverse}
+use Rattle.tables_reverse.specs.Reverse.{kanjiReverse, additionalReverse}
 use Rattle.tables.specs.declared.Place.{Place}
 use Rattle.tables.specs.declared.Place.the-variants.{At, Nowhere}
-use Rattle.tables.proofs.Laws.{kanji-found, additional-found}
+use Rattle.tables_reverse.proofs.Laws.{kanji-found, additional-found}
 use Rattle.coding.specs.Candidates.{Cand, graphic, ofPlace}
 use Rattle.encode_states.specs.Packed.{setOf}
 use Rattle.encode_candidates.specs.declared.Cands.{Cands}

@@ -6,7 +6,7 @@ use Prim.Native.Nat.{ℕ, _+_, _*_, _≤_}
 use native.Mathlib.Omega.{arith}
 use lib.Dec.{T, eqb, leb, leb→le}
 use borrow.Author.Tests.{eq-eqb, ne-eqb}
-use Rattle.tables.specs.Kanji.{nonSpacing, isMark, cellWith}
+use Rattle.tables.specs.Kanji.{nonSpacing, hasCharacter, cellWith}
 use Rattle.tables.specs.declared.Assignment.{Assignment}
 use Rattle.tables.specs.declared.Place.{Place}
 use Rattle.tables.specs.declared.Place.the-variants.{At, Nowhere}
@@ -35,12 +35,12 @@ found (At a b) = true
 
 module _ (c : ℕ) where
   -- a mark is a character that a cell is found for
-  mark-found : (l : List Assignment) → isMark l c ≡ found (cellWith l c)
-  unfolding isMark cellWith
+  mark-found : (l : List Assignment) → hasCharacter l c ≡ found (cellWith l c)
+  unfolding hasCharacter cellWith
   mark-found [] = refl
   mark-found (a ∷ more) = go (eqb (a .character) c) (mark-found more)
     where
-      go : (b : Bool) → isMark more c ≡ found (cellWith more c) → cond b true (isMark more c) ≡ found (cond b (At (a .row) (a .cell)) (cellWith more c))
+      go : (b : Bool) → hasCharacter more c ≡ found (cellWith more c) → cond b true (hasCharacter more c) ≡ found (cond b (At (a .row) (a .cell)) (cellWith more c))
       go true e = refl
       go false e = e
 
@@ -63,19 +63,19 @@ module _ (c : ℕ) where
   pub mark-grid : OnGrid (cellWith nonSpacing c)
   mark-grid = with-grid nonSpacing tt
 
-  pub is-mark : (packed (cellWith nonSpacing c) ≡ 0 → ⊥) → isMark nonSpacing c ≡ true
+  pub is-mark : (packed (cellWith nonSpacing c) ≡ 0 → ⊥) → hasCharacter nonSpacing c ≡ true
   unfolding packed
   is-mark n = go (cellWith nonSpacing c) refl
     where
-      go : (p : Place) → cellWith nonSpacing c ≡ p → isMark nonSpacing c ≡ true
+      go : (p : Place) → cellWith nonSpacing c ≡ p → hasCharacter nonSpacing c ≡ true
       go Nowhere e = absurd (n (ap packed e))
       go (At a b) e = mark-found nonSpacing ∙ ap found e
 
-  pub no-mark : packed (cellWith nonSpacing c) ≡ 0 → isMark nonSpacing c ≡ false
+  pub no-mark : packed (cellWith nonSpacing c) ≡ 0 → hasCharacter nonSpacing c ≡ false
   unfolding packed OnGrid
   no-mark z = go (cellWith nonSpacing c) refl mark-grid
     where
-      go : (p : Place) → cellWith nonSpacing c ≡ p → OnGrid p → isMark nonSpacing c ≡ false
+      go : (p : Place) → cellWith nonSpacing c ≡ p → OnGrid p → hasCharacter nonSpacing c ≡ false
       go Nowhere e g = mark-found nonSpacing ∙ ap found e
       go (At a b) e g = let q : a * 256 + b ≡ 0 = sym (ap packed e) ∙ z in absurd (omega (arith, q, g .0))
 
@@ -86,10 +86,10 @@ module _ (cells : List ℕ) (annexE : Bool) (c : ℕ) where
   unfolding candidates
   at-newline e = rw (eq-eqb c 10 e, candidates)
 
-  pub at-mark : (c ≡ 10 → ⊥) → isMark nonSpacing c ≡ true → ofPlace 0 0 (cellWith nonSpacing c) ≡ candidates cells annexE c
+  pub at-mark : (c ≡ 10 → ⊥) → hasCharacter nonSpacing c ≡ true → ofPlace 0 0 (cellWith nonSpacing c) ≡ candidates cells annexE c
   unfolding candidates
   at-mark n e = rw (ne-eqb c 10 n, e, candidates)
 
-  pub at-letter : (c ≡ 10 → ⊥) → isMark nonSpacing c ≡ false → letters cells annexE c ≡ candidates cells annexE c
+  pub at-letter : (c ≡ 10 → ⊥) → hasCharacter nonSpacing c ≡ false → letters cells annexE c ≡ candidates cells annexE c
   unfolding candidates
   at-letter n e = rw (ne-eqb c 10 n, e, candidates)

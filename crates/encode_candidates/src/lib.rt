@@ -5,14 +5,14 @@ ghost use mathlib.Core.Bool.{cond};
 ghost use mathlib.Core.List.{[], _∷_, _++_};
 ghost use Prim.Native.Nat.{_+_, _≤_, _<_};
 ghost use lib.Dec.{eqb};
-ghost use Rattle.tables.specs.Reverse.{oneByteReverse};
+ghost use Rattle.tables_onebyte.specs.Reverse.{oneByteReverse};
 ghost use Rattle.coding.specs.Candidates.{plain, ofCode, fullwidth, letters, shortest};
 ghost use Rattle.base.specs.Lists.{when};
 ghost use Rattle.encode_states.specs.Packed.{setOf};
 ghost use Rattle.encode_candidates.specs.Packed.{packed, candOf, candsOf, Fits, Good, Adds, AddsCell, StandsFor, Stands};
-use tables::Code;
-use tables::OneByteTable;
 use tables::Place;
+use tables_onebyte::Code;
+use tables_onebyte::OneByteTable;
 
 /// Candidates in the order of trial: a set's code (0 to 6: Kanji, Alphanumeric, Hiragana, Katakana, JisX0201Katakana,
 /// AdditionalSymbols, Macro; 7: none, for SP and APR), a code in GL form (one byte, or row byte × 256 + cell byte) and a
@@ -64,7 +64,7 @@ fn with_code(k: Cands, table: OneByteTable, c: u32, set: u8, size: u8) -> Cands
     requires { ⌜ size ≤ 2 ⌝ }
     ensures { λ r. ⌜ Adds k (ofCode (setOf set) size (oneByteReverse table c)) 1 r ⌝ }
 {
-    match tables::one_byte_reverse(table, c) {
+    match tables_onebyte::one_byte_reverse(table, c) {
         Code::Gl(code) => with(k, set, code as u16, size),
         Code::Nothing => k,
     }

@@ -9,7 +9,7 @@ use lib.ListN.{length, getD, take, drop, drop-of-length-le}
 use lib.Seq.{drop-cons, getD-take, take-take}
 use Rattle.base.specs.Lists.{All}
 use Rattle.base.proofs.Every.{all-map}
-use Rattle.tables.specs.Reverse.{kanjiReverse, additionalReverse}
+use Rattle.tables_reverse.specs.Reverse.{kanjiReverse, additionalReverse}
 use Rattle.coding.specs.State.{State, start}
 use Rattle.coding.specs.Candidates.{Cand, candidates, candidatesOf, restOf, shortest}
 use Rattle.coding.specs.Search.{Node, node, Run, reach, least, keep, floorOf, newest, layer, run, begin}

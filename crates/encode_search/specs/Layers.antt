@@ -8,7 +8,7 @@ use Rattle.base.specs.Lists.{All}
 use Rattle.coding.specs.State.{start}
 use Rattle.coding.specs.Candidates.{Cand, candidates, candidatesOf, restOf, shortest}
 use Rattle.coding.specs.Search.{Node, node, Run, reach, least, keep, floorOf, run, begin}
-use Rattle.tables.specs.Reverse.{kanjiReverse, additionalReverse}
+use Rattle.tables_reverse.specs.Reverse.{kanjiReverse, additionalReverse}
 use Rattle.encode_candidates.specs.Packed.{packed}
 use Rattle.encode_tokens.specs.Contracts.{Holds}
 use Rattle.encode_states.specs.Packed.{Proper}

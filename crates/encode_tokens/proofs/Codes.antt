@@ -6,7 +6,7 @@ use Prim.Native.Nat.{ℕ, zero, suc, _/_, _%_, _≤_}
 use native.Mathlib.Omega.{arith}
 use lib.Dec.{eqb, ltb}
 use lib.ListN.{getD, set}
-use Rattle.tables.specs.Reverse.{kanjiReverse, additionalReverse}
+use Rattle.tables_reverse.specs.Reverse.{kanjiReverse, additionalReverse}
 use Rattle.coding.specs.Candidates.{graphic, plain, candidates, codeLength, shortest}
 use Rattle.encode_candidates.specs.declared.Cands.{Cands}
 use Rattle.encode_candidates.specs.Packed.{packed, codeOf, candOf, candAt, candsFrom, candsOf, Stands}

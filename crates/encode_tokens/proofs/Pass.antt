@@ -10,7 +10,7 @@ use native.Mathlib.Decide.{decLt}
 use native.Mathlib.Omega.{arith}
 use lib.ListN.{length, take, getD, set, length-set}
 use lib.Seq.{take-suc-set, getD-set-same, getD-set-other, length-take-le}
-use Rattle.tables.specs.Reverse.{kanjiReverse, additionalReverse}
+use Rattle.tables_reverse.specs.Reverse.{kanjiReverse, additionalReverse}
 use Rattle.coding.specs.Candidates.{Cand, candidates, candidatesOf, shortest, restOf}
 use Rattle.coding.specs.Tokens as coding
 use Rattle.coding.specs.Tokens.{Token, tokens, inOrder, ordered}

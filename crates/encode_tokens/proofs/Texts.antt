@@ -11,7 +11,7 @@ use types.Run.{OneOf}
 use lib.Dec.{eqb}
 use lib.ListN.{length, drop, length-drop}
 use lib.Seq.{drop-drop}
-use Rattle.tables.specs.Kanji.{nonSpacing, isMark}
+use Rattle.tables.specs.Kanji.{nonSpacing, hasCharacter}
 use Rattle.utf8.proofs.Sequence.{the-type}
 use Rattle.utf8.specs.declared.Sequence.{Sequence}
 use Rattle.utf8.specs.declared.Sequence.the-variants.{Scalar, Fault, End}
@@ -70,25 +70,25 @@ from-end text at {s} e h = ap (placed at) (scalars-none (drop at text) (go (none
 -- ---- question 5, by the character that was read
 
 module _ (p c : ℕ) (ts : List Token) (base : Bool) where
-  pub based-mark : base ≡ true → isMark nonSpacing c ≡ true → baseless base (token p c ∷ ts) ≡ baseless base ts
+  pub based-mark : base ≡ true → hasCharacter nonSpacing c ≡ true → baseless base (token p c ∷ ts) ≡ baseless base ts
   unfolding baseless
   based-mark b e = rw b (rw (e, baseless))
 
-  pub baseless-mark : base ≡ false → isMark nonSpacing c ≡ true → baseless base (token p c ∷ ts) ≡ some p
+  pub baseless-mark : base ≡ false → hasCharacter nonSpacing c ≡ true → baseless base (token p c ∷ ts) ≡ some p
   unfolding baseless
   baseless-mark b e = rw b (rw (e, baseless))
 
-  pub no-mark : isMark nonSpacing c ≡ false → baseless base (token p c ∷ ts) ≡ baseless (not (eqb c 10)) ts
+  pub no-mark : hasCharacter nonSpacing c ≡ false → baseless base (token p c ∷ ts) ≡ baseless (not (eqb c 10)) ts
   unfolding baseless
   no-mark e = rw (e, baseless)
 
 -- ---- the order of coding, by the character that was read
 
 module _ (b : Token) (p c : ℕ) (ts : List Token) where
-  pub mark-first : isMark nonSpacing c ≡ true → ordered b (token p c ∷ ts) ≡ token p c ∷ ordered b ts
+  pub mark-first : hasCharacter nonSpacing c ≡ true → ordered b (token p c ∷ ts) ≡ token p c ∷ ordered b ts
   unfolding ordered
   mark-first e = rw (e, ordered)
 
-  pub base-first : isMark nonSpacing c ≡ false → ordered b (token p c ∷ ts) ≡ b ∷ ordered (token p c) ts
+  pub base-first : hasCharacter nonSpacing c ≡ false → ordered b (token p c ∷ ts) ≡ b ∷ ordered (token p c) ts
   unfolding ordered
   base-first e = rw (e, ordered)

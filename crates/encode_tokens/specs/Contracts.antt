@@ -6,7 +6,7 @@ use mathlib.Core.List.{List}
 use mathlib.Core.Option.{none}
 use lib.Dec.{eqb}
 use lib.ListN.{length, take, getD}
-use Rattle.tables.specs.Reverse.{kanjiReverse, additionalReverse}
+use Rattle.tables_reverse.specs.Reverse.{kanjiReverse, additionalReverse}
 use Rattle.coding.specs.Candidates.{candidatesOf, restOf}
 use Rattle.coding.specs.Tokens.{tokens, inOrder, chars}
 use Rattle.coding.specs.Call.{Lent, Refusal, refuse, without, coding, question4, question7}

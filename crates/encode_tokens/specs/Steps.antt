@@ -5,7 +5,7 @@ use mathlib.Core.Bool.{Bool}
 use mathlib.Core.List.{List, [], _∷_}
 use mathlib.Core.Option.{Option, none, some}
 use lib.ListN.{length, set}
-use Rattle.tables.specs.Reverse.{kanjiReverse, additionalReverse}
+use Rattle.tables_reverse.specs.Reverse.{kanjiReverse, additionalReverse}
 use Rattle.coding.specs.Candidates.{candidates, candidatesOf, shortest}
 use Rattle.coding.specs.Tokens as coding
 use Rattle.coding.specs.Tokens.{Token, tokens, inOrder, chars}

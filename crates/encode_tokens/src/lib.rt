@@ -87,8 +87,8 @@ fn append(
     requires { ⌜ Within n (now chars) (now kanji) (now symbols) ⌝ }
     ensures { λ r. ⌜ Appended (now (t .entry)) annex c n (now (chars .entry)) (now (kanji .entry)) (now (symbols .entry)) r (now (chars .exit)) (now (kanji .exit)) (now (symbols .exit)) ⌝ }
 {
-    let k = encode_candidates::pack(tables::kanji_reverse(t, c));
-    let s = encode_candidates::pack(tables::additional_reverse(c));
+    let k = encode_candidates::pack(tables_reverse::kanji_reverse(t, c));
+    let s = encode_candidates::pack(tables_reverse::additional_reverse(c));
     chars[n] = c;
     kanji[n] = k;
     symbols[n] = s;

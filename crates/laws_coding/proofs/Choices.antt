@@ -7,11 +7,12 @@ use Prim.Native.Nat.{ℕ, zero, suc, _+_, _-_, _≤_, _<_}
 use native.Mathlib.Omega.{arith}
 use lib.Dec.{eqb}
 use lib.ListN.{length}
-use Rattle.tables.specs.Kanji.{nonSpacing, isMark, cellWith}
-use Rattle.tables.specs.Reverse.{oneByteReverse, kanjiReverse, additionalReverse}
-use Rattle.tables.specs.declared.OneByteTable.the-variants.{Alphanumeric, Fullwidth, Hiragana, Katakana, JisX0201Katakana}
-use Rattle.tables.specs.declared.Code.{Code}
-use Rattle.tables.specs.declared.Code.the-variants.{Gl, Nothing}
+use Rattle.tables.specs.Kanji.{nonSpacing, hasCharacter, cellWith}
+use Rattle.tables_onebyte.specs.Reverse.{oneByteReverse}
+use Rattle.tables_reverse.specs.Reverse.{kanjiReverse, additionalReverse}
+use Rattle.tables_onebyte.specs.declared.OneByteTable.the-variants.{Alphanumeric, Fullwidth, Hiragana, Katakana, JisX0201Katakana}
+use Rattle.tables_onebyte.specs.declared.Code.{Code}
+use Rattle.tables_onebyte.specs.declared.Code.the-variants.{Gl, Nothing}
 use Rattle.tables.specs.declared.Place.{Place}
 use Rattle.tables.specs.declared.Place.the-variants.{At, Nowhere}
 use Rattle.utf8.specs.Utf8.{utf8, sequence, scalarsFrom, scalars}
@@ -63,7 +64,7 @@ letters-fine cells annexE c =
 
 pub candidates-fine : (cells : List ℕ) (annexE : Bool) (c : ℕ) → All Fine (candidates cells annexE c)
 unfolding candidates
-candidates-fine cells annexE c = go (eqb c 10) (isMark nonSpacing c)
+candidates-fine cells annexE c = go (eqb c 10) (hasCharacter nonSpacing c)
   where
     go : (newline mark : Bool) → All Fine (elim newline [ true ↦ plain 0x0D 0 ∷ [] | false ↦ elim mark [ true ↦ ofPlace 0 0 (cellWith nonSpacing c) | false ↦ letters cells annexE c ] ])
     go true mark = (omega arith, tt)
@@ -93,7 +94,7 @@ placed-length p (c ∷ cs) = ap suc (placed-length (p + length (utf8 c)) cs)
 ordered-length : (b : Token) (ts : List Token) → length (ordered b ts) ≡ suc (length ts)
 unfolding ordered
 ordered-length b [] = refl
-ordered-length b (t ∷ ts) = go (isMark nonSpacing (t .char)) (ordered-length b ts) (ordered-length t ts)
+ordered-length b (t ∷ ts) = go (hasCharacter nonSpacing (t .char)) (ordered-length b ts) (ordered-length t ts)
   where
     go : (mark : Bool) → length (ordered b ts) ≡ suc (length ts) → length (ordered t ts) ≡ suc (length ts) → length (cond mark (t ∷ ordered b ts) (b ∷ ordered t ts)) ≡ suc (suc (length ts))
     go true e f = ap suc e

@@ -8,17 +8,19 @@ use borrow.Author.Tests.{eqb-true}
 use lib.Dec.{eqb}
 use lib.ListN.{length}
 use Rattle.addsym.specs.Symbols.{symbol}
-use Rattle.tables.specs.OneByte.{oneByteAt}
-use Rattle.tables.specs.Kanji.{nonSpacing, isMark, cellWith, kanjiAt}
-use Rattle.tables.specs.Reverse.{oneByteReverse, kanjiReverse, additionalReverse}
-use Rattle.tables.specs.declared.OneByteTable.{OneByteTable}
-use Rattle.tables.specs.declared.OneByteTable.the-variants.{Alphanumeric, Fullwidth, Hiragana, Katakana, JisX0201Katakana}
+use Rattle.tables_onebyte.specs.OneByte.{oneByteAt}
+use Rattle.tables.specs.Kanji.{nonSpacing, hasCharacter, cellWith, kanjiAt}
+use Rattle.tables_onebyte.specs.Reverse.{oneByteReverse}
+use Rattle.tables_reverse.specs.Reverse.{kanjiReverse, additionalReverse}
+use Rattle.tables_onebyte.specs.declared.OneByteTable.{OneByteTable}
+use Rattle.tables_onebyte.specs.declared.OneByteTable.the-variants.{Alphanumeric, Fullwidth, Hiragana, Katakana, JisX0201Katakana}
 use Rattle.tables.specs.declared.Assignment.{Assignment}
-use Rattle.tables.specs.declared.Code.{Code}
-use Rattle.tables.specs.declared.Code.the-variants.{Gl, Nothing}
+use Rattle.tables_onebyte.specs.declared.Code.{Code}
+use Rattle.tables_onebyte.specs.declared.Code.the-variants.{Gl, Nothing}
 use Rattle.tables.specs.declared.Place.{Place}
 use Rattle.tables.specs.declared.Place.the-variants.{At, Nowhere}
-use Rattle.tables.proofs.Laws.{FirstCell, kanji-found, additional-found, one-byte-found}
+use Rattle.tables_onebyte.proofs.Laws.{one-byte-found}
+use Rattle.tables_reverse.proofs.Laws.{FirstCell, kanji-found, additional-found}
 use Rattle.issues.specs.declared.IssueKind.{IssueKind}
 use Rattle.issues.specs.declared.IssueKind.the-variants.{UndefinedCode}
 use Rattle.decode_output.specs.Output.{Output, emit, mark, newline}
@@ -37,8 +39,8 @@ use Rattle.laws_readback.proofs.Halves.{Byte, in-half, whole}
 
 -- what is written where a character is read
 unfoldable pub puts : ℕ → ℕ → Output → Output
-unfolding isMark mark newline emit
-puts c at o = cond (isMark nonSpacing c) (mark c at o) (cond (eqb c 10) (newline o) (emit c o))
+unfolding hasCharacter mark newline emit
+puts c at o = cond (hasCharacter nonSpacing c) (mark c at o) (cond (eqb c 10) (newline o) (emit c o))
 
 -- a row and a cell from 1 to 94
 abbrev Grid : ℕ → ℕ → Type 0
@@ -46,7 +48,7 @@ Grid row cell = (1 ≤ row) × (row ≤ 94) × (1 ≤ cell) × (cell ≤ 94)
 
 -- neither a mark nor a newline
 record Letter (c : ℕ) : Type 0 where
-  mark : isMark nonSpacing c ≡ false
+  mark : hasCharacter nonSpacing c ≡ false
   newline : eqb c 10 ≡ false
 
 module _ (g : reading.Given) (depth : ℕ) (R : Run) (z : reading.State) where
@@ -228,9 +230,9 @@ module _ (g : reading.Given) (depth : ℕ) (R : Run) (z : reading.State) where
 
   pub candidates-read : (c : ℕ) → All (Reads c) (candidates (g .cells) (g .annexE) c)
   unfolding candidates
-  candidates-read c = go (eqb c 10) refl (isMark nonSpacing c) refl
+  candidates-read c = go (eqb c 10) refl (hasCharacter nonSpacing c) refl
     where
-      go : (n : Bool) → eqb c 10 ≡ n → (m : Bool) → isMark nonSpacing c ≡ m → All (Reads c) (candidates (g .cells) (g .annexE) c)
+      go : (n : Bool) → eqb c 10 ≡ n → (m : Bool) → hasCharacter nonSpacing c ≡ m → All (Reads c) (candidates (g .cells) (g .annexE) c)
       go true e m f = rw (e, candidates) (rw (eqb-true c 10 e) newline-read, tt)
       go false e true f = rw (e, f, candidates) (marks-read c nonSpacing mark-cells)
       go false e false f = rw (e, f, candidates) (letters-read c (record { mark = f; newline = e }))

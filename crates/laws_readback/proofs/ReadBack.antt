@@ -7,7 +7,7 @@ use native.Mathlib.Omega.{arith}
 use borrow.Author.Tests.{eqb-true, le-leb}
 use lib.Dec.{eqb, leb, leb·zero}
 use lib.ListN.{length}
-use Rattle.tables.specs.Kanji.{nonSpacing, isMark}
+use Rattle.tables.specs.Kanji.{nonSpacing, hasCharacter}
 use Rattle.utf8.specs.Utf8.{scalars, utf8s}
 use Rattle.utf8.proofs.Texts.{utf8s-scalars}
 use Rattle.questions.specs.Questions.{cellsHold, optionsHold}
@@ -36,7 +36,7 @@ abbrev written : List ℕ → List ℕ → ℕ → Output
 written text ms first = record { text = text; marks = ms; marksAt = first; repeat = 0; issues = [] }
 
 -- a mark waits; a base is written, and the marks after it
-puts-mark : (c at : ℕ) (text ms : List ℕ) (first : ℕ) → isMark nonSpacing c ≡ true → puts c at (written text ms first) ≡ written text (ms ++ (c ∷ [])) (firstAt ms first at)
+puts-mark : (c at : ℕ) (text ms : List ℕ) (first : ℕ) → hasCharacter nonSpacing c ≡ true → puts c at (written text ms first) ≡ written text (ms ++ (c ∷ [])) (firstAt ms first at)
 unfolding puts
 puts-mark c at text ms first e = rw e
 
@@ -44,7 +44,7 @@ record Puts (c at : ℕ) (text ms : List ℕ) (first : ℕ) : Type 0 where
   then : ℕ
   is : puts c at (written text ms first) ≡ written (text ++ (c ∷ ms)) [] then
 
-puts-base : (c at : ℕ) (text ms : List ℕ) (first : ℕ) → isMark nonSpacing c ≡ false → (eqb c 10 ≡ true → ms ≡ []) → Puts c at text ms first
+puts-base : (c at : ℕ) (text ms : List ℕ) (first : ℕ) → hasCharacter nonSpacing c ≡ false → (eqb c 10 ≡ true → ms ≡ []) → Puts c at text ms first
 unfolding puts
 puts-base c at text ms first e n = go (eqb c 10) refl
   where

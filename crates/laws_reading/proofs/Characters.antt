@@ -7,7 +7,7 @@ use lib.Dec.{eqb, leb}
 use lib.ListN.{length, getD}
 use Rattle.sets.specs.Sets.{bytesPerChar}
 use Rattle.addsym.specs.Symbols.{symbol}
-use Rattle.tables.specs.Kanji.{nonSpacing, isMark, kanjiAt}
+use Rattle.tables.specs.Kanji.{nonSpacing, hasCharacter, kanjiAt}
 use Rattle.issues.specs.declared.IssueKind.{IssueKind}
 use Rattle.issues.specs.declared.IssueKind.the-variants.{UndefinedCode, UnsupportedCode, Drcs, Mosaic, LoneSingleShift}
 use Rattle.reading.specs.State.{Given, State, Step, took, issue, isNarrow}
@@ -26,7 +26,7 @@ module _ (C : Type 0) (g : Given) (at : ℕ) (inside : C → at < length (g .inp
 
   cell-or : (kind : IssueKind) → (C → Shown (g .input) kind) → (c : ℕ) (s : State) → To C g 1 s (cellOr kind c at s)
   unfolding cellOr
-  cell-or kind shown c s = either (To C g 1 s) (isMark nonSpacing c) (record { change = marks C (g .input) c at (part s) inside }) (emit-or kind shown c s)
+  cell-or kind shown c s = either (To C g 1 s) (hasCharacter nonSpacing c) (record { change = marks C (g .input) c at (part s) inside }) (emit-or kind shown c s)
 
   char2-to : (number a b : ℕ) (s : State) → To C g 1 s (char2 g number a b at s)
   unfolding char2

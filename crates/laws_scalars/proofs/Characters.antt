@@ -11,10 +11,10 @@ use lib.Dec.{T, eqb, ltb, leb}
 use lib.ListN.{getD, replicate}
 use Rattle.utf8.specs.Utf8.{isScalar, areScalars}
 use Rattle.addsym.specs.Symbols.{symbol}
-use Rattle.tables.specs.OneByte.{tableOf, oneByteAt}
+use Rattle.tables_onebyte.specs.OneByte.{tableOf, oneByteAt}
 use Rattle.tables.specs.Kanji.{kanjiAt}
-use Rattle.tables.specs.declared.OneByteTable.{OneByteTable}
-use Rattle.tables.specs.declared.OneByteTable.the-variants.{Alphanumeric, Fullwidth, Hiragana, Katakana, JisX0201Katakana}
+use Rattle.tables_onebyte.specs.declared.OneByteTable.{OneByteTable}
+use Rattle.tables_onebyte.specs.declared.OneByteTable.the-variants.{Alphanumeric, Fullwidth, Hiragana, Katakana, JisX0201Katakana}
 use Rattle.tables.proofs.ScalarLaws.{Scalar, symbol-scalar, kanji-scalar}
 use Rattle.questions.proofs.CellTable.{Cells, held}
 use Rattle.reading.specs.State.{Given}

@@ -10,7 +10,7 @@ use Rattle.sets.specs.Sets.{Designation, readDesignation, bytesPerChar}
 use Rattle.control.specs.Controls.{countOf}
 use Rattle.utf8.specs.Utf8.{isScalar}
 use Rattle.addsym.specs.Symbols.{symbol}
-use Rattle.tables.specs.Kanji.{nonSpacing, isMark, kanjiAt}
+use Rattle.tables.specs.Kanji.{nonSpacing, hasCharacter, kanjiAt}
 use Rattle.issues.specs.declared.IssueKind.{IssueKind}
 use Rattle.issues.specs.declared.IssueKind.the-variants.{UnknownEscape, UndefinedControl, MalformedControl, Truncated, UndefinedCode, UnsupportedCode, Drcs, Mosaic, UndefinedMacro, MacroLimit, LoneSingleShift, RepeatToEndOfLine}
 use Rattle.decode_output.specs.Output.{emit, newline}
@@ -149,7 +149,7 @@ module _ (s : State) (k : Good s) where
 
   cell-or : (kind : IssueKind) (c : ℕ) → T (isScalar c) → (at : ℕ) → Good (cellOr kind c at s)
   unfolding cellOr
-  cell-or kind c h at = either Good (isMark nonSpacing c) (marked s k c at h) (emit-or kind c h at)
+  cell-or kind c h at = either Good (hasCharacter nonSpacing c) (marked s k c at h) (emit-or kind c h at)
 
   mosaic-to : (number c at : ℕ) → Good (mosaic number c at s)
   unfolding mosaic

@@ -6,9 +6,9 @@ use lib.Dec.{eqb, ltb, leb}
 use lib.ListN.{getD}
 use Rattle.sets.specs.Sets.{bytesPerChar}
 use Rattle.addsym.specs.Symbols.{symbol}
-use Rattle.tables.specs.OneByte.{oneByteAt}
-use Rattle.tables.specs.Kanji.{nonSpacing, isMark, kanjiAt}
-use Rattle.tables.specs.declared.OneByteTable.the-variants.{Alphanumeric, Fullwidth, Hiragana, Katakana, JisX0201Katakana}
+use Rattle.tables_onebyte.specs.OneByte.{oneByteAt}
+use Rattle.tables.specs.Kanji.{nonSpacing, hasCharacter, kanjiAt}
+use Rattle.tables_onebyte.specs.declared.OneByteTable.the-variants.{Alphanumeric, Fullwidth, Hiragana, Katakana, JisX0201Katakana}
 use Rattle.issues.specs.declared.IssueKind.{IssueKind}
 use Rattle.issues.specs.declared.IssueKind.the-variants.{UndefinedCode, UnsupportedCode, Drcs, Mosaic, LoneSingleShift}
 use Rattle.decode_output.specs.Output.{emit, mark, setRepeat}
@@ -34,8 +34,8 @@ emitOr kind (suc c) at s = writes (emit (suc c)) s
 
 -- "A mark is any of the seven characters, from whichever cell it was read"
 unfoldable pub cellOr : IssueKind → ℕ → ℕ → State → State
-unfolding emitOr isMark writes mark
-cellOr kind c at s = cond (isMark nonSpacing c) (writes (mark c at) s) (emitOr kind c at s)
+unfolding emitOr hasCharacter writes mark
+cellOr kind c at s = cond (hasCharacter nonSpacing c) (writes (mark c at) s) (emitOr kind c at s)
 
 -- a character of a two-byte set, codes a and b in GL form
 unfoldable pub char2 : Given → ℕ → ℕ → ℕ → ℕ → State → State

@@ -4,7 +4,7 @@ use crate::numbers::scalar;
 use crate::numbers::wide;
 use crate::numbers::yes;
 use tables::Cell;
-use tables::OneByteChar;
+use tables_onebyte::OneByteChar;
 
 // The character of a cell, 0 for none.
 fn character(c: Cell) -> usize {
@@ -34,27 +34,27 @@ pub fn additional_symbols(i: usize) -> usize {
 
 // Codes 00 to FF.
 pub fn alphanumeric(i: usize) -> usize {
-    letter(tables::alphanumeric(low(i)))
+    letter(tables_onebyte::alphanumeric(low(i)))
 }
 
 // Codes 00 to FF.
 pub fn hiragana(i: usize) -> usize {
-    letter(tables::hiragana(low(i)))
+    letter(tables_onebyte::hiragana(low(i)))
 }
 
 // Codes 00 to FF.
 pub fn katakana(i: usize) -> usize {
-    letter(tables::katakana(low(i)))
+    letter(tables_onebyte::katakana(low(i)))
 }
 
 // Codes 00 to FF.
 pub fn jis_x0201_katakana(i: usize) -> usize {
-    letter(tables::jis_x0201_katakana(low(i)))
+    letter(tables_onebyte::jis_x0201_katakana(low(i)))
 }
 
 // U+0000 to U+FFFF.
 pub fn fullwidth(i: usize) -> usize {
-    wide(tables::fullwidth(scalar(i)))
+    wide(tables_onebyte::fullwidth(scalar(i)))
 }
 
 // U+0000 to U+2FFF.

@@ -1,18 +1,13 @@
--- What `kanjiAt` reads in each stretch of rows, and at a place in row order. Assumes nothing.
-use mathlib.Core.Path.{_≡_, refl, sym, ap, _∙_}
+-- What `kanjiAt` reads in each stretch of rows. Assumes nothing.
+use mathlib.Core.Path.{_≡_, refl, _∙_}
 use mathlib.Core.Bool.{Bool, true, false, false≢true, _&&_}
 use mathlib.Core.List.{List}
-use mathlib.Core.Option.{some}
-use Prim.Native.Nat.{ℕ, _+_, _-_, _/_, _%_, _<_, _≤_}
+use Prim.Native.Nat.{ℕ, _<_, _≤_}
 use native.Mathlib.Omega.{arith}
 use lib.Dec.{leb, ltb}
 use lib.ListN.{getD}
 use borrow.Author.Tests.{le-leb, lt-leb, ne-eqb, leb-true, ltb-true, ltb-false}
-use Rattle.addsym.specs.Symbols.{symbol}
-use Rattle.tables.specs.Kanji.{nonSpacing, kanjiOverrides, assigned, isMark, place, gap, tableAt, kanjiSymbol, kanjiOf, kanjiAt}
-use Rattle.tables.specs.Reverse.{kanjiPlace, symbolPlace, placeOf}
-use Rattle.tables.specs.declared.Place.the-variants.{At}
-use Rattle.tables.proofs.RowLaws.{unassigned}
+use Rattle.tables.specs.Kanji.{nonSpacing, kanjiOverrides, assigned, place, tableAt, kanjiSymbol, kanjiOf, kanjiAt}
 
 -- on the grid the table is read at the cell's place
 pub on-grid : (t : List ℕ) (row cell : ℕ) → 1 ≤ row → row ≤ 94 → 1 ≤ cell → cell ≤ 94 → tableAt t row cell ≡ getD t (place row cell) 0
@@ -76,47 +71,3 @@ table-row t row cell e = go (leb 3 row) (ltb row 90) refl refl e
 -- and where it does not, rows 90 on follow row 2
 pub past-table : (row : ℕ) → (leb 3 row && ltb row 90) ≡ false → 3 ≤ row → 90 ≤ row
 past-table row e h = ltb-false row 90 (rw (le-leb 3 row h) at e)
-
--- the place of a cell gives its row and its cell back
-row-of : (row cell : ℕ) → 1 ≤ row → 1 ≤ cell → cell ≤ 94 → place row cell / 94 + 1 ≡ row
-row-of row cell a b c = omega arith
-
-cell-of : (row cell : ℕ) → 1 ≤ cell → cell ≤ 94 → place row cell % 94 + 1 ≡ cell
-cell-of row cell b c = omega arith
-
-module _ (row cell : ℕ) (a : 1 ≤ row) (b : row ≤ 94) (c : 1 ≤ cell) (d : cell ≤ 94) where
-  pub kanji-place : (t : List ℕ) → kanjiPlace (place row cell) (getD t (place row cell) 0) ≡ kanjiAt t row cell
-  unfolding kanjiPlace kanjiAt
-  kanji-place t =
-      ap (λ (r : ℕ). kanjiOf r (place row cell % 94 + 1) (getD t (place row cell) 0)) (row-of row cell a c d)
-      ∙ ap (λ (k : ℕ). kanjiOf row k (getD t (place row cell) 0)) (cell-of row cell c d)
-      ∙ ap (kanjiOf row cell) (sym (on-grid t row cell a b c d))
-
-  pub symbol-place : (x : ℕ) → symbolPlace (place row cell) x ≡ symbol row cell
-  unfolding symbolPlace
-  symbol-place x =
-      ap (λ (r : ℕ). symbol r (place row cell % 94 + 1)) (row-of row cell a c d) ∙ ap (symbol row) (cell-of row cell c d)
-
-  pub place-of : placeOf (some (place row cell)) ≡ At row cell
-  unfolding placeOf
-  place-of = ap (λ (r : ℕ). At r (place row cell % 94 + 1)) (row-of row cell a c d) ∙ ap (At row) (cell-of row cell c d)
-
--- in rows 90 to 94 it is the symbol's, but for the gaps
-pub symbol-cell : (t : List ℕ) (row cell : ℕ) → 90 ≤ row → row ≤ 94 → 1 ≤ cell → cell ≤ 94 → kanjiPlace (place row cell) (getD t (place row cell) 0) ≡ kanjiSymbol row cell
-unfolding kanjiAt
-symbol-cell t row cell a b c d = kanji-place row cell (omega arith) b c d t ∙ rows-90-94 row cell (tableAt t row cell) a b
-
-pub in-gap : (row cell : ℕ) → gap row cell ≡ true → kanjiSymbol row cell ≡ 0
-unfolding kanjiSymbol
-in-gap row cell e = rw e
-
-pub off-gap : (row cell : ℕ) → gap row cell ≡ false → kanjiSymbol row cell ≡ symbol row cell
-unfolding kanjiSymbol
-off-gap row cell e = rw e
-
--- rows 1 and 2, for a character that is neither a mark nor an override's
-pub plain-row : (t : List ℕ) (row cell c : ℕ) → row < 3 → isMark nonSpacing c ≡ false → isMark kanjiOverrides c ≡ false → kanjiAt t row cell ≡ c → tableAt t row cell ≡ c
-unfolding kanjiAt
-plain-row t row cell c h m o e =
-    let x = tableAt t row cell in
-    unassigned kanjiOverrides c row cell x o (unassigned nonSpacing c row cell (assigned kanjiOverrides row cell x) m (sym (rows-1-2 row cell x h) ∙ e))

@@ -1,10 +1,3 @@
-pub mod OneByteLaws
 pub mod CellLaws
-pub mod FirstLaws
 pub mod KanjiLaws
-pub mod PassedLaws
-pub mod SymbolLaws
-pub mod Laws
-pub mod CodeLaws
-pub mod RowLaws
 pub mod ScalarLaws

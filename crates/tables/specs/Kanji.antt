@@ -37,10 +37,10 @@ unfoldable pub assigned : List Assignment → ℕ → ℕ → ℕ → ℕ
 assigned [] row cell x = x
 assigned (a ∷ more) row cell x = cond (eqb (a .row) row && eqb (a .cell) cell) (a .character) (assigned more row cell x)
 
--- `is_non_spacing`: "a mark is any of the seven characters"
-unfoldable pub isMark : List Assignment → ℕ → Bool
-isMark [] c = false
-isMark (a ∷ more) c = cond (eqb (a .character) c) true (isMark more c)
+-- Does a list assign a character to a cell? Of the marks it is `is_non_spacing`: "a mark is any of the seven characters".
+unfoldable pub hasCharacter : List Assignment → ℕ → Bool
+hasCharacter [] c = false
+hasCharacter (a ∷ more) c = cond (eqb (a .character) c) true (hasCharacter more c)
 
 -- the first cell of a list with a character, for the coding of a mark (`candidates` of encode.rs)
 unfoldable pub cellWith : List Assignment → ℕ → Place

@@ -1,3 +1,2 @@
-pub mod OneByte
 pub mod Kanji
-pub mod Reverse
+pub mod Contracts

@@ -1,7 +1,7 @@
 -- `alphanumeric_at` meets its contract. Assumes nothing.
 use mathlib.Core.Path.{ap, _∙_}
 use borrow.Author.Needs.{needs}
-use Rattle.tables.specs.OneByte.{fullwidthOf}
+use Rattle.tables_onebyte.specs.OneByte.{fullwidthOf}
 use Rattle.decode_codes.proofs.Laws.{letter-narrow, letter-wide}
 use Rattle.decode_codes.proofs.alphanumeric_at.Tie as tie
 use Rattle.decode_codes.proofs.alphanumeric_at.Statement.{statement}

@@ -6,8 +6,8 @@ use native.Mathlib.Omega.{arith}
 use borrow.Author.Needs.{needs}
 use borrow.Author.Tests.{eqb-true}
 use lib.Dec.{eqb}
-use Rattle.tables.specs.OneByte.{oneByteOf}
-use Rattle.tables.specs.declared.OneByteChar.the-variants.{Char, Undefined}
+use Rattle.tables_onebyte.specs.OneByte.{oneByteOf}
+use Rattle.tables_onebyte.specs.declared.OneByteChar.the-variants.{Char, Undefined}
 use Rattle.decode_codes.proofs.scalar.Tie as tie
 use Rattle.decode_codes.proofs.scalar.Statement.{statement}
 

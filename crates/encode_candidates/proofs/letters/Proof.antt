@@ -1,7 +1,7 @@
 -- `candidates::letters` meets its contract: one call after the other adds what the definition has there. Assumes nothing.
 use Prim.Native.Nat.{_≤_}
 use native.Mathlib.Omega.{arith}
-use Rattle.tables.specs.Reverse.{kanjiReverse, additionalReverse}
+use Rattle.tables_reverse.specs.Reverse.{kanjiReverse, additionalReverse}
 use Rattle.coding.specs.Candidates.{letters}
 use Rattle.encode_states.specs.Packed.{setOf}
 use Rattle.encode_candidates.proofs.Adding.{then, cell-more, empty, alone, kanji-grid, symbol-grid}

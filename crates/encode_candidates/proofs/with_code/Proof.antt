@@ -2,7 +2,7 @@
 use borrow.Author.Needs.{needs}
 use mathlib.Core.Path.{sym, ap, _∙_}
 use mathlib.Core.List.{[], _∷_}
-use Rattle.tables.proofs.Laws.{one-byte-found}
+use Rattle.tables_onebyte.proofs.Laws.{one-byte-found}
 use Rattle.coding.specs.Candidates.{Cand, ofCode}
 use Rattle.encode_states.specs.Packed.{setOf}
 use Rattle.encode_candidates.proofs.Adding.{likewise, none-more, byte-fits, byte-cand}

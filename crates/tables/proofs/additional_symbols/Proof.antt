@@ -5,14 +5,14 @@ use Rattle.tables.specs.Kanji.{cellOf}
 use Rattle.tables.proofs.additional_symbols.Statement.{statement}
 use Rattle.tables.proofs.additional_symbols.Tie as tie
 
-symbol-at-requires : tie.Need-symbol-at-requires
-symbol-at-requires c κs = search needs
+scalar-requires : tie.Need-scalar-requires
+scalar-requires c κs = search needs
 
 cell-of-requires : tie.Need-cell-of-requires
 cell-of-requires c κs = search needs
 
 returns : tie.Need-returns
-returns c = c .cell-of .ensures ∙ ap cellOf (c .before .symbol-at .ensures)
+returns c = c .cell-of .ensures ∙ ap cellOf (c .before .scalar .ensures)
 
 pub additional-symbols-spec : {M : Type 1} → statement M
-additional-symbols-spec = tie.close (tie.spec symbol-at-requires cell-of-requires returns)
+additional-symbols-spec = tie.close (tie.spec scalar-requires cell-of-requires returns)

@@ -1,60 +1,18 @@
--- `tables::is_non_spacing` meets its contract. The invariant: the marks from `i` on decide. Assumes nothing.
-use mathlib.Core.Path.{_≡_, refl, sym, _∙_}
-use Prim.Native.Nat.{_-_, _≤_}
-use native.Mathlib.Omega.{arith}
+-- `tables::is_non_spacing` meets its contract. Assumes nothing.
+use mathlib.Core.Path.{ap, _∙_}
+use Prim.Native.Nat.{ℕ}
 use borrow.Author.Needs.{needs}
-use lib.ListN.{drop}
-use Rattle.tables.specs.Kanji.{nonSpacing, isMark}
-use Rattle.tables.proofs.CellLaws.{mark-hit, mark-miss}
+use lib.Dec.{ltb}
+use Rattle.tables.specs.Kanji.{nonSpacing}
+use Rattle.tables.proofs.CellLaws.{has-place}
 use Rattle.tables.proofs.is_non_spacing.Statement.{statement}
 use Rattle.tables.proofs.is_non_spacing.Tie as tie
 
-abbrev Inv-loop : tie.InvT-loop
-Inv-loop c i₀ i = (i ≤ 7) × (isMark (drop i nonSpacing) c ≡ isMark nonSpacing c)
+place-with-requires : tie.Need-place-with-requires
+place-with-requires c κs = search needs
 
-abbrev μ-loop : tie.MeasureT-loop
-μ-loop c i₀ i = 7 - i
-
-loop-holds : tie.Need-loop-holds Inv-loop μ-loop
-loop-holds c = (omega arith, refl)
-
-mul-mark : tie.Need-mul-mark Inv-loop μ-loop
-mul-mark c = search needs
-
-array-copy-out-mark : tie.Need-array-copy-out-mark Inv-loop μ-loop
-array-copy-out-mark c = search needs
-
-returns : tie.Need-returns Inv-loop μ-loop
-returns c =
-    let l = c .before .before .before .before in
-    sym (mark-hit nonSpacing (l .loop .i) (omega arith) (l .before .args .c) (c .if1 .taken)) ∙ l .loop .inv .1
-
-add-i : tie.Need-add-i Inv-loop μ-loop
-add-i c = search needs
-
-loop-less : tie.Need-loop-less Inv-loop μ-loop
-loop-less c = omega arith
-
-loop-again : tie.Need-loop-again Inv-loop μ-loop
-loop-again c =
-    let l = c .before .before .before .before in
-    (omega arith, sym (mark-miss nonSpacing (l .loop .i) (omega arith) (l .before .args .c) (c .if1 .left)) ∙ l .loop .inv .1)
-
-returns-2 : tie.Need-returns-2 Inv-loop μ-loop
-unfolding isMark
-returns-2 c = let e : c .before .loop .i ≡ 7 = omega arith in rw e at (c .before .loop .inv .1)
+returns : tie.Need-returns
+returns c = ap (λ (n : ℕ). ltb n 7) (c .place-with .ensures) ∙ has-place nonSpacing (c .before .args .c)
 
 pub is-non-spacing-spec : {M : Type 1} → statement M
-is-non-spacing-spec =
-    tie.close
-    (tie.spec
-    Inv-loop
-    μ-loop
-    loop-holds
-    mul-mark
-    array-copy-out-mark
-    returns
-    add-i
-    loop-less
-    loop-again
-    returns-2)
+is-non-spacing-spec = tie.close (tie.spec place-with-requires returns)

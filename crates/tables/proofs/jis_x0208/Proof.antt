@@ -8,8 +8,8 @@ use Rattle.tables.proofs.jis_x0208.Tie as tie
 table-at-requires : tie.Need-table-at-requires
 table-at-requires c κs = search needs
 
-override-at-requires : tie.Need-override-at-requires
-override-at-requires c κs = search needs
+assigned-at-requires : tie.Need-assigned-at-requires
+assigned-at-requires c κs = search needs
 
 cell-of-requires : tie.Need-cell-of-requires
 cell-of-requires c κs = search needs
@@ -19,8 +19,8 @@ unfolding jisX0208At
 returns c =
     let a = c .before .before .before .before .args in
     c .cell-of .ensures
-    ∙ ap cellOf (c .before .override-at .ensures ∙ ap (assigned kanjiOverrides (a .row) (a .cell)) (c .before .before .table-at .ensures))
+    ∙ ap cellOf (c .before .assigned-at .ensures ∙ ap (assigned kanjiOverrides (a .row) (a .cell)) (c .before .before .table-at .ensures))
 
 pub jis-x0208-spec : {M : Type 1} → statement M
 jis-x0208-spec =
-    tie.close (tie.spec table-at-requires override-at-requires cell-of-requires returns)
+    tie.close (tie.spec table-at-requires assigned-at-requires cell-of-requires returns)

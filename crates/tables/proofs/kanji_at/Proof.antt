@@ -22,19 +22,19 @@ returns c =
 table-at-requires-2 : tie.Need-table-at-requires-2
 table-at-requires-2 c κs = search needs
 
-override-at-requires : tie.Need-override-at-requires
-override-at-requires c κs = search needs
+assigned-at-requires : tie.Need-assigned-at-requires
+assigned-at-requires c κs = search needs
 
-non-spacing-at-requires : tie.Need-non-spacing-at-requires
-non-spacing-at-requires c κs = search needs
+assigned-at-requires-2 : tie.Need-assigned-at-requires-2
+assigned-at-requires-2 c κs = search needs
 
 returns-2 : tie.Need-returns-2
 unfolding kanjiAt
 returns-2 c =
     let a = c .before .before .before .before .before .before .before .args in
-    c .non-spacing-at .ensures
+    c .assigned-at2 .ensures
     ∙ ap (assigned nonSpacing (a .row) (a .cell))
-    (c .before .override-at .ensures ∙ ap (assigned kanjiOverrides (a .row) (a .cell)) (c .before .before .table-at2 .ensures))
+    (c .before .assigned-at .ensures ∙ ap (assigned kanjiOverrides (a .row) (a .cell)) (c .before .before .table-at2 .ensures))
     ∙ sym (rows-1-2 (a .row) (a .cell) (tableAt (a .t .now) (a .row) (a .cell)) (c .before .before .before .if2 .taken))
 
 kanji-symbol-at-requires : tie.Need-kanji-symbol-at-requires
@@ -61,8 +61,8 @@ kanji-at-spec =
     table-at-requires
     returns
     table-at-requires-2
-    override-at-requires
-    non-spacing-at-requires
+    assigned-at-requires
+    assigned-at-requires-2
     returns-2
     kanji-symbol-at-requires
     returns-3

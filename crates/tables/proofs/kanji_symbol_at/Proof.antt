@@ -16,15 +16,15 @@ returns c =
     let a = c .before .before .args in
     ap (λ (b : Bool). cond b 0 (symbol (a .row) (a .cell))) (sym (sym (c .before .in-gap .ensures) ∙ c .if1 .taken))
 
-symbol-at-requires : tie.Need-symbol-at-requires
-symbol-at-requires c κs = search needs
+scalar-requires : tie.Need-scalar-requires
+scalar-requires c κs = search needs
 
 returns-2 : tie.Need-returns-2
 unfolding kanjiSymbol
 returns-2 c =
     let a = c .before .before .before .args in
-    c .symbol-at .ensures
+    c .scalar .ensures
     ∙ ap (λ (b : Bool). cond b 0 (symbol (a .row) (a .cell))) (sym (sym (c .before .before .in-gap .ensures) ∙ c .before .if1 .left))
 
 pub kanji-symbol-at-spec : {M : Type 1} → statement M
-kanji-symbol-at-spec = tie.close (tie.spec in-gap-requires returns symbol-at-requires returns-2)
+kanji-symbol-at-spec = tie.close (tie.spec in-gap-requires returns scalar-requires returns-2)

@@ -1,60 +1,41 @@
--- `tables::mark_cell` meets its contract. The invariant: the marks from `i` on decide. Assumes nothing.
-use mathlib.Core.Path.{_≡_, refl, sym, _∙_}
-use Prim.Native.Nat.{_-_, _≤_}
+-- `tables::mark_cell` meets its contract. Assumes nothing.
+use mathlib.Core.Path.{_≡_, subst, sym, ap, _∙_}
+use Prim.Native.Nat.{ℕ, _<_, _≤_}
 use native.Mathlib.Omega.{arith}
 use borrow.Author.Needs.{needs}
-use lib.ListN.{drop}
+use lib.ListN.{getD}
 use Rattle.tables.specs.Kanji.{nonSpacing, cellWith}
-use Rattle.tables.proofs.CellLaws.{with-hit, with-miss}
+use Rattle.tables.specs.Contracts.{placeWith}
+use Rattle.tables.specs.declared.Place.the-variants.{At, Nowhere}
+use Rattle.tables.proofs.CellLaws.{outside, cell-there, cell-nowhere}
 use Rattle.tables.proofs.mark_cell.Statement.{statement}
 use Rattle.tables.proofs.mark_cell.Tie as tie
 
-abbrev Inv-loop : tie.InvT-loop
-Inv-loop c i₀ i = (i ≤ 7) × (cellWith (drop i nonSpacing) c ≡ cellWith nonSpacing c)
+-- the cell at the place found
+there : (c i : ℕ) → i ≡ placeWith nonSpacing c → i < 7 → At (getD nonSpacing i outside .row) (getD nonSpacing i outside .cell) ≡ cellWith nonSpacing c
+there c i e h =
+    ap (λ (n : ℕ). At (getD nonSpacing n outside .row) (getD nonSpacing n outside .cell)) e
+    ∙ cell-there nonSpacing c (subst (λ (n : ℕ). n < 7) e h)
 
-abbrev μ-loop : tie.MeasureT-loop
-μ-loop c i₀ i = 7 - i
+nowhere : (c i : ℕ) → i ≡ placeWith nonSpacing c → 7 ≤ i → Nowhere ≡ cellWith nonSpacing c
+nowhere c i e h = cell-nowhere nonSpacing c (subst (λ (n : ℕ). 7 ≤ n) e h)
 
-loop-holds : tie.Need-loop-holds Inv-loop μ-loop
-loop-holds c = (omega arith, refl)
+place-with-requires : tie.Need-place-with-requires
+place-with-requires c κs = search needs
 
-mul-mark : tie.Need-mul-mark Inv-loop μ-loop
+mul-mark : tie.Need-mul-mark
 mul-mark c = search needs
 
-array-copy-out-mark : tie.Need-array-copy-out-mark Inv-loop μ-loop
+array-copy-out-mark : tie.Need-array-copy-out-mark
 array-copy-out-mark c = search needs
 
-returns : tie.Need-returns Inv-loop μ-loop
+returns : tie.Need-returns
 returns c =
-    let l = c .before .before .before .before in
-    sym (with-hit nonSpacing (l .loop .i) (omega arith) (l .before .args .c) (c .if1 .taken)) ∙ l .loop .inv .1
+    let t = c .before in
+    there (t .before .before .args .c) (t .before .place-with .result) (t .before .place-with .ensures) (t .if1 .taken)
 
-add-i : tie.Need-add-i Inv-loop μ-loop
-add-i c = search needs
-
-loop-less : tie.Need-loop-less Inv-loop μ-loop
-loop-less c = omega arith
-
-loop-again : tie.Need-loop-again Inv-loop μ-loop
-loop-again c =
-    let l = c .before .before .before .before in
-    (omega arith, sym (with-miss nonSpacing (l .loop .i) (omega arith) (l .before .args .c) (c .if1 .left)) ∙ l .loop .inv .1)
-
-returns-2 : tie.Need-returns-2 Inv-loop μ-loop
-unfolding cellWith
-returns-2 c = let e : c .before .loop .i ≡ 7 = omega arith in rw e at (c .before .loop .inv .1)
+returns-2 : tie.Need-returns-2
+returns-2 c = nowhere (c .before .before .args .c) (c .before .place-with .result) (c .before .place-with .ensures) (c .if1 .left)
 
 pub mark-cell-spec : {M : Type 1} → statement M
-mark-cell-spec =
-    tie.close
-    (tie.spec
-    Inv-loop
-    μ-loop
-    loop-holds
-    mul-mark
-    array-copy-out-mark
-    returns
-    add-i
-    loop-less
-    loop-again
-    returns-2)
+mark-cell-spec = tie.close (tie.spec place-with-requires mul-mark array-copy-out-mark returns returns-2)

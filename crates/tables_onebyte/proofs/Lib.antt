@@ -1,0 +1,4 @@
+pub mod OneByteLaws
+pub mod Rules
+pub mod Laws
+pub mod CodeLaws

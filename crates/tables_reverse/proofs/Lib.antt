@@ -1,0 +1,5 @@
+pub mod PlaceLaws
+pub mod RowLaws
+pub mod PassedLaws
+pub mod SymbolLaws
+pub mod Laws
