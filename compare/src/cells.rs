@@ -1,5 +1,7 @@
 //! Cell tables to lend.
 
+use std::sync::OnceLock;
+
 use crate::call::CELLS;
 use crate::random::Random;
 
@@ -17,18 +19,24 @@ const ODD: [u16; 20] = [
 const MARKS: [u16; 7] = [0x301, 0x300, 0x308, 0x302, 0x305, 0x332, 0x20DD];
 
 /// The Rust's table.
-pub fn rusts() -> Vec<u16> {
-    let bytes = oracle::cells::table();
-    bytes.chunks_exact(2).map(|cell| u16::from_be_bytes([cell[0], cell[1]])).collect()
+pub fn rusts() -> &'static [u16] {
+    static TABLE: OnceLock<Vec<u16>> = OnceLock::new();
+    let cell = |cell: &[u8]| u16::from_be_bytes([cell[0], cell[1]]);
+    TABLE.get_or_init(|| oracle::cells::table().chunks_exact(2).map(cell).collect())
 }
 
-pub fn zeros() -> Vec<u16> {
-    vec![0; CELLS]
+pub fn zeros() -> &'static [u16] {
+    &[0; CELLS]
 }
 
-/// A table that question 1 lets through: the Rust's or zeros with odd cells, or random numbers.
-pub fn odd(random: &mut Random) -> Vec<u16> {
-    let mut cells = if random.once_in(2) { rusts() } else { zeros() };
+/// The table of this index among those that question 1 lets through: zeros, then odd ones.
+pub fn other(random: &mut Random, index: u64) -> Vec<u16> {
+    if index == 0 { zeros().to_vec() } else { odd(random) }
+}
+
+/// The Rust's or zeros with odd cells, or random numbers.
+fn odd(random: &mut Random) -> Vec<u16> {
+    let mut cells = if random.once_in(2) { rusts() } else { zeros() }.to_vec();
     let changed = random.one_of(&[1, 30, 700, 7_000]);
     for _ in 0..changed {
         let index = index(random.one_of(&ROWS), random.byte(1, 94));

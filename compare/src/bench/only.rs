@@ -13,7 +13,7 @@ pub fn list() {
     let cells = cells::rusts();
     for case in CODING.iter().filter(|case| case.passes > 0) {
         let texts = (case.texts)();
-        let store = case.rooms(&cells, &texts).store;
+        let store = case.rooms(cells, &texts).store;
         println!("{} {} {} {store}", case.name, case.passes, texts.len());
     }
 }
@@ -23,15 +23,15 @@ pub fn only(subject: &dyn Subject, side: Side, name: &str, passes: u64) -> Resul
     let cells = cells::rusts();
     if let Some(case) = CASES.iter().find(|case| case.name == name) {
         let inputs = (case.inputs)();
-        let mut run = side.runner(subject, &cells, case, &inputs);
+        let mut run = side.runner(subject, cells, case, &inputs);
         (0..=passes).for_each(|_| run());
     } else if let Some(case) = KEYS.iter().find(|case| case.name == name) {
         let inputs = (case.inputs)();
-        let mut run = case.keys(side, subject, &cells, &inputs);
+        let mut run = case.keys(side, subject, cells, &inputs);
         (0..=passes).for_each(|_| run());
     } else if let Some(case) = CODING.iter().find(|case| case.name == name) {
         let texts = (case.texts)();
-        let mut run = case.runner(side, subject, &cells, &texts);
+        let mut run = case.runner(side, subject, cells, &texts);
         (0..=passes).for_each(|_| run());
     } else {
         return Err("no such case".into());

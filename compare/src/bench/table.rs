@@ -15,14 +15,14 @@ const LEAST: f64 = 0.02;
 /// Measures all cases, the sides in turn, and prints a line for each.
 pub fn print(subject: &dyn Subject) {
     let cells = cells::rusts();
-    let question = question(subject, &cells);
+    let question = question(subject, cells);
     println!("nanoseconds a call, medians of {SAMPLES}");
     line(["case", "calls", "bytes", "text room", "issue room", "rust", "subject", "ratio"]);
     line(["question-1", "-", "-", "-", "-", "-", &format!("{question:.0}"), "-"]);
-    CASES.iter().for_each(|case| decoding(subject, &cells, case, question));
-    KEYS.iter().for_each(|case| keys(subject, &cells, case, question));
+    CASES.iter().for_each(|case| decoding(subject, cells, case, question));
+    KEYS.iter().for_each(|case| keys(subject, cells, case, question));
     line(["case", "calls", "bytes", "store", "coding room", "rust", "subject", "ratio"]);
-    CODING.iter().for_each(|case| coding(subject, &cells, case));
+    CODING.iter().for_each(|case| coding(subject, cells, case));
 }
 
 /// Question 1 alone. It is taken off the rows of decoding and of keys.

@@ -1,6 +1,6 @@
 //! The corners, sequences of samples, marks, and bytes that are not well-formed.
 
-use super::rooms::{in_all, in_two};
+use super::rooms::{in_all, in_two, under_all_options, under_one};
 use super::{Found, Runs, Tally};
 use crate::call::under_all;
 use crate::random::Random;
@@ -12,15 +12,9 @@ use crate::{cells, inputs};
 /// The corners under all options, with the Rust's table and with zeros, in all rooms.
 pub fn corners(runs: &Runs) -> Found {
     let list: Vec<_> = corners::all().collect();
-    let (rusts, zeros) = (cells::rusts(), cells::zeros());
-    runs.each(list.len() as u64, |holder, index| {
-        let text = list[index as usize];
-        holder.tally.texts += 1;
-        for call in under_all(&rusts, text) {
-            holder.code_both(call)?;
-            in_all(holder, call)?;
-        }
-        for call in under_all(&zeros, text) {
+    runs.each_of(&list, |holder, text| {
+        under_all_options(holder, text)?;
+        for call in under_all(cells::zeros(), text) {
             holder.code(call)?;
             in_all(holder, call)?;
         }
@@ -57,12 +51,11 @@ const MANY: u64 = 20_000;
 
 /// The texts of all indices below `total`.
 fn in_order(runs: &Runs, total: u64, text: impl Fn(u64) -> String + Sync) -> Found {
-    let cells = cells::rusts();
     runs.each(total, |holder, index| {
         let mut random = Random::new(runs.seed ^ 0x5A, index);
         let text = text(index);
         holder.tally.texts += 1;
-        let calls = under_all(&cells, text.as_bytes());
+        let calls = under_all(cells::rusts(), text.as_bytes());
         let one = random.below(calls.len());
         let asked = if total > MANY { &calls[one..=one] } else { &calls };
         for &call in asked {
@@ -84,14 +77,9 @@ pub fn ill_formed(runs: &Runs) -> Found {
 
 /// The bytes of all indices below `total`, some of them behind a text.
 fn behind(runs: &Runs, total: u64, bytes: impl Fn(u64) -> Vec<u8> + Sync) -> Found {
-    let cells = cells::rusts();
     runs.each(total, |holder, index| {
         let mut random = Random::new(runs.seed ^ 0x1F, index);
         let before: &str = random.one_of(&["", "", "あ", "A\u{301}", "\u{301}", "\u{1}"]);
-        let text = [before.as_bytes(), &bytes(index)].concat();
-        holder.tally.texts += 1;
-        let call = random.one_of(&under_all(&cells, &text));
-        holder.code_both(call)?;
-        in_two(holder, call, &mut random)
+        under_one(holder, &[before.as_bytes(), &bytes(index)].concat(), &mut random)
     })
 }
