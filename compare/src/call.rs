@@ -2,7 +2,7 @@
 
 use std::fmt::{self, Display, Formatter};
 
-use oracle::coding::Refusal;
+use oracle::coding::{Refusal, refusal};
 use oracle::options::Options;
 
 use crate::coding::Coding;
@@ -43,13 +43,13 @@ pub type Answer<'a, T> = Result<&'a T, Refusal>;
 
 /// No refusal, or the one that a number other than 0 names. It has no place.
 pub fn question(number: u32) -> Result<(), Refusal> {
-    if number == 0 { Ok(()) } else { Err(Refusal { number, place: 0 }) }
+    if number == 0 { Ok(()) } else { Err(refusal(number, 0)) }
 }
 
 /// Number and place of the refusal, 0 for none, and the result, or what stands for none.
 pub fn numbered<'a, T>(answer: Answer<'a, T>, nothing: &'a T) -> (Refusal, &'a T) {
     match answer {
-        Ok(result) => (Refusal { number: 0, place: 0 }, result),
+        Ok(result) => (refusal(0, 0), result),
         Err(refusal) => (refusal, nothing),
     }
 }

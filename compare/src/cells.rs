@@ -3,6 +3,7 @@
 use std::sync::OnceLock;
 
 use crate::call::CELLS;
+use crate::model::tables::MARKS;
 use crate::random::Random;
 
 /// The rows that may hold characters, and those that must be empty.
@@ -14,9 +15,6 @@ const ODD: [u16; 20] = [
     0x000A, 0x000D, 0x0020, 0x3000, 0x0001, 0x007F, 0x0080, 0x07FF, 0x0800, 0xD7FF, 0xE000, 0xF8FF,
     0xFFFD, 0xFFFE, 0xFFFF, 0x0041, 0x3042, 0x3042, 0x3042, 0x2014,
 ];
-
-/// The seven marks.
-const MARKS: [u16; 7] = [0x301, 0x300, 0x308, 0x302, 0x305, 0x332, 0x20DD];
 
 /// The Rust's table.
 pub fn rusts() -> &'static [u16] {
@@ -48,7 +46,7 @@ fn odd(random: &mut Random) -> Vec<u16> {
 /// A mark, an odd number or any, no surrogate.
 fn number(random: &mut Random) -> u16 {
     match random.below(4) {
-        0 => random.one_of(&MARKS),
+        0 => u32::from(random.one_of(&MARKS).2) as u16,
         1 => random.range(0, 0xD7FF) as u16,
         2 => random.range(0xE000, 0xFFFF) as u16,
         _ => random.one_of(&ODD),
@@ -68,7 +66,8 @@ pub fn surrogates() -> impl Iterator<Item = (usize, u16)> {
     ROWS.into_iter().flat_map(move |row| (1..=94).map(move |cell| (index(row, cell), number(cell))))
 }
 
-fn index(row: u8, cell: u8) -> usize {
+/// Row by row; rows and cells count from 1.
+pub fn index(row: u8, cell: u8) -> usize {
     (usize::from(row) - 1) * 94 + usize::from(cell) - 1
 }
 

@@ -15,8 +15,9 @@ pub fn corners(runs: &Runs) -> Found {
 
 /// Every character that isdb-text codes, but for the marks, alone.
 pub fn repertoire(runs: &Runs) -> Found {
-    let characters: Vec<char> = Alphabet::new(cells::rusts()).all().into_iter().collect();
-    runs.each_of(&characters, |holder, c| code(holder, c.to_string().as_bytes()))
+    runs.each_of(&Alphabet::new(cells::rusts()).all(), |holder, c| {
+        code(holder, c.to_string().as_bytes())
+    })
 }
 
 /// Every pair of samples.
@@ -29,7 +30,7 @@ pub fn sequences(runs: &Runs) -> Found {
 /// The titles under all options, then random texts, each under one pair of options.
 pub fn random(runs: &Runs) -> Found {
     let alphabet = Alphabet::new(cells::rusts());
-    let titles: Vec<&str> = titles::lines().map(|(_, title)| title).collect();
+    let titles = titles::texts();
     let mut sum = runs.each_of(&titles, |holder, title| code(holder, title.as_bytes()))?;
     sum.add(&runs.each(runs.amount.texts, |holder, index| {
         let mut random = Random::new(runs.seed, index);

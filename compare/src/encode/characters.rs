@@ -9,8 +9,9 @@ use crate::texts::Alphabet;
 /// Every character of the Kanji set, the additional symbols, the one-byte tables and their
 /// full-width forms, SP, U+3000 and newline, alone, under all options, in all rooms.
 pub fn repertoire(runs: &Runs) -> Found {
-    let characters: Vec<char> = Alphabet::new(cells::rusts()).all().into_iter().collect();
-    runs.each_of(&characters, |holder, c| under_all_options(holder, c.to_string().as_bytes()))
+    runs.each_of(&Alphabet::new(cells::rusts()).all(), |holder, c| {
+        under_all_options(holder, c.to_string().as_bytes())
+    })
 }
 
 /// Every Unicode scalar value alone, under one pair of options.

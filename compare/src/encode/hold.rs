@@ -1,7 +1,7 @@
 //! One call of coding held: the model against the Rust, the coding decoded again, then the
 //! subject against the model, so that the subject is held against both.
 
-use oracle::coding::Refusal;
+use oracle::coding::{Refusal, refusal};
 
 use super::lent::Buffers;
 use super::tally::Tally;
@@ -89,7 +89,7 @@ impl<'a> Holder<'a> {
     /// `arib_encode` on a call that one of questions 1 to 3 refuses with this number.
     pub fn refused(&mut self, call: Call, rooms: CodingRooms, number: u32) -> Held {
         assert_eq!(call.text_questions(), number, "the model's own answer");
-        self.answer = Err(Refusal { number, place: 0 });
+        self.answer = Err(refusal(number, 0));
         self.run(call, rooms)
     }
 

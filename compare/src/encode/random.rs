@@ -14,7 +14,7 @@ const ALL_ROOMS: usize = 8;
 /// The titles under all options, then random texts, each under one pair of options.
 pub fn random(runs: &Runs) -> Found {
     let alphabet = Alphabet::new(cells::rusts());
-    let titles: Vec<&str> = titles::lines().map(|(_, title)| title).collect();
+    let titles = titles::texts();
     let mut sum =
         runs.each_of(&titles, |holder, title| under_all_options(holder, title.as_bytes()))?;
     sum.add(&runs.each(runs.amount.random, |holder, index| {

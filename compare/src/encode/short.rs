@@ -3,9 +3,9 @@
 use super::rooms::{in_all, in_two, under_all_options, under_one};
 use super::{Found, Runs, Tally};
 use crate::call::under_all;
+use crate::model::tables::MARKS;
 use crate::random::Random;
 use crate::tally::Sum;
-use crate::texts::alphabet::MARKS;
 use crate::texts::{corners, faulty, samples};
 use crate::{cells, inputs};
 
@@ -35,12 +35,13 @@ pub fn sequences(runs: &Runs) -> Found {
 /// Up to two marks after each pair of samples, and many marks after one.
 pub fn marks(runs: &Runs) -> Found {
     let pairs = samples::count(2);
+    let marks = MARKS.map(|(_, _, mark)| mark);
     let two = |index: u64| {
         let [first, second] = [index / pairs % 8, index / pairs / 8].map(|n| n as usize);
-        let marks = MARKS.get(first).into_iter().chain(MARKS.get(second));
-        samples::sequence(index % pairs, 2) + &marks.collect::<String>()
+        let behind = marks.get(first).into_iter().chain(marks.get(second));
+        samples::sequence(index % pairs, 2) + &behind.collect::<String>()
     };
-    let many = |index| samples::sequence(index, 1) + &MARKS.iter().collect::<String>().repeat(3);
+    let many = |index| samples::sequence(index, 1) + &marks.iter().collect::<String>().repeat(3);
     let mut sum = in_order(runs, 64 * pairs, two)?;
     sum.add(&in_order(runs, samples::count(1), many)?);
     Ok(sum)
