@@ -1,5 +1,10 @@
 //! A call of decoding or coding: what it is given, and what 01 says of its answer.
 
+use std::fmt::{self, Display, Formatter};
+
+use oracle::coding::{Refusal, refusal};
+use oracle::options::Options;
+
 use crate::coding::Coding;
 use crate::model::{self, Reading};
 
@@ -33,6 +38,22 @@ pub struct CodingRooms {
     pub coding: usize,
 }
 
+/// What a call must answer: its result, or a refusal and nothing.
+pub type Answer<'a, T> = Result<&'a T, Refusal>;
+
+/// No refusal, or the one that a number other than 0 names. It has no place.
+pub fn question(number: u32) -> Result<(), Refusal> {
+    if number == 0 { Ok(()) } else { Err(refusal(number, 0)) }
+}
+
+/// Number and place of the refusal, 0 for none, and the result, or what stands for none.
+pub fn numbered<'a, T>(answer: Answer<'a, T>, nothing: &'a T) -> (Refusal, &'a T) {
+    match answer {
+        Ok(result) => (refusal(0, 0), result),
+        Err(refusal) => (refusal, nothing),
+    }
+}
+
 /// All four pairs of options.
 pub const OPTIONS: [(u32, u32); 4] = [(0, 0), (0, 1), (1, 0), (1, 1)];
 
@@ -41,7 +62,7 @@ pub fn under_all<'a>(cells: &'a [u16], input: &'a [u8]) -> [Call<'a>; 4] {
     OPTIONS.map(|(initial, width)| Call { cells, initial, width, input })
 }
 
-impl<'a> Call<'a> {
+impl Call<'_> {
     /// Questions 1 to 3 of decoding: the refusal's number, or 0.
     pub fn questions(&self) -> u32 {
         self.first_questions(LONGEST)
@@ -64,29 +85,14 @@ impl<'a> Call<'a> {
         }
     }
 
-    /// The call with its questions 1 to 3 put, unless one of them refuses it.
-    pub fn asked(self) -> Option<Asked<'a>> {
-        (self.questions() == 0).then_some(Asked(self))
+    /// The Rust's options, for a call that question 2 lets through.
+    pub fn options(&self) -> Options {
+        Options::from_numbers(self.initial, self.width).expect("0 or 1")
     }
 
     /// The model's reading, for a call that questions 1 to 3 let through.
     pub fn read(&self, reading: &mut Reading) {
         model::read(self.cells, self.initial, self.width, self.input, reading);
-    }
-}
-
-/// A call that questions 1 to 3 let through.
-#[derive(Clone, Copy)]
-pub struct Asked<'a>(Call<'a>);
-
-impl<'a> Asked<'a> {
-    pub fn call(self) -> Call<'a> {
-        self.0
-    }
-
-    /// The same call with another input, unless question 3 refuses it.
-    pub fn with(self, input: &'a [u8]) -> Option<Asked<'a>> {
-        (input.len() <= LONGEST).then_some(Asked(Call { input, ..self.0 }))
     }
 }
 
@@ -108,6 +114,12 @@ impl Rooms {
     }
 }
 
+impl Display for Rooms {
+    fn fmt(&self, f: &mut Formatter<'_>) -> fmt::Result {
+        write!(f, "text {}, issues {}", self.text, self.issues)
+    }
+}
+
 /// A state takes so many numbers of the store.
 pub const STATE: usize = 4;
 
@@ -126,6 +138,12 @@ impl CodingRooms {
     /// Just enough.
     pub fn exact(coding: &Coding) -> CodingRooms {
         CodingRooms { store: STATE * coding.states, coding: coding.bytes.len() }
+    }
+}
+
+impl Display for CodingRooms {
+    fn fmt(&self, f: &mut Formatter<'_>) -> fmt::Result {
+        write!(f, "store {}, coding {}", self.store, self.coding)
     }
 }
 

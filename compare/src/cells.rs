@@ -1,6 +1,9 @@
 //! Cell tables to lend.
 
+use std::sync::OnceLock;
+
 use crate::call::CELLS;
+use crate::model::tables::MARKS;
 use crate::random::Random;
 
 /// The rows that may hold characters, and those that must be empty.
@@ -13,22 +16,25 @@ const ODD: [u16; 20] = [
     0xFFFD, 0xFFFE, 0xFFFF, 0x0041, 0x3042, 0x3042, 0x3042, 0x2014,
 ];
 
-/// The seven marks.
-const MARKS: [u16; 7] = [0x301, 0x300, 0x308, 0x302, 0x305, 0x332, 0x20DD];
-
 /// The Rust's table.
-pub fn rusts() -> Vec<u16> {
-    let bytes = oracle::cells::table();
-    bytes.chunks_exact(2).map(|cell| u16::from_be_bytes([cell[0], cell[1]])).collect()
+pub fn rusts() -> &'static [u16] {
+    static TABLE: OnceLock<Vec<u16>> = OnceLock::new();
+    let cell = |cell: &[u8]| u16::from_be_bytes([cell[0], cell[1]]);
+    TABLE.get_or_init(|| oracle::cells::table().chunks_exact(2).map(cell).collect())
 }
 
-pub fn zeros() -> Vec<u16> {
-    vec![0; CELLS]
+pub fn zeros() -> &'static [u16] {
+    &[0; CELLS]
 }
 
-/// A table that question 1 lets through: the Rust's or zeros with odd cells, or random numbers.
-pub fn odd(random: &mut Random) -> Vec<u16> {
-    let mut cells = if random.once_in(2) { rusts() } else { zeros() };
+/// The table of this index among those that question 1 lets through: zeros, then odd ones.
+pub fn other(random: &mut Random, index: u64) -> Vec<u16> {
+    if index == 0 { zeros().to_vec() } else { odd(random) }
+}
+
+/// The Rust's or zeros with odd cells, or random numbers.
+fn odd(random: &mut Random) -> Vec<u16> {
+    let mut cells = if random.once_in(2) { rusts() } else { zeros() }.to_vec();
     let changed = random.one_of(&[1, 30, 700, 7_000]);
     for _ in 0..changed {
         let index = index(random.one_of(&ROWS), random.byte(1, 94));
@@ -40,7 +46,7 @@ pub fn odd(random: &mut Random) -> Vec<u16> {
 /// A mark, an odd number or any, no surrogate.
 fn number(random: &mut Random) -> u16 {
     match random.below(4) {
-        0 => random.one_of(&MARKS),
+        0 => u32::from(random.one_of(&MARKS).2) as u16,
         1 => random.range(0, 0xD7FF) as u16,
         2 => random.range(0xE000, 0xFFFF) as u16,
         _ => random.one_of(&ODD),
@@ -60,7 +66,8 @@ pub fn surrogates() -> impl Iterator<Item = (usize, u16)> {
     ROWS.into_iter().flat_map(move |row| (1..=94).map(move |cell| (index(row, cell), number(cell))))
 }
 
-fn index(row: u8, cell: u8) -> usize {
+/// Row by row; rows and cells count from 1.
+pub fn index(row: u8, cell: u8) -> usize {
     (usize::from(row) - 1) * 94 + usize::from(cell) - 1
 }
 

@@ -8,7 +8,7 @@ mod state;
 mod ways;
 mod write;
 
-use oracle::coding::Refusal;
+use oracle::coding::{Refusal, refusal};
 
 use crate::call::Call;
 use candidates::{Candidate, Repertoire};
@@ -64,8 +64,4 @@ impl Coder {
         };
         order::order(call.input)?.iter().map(candidates).collect()
     }
-}
-
-fn refusal(number: u32, place: usize) -> Refusal {
-    Refusal { number, place: place as u32 }
 }

@@ -11,22 +11,23 @@ mod tables;
 mod tally;
 pub mod vectors;
 
-use std::thread::available_parallelism;
+use crate::runs::{self, Amount, Part};
 
-use crate::hold::Held;
-use crate::parts::{self, Part};
-use crate::share;
-use crate::subject::Subject;
-use hold::Holder;
-
+pub use hold::Holder;
 pub use lent::Buffers;
 pub use tally::Tally;
 
+/// How the runs are done.
+pub type Runs = runs::Runs<Holder<'static>, Amount>;
+
 /// What a part has counted, or the difference that it found.
-type Found = parts::Found<Tally>;
+type Found = runs::Found<Holder<'static>>;
+
+/// How much is done if nothing is said.
+pub const USUAL: Amount = Amount { random: 240_000, every: 1, greatest: false };
 
 /// The parts in the order in which they are done.
-const PARTS: [Part<Runs, Tally>; 10] = [
+const PARTS: [Part<Holder<'static>, Amount>; 10] = [
     ("corners", short::corners),
     ("repertoire", characters::repertoire),
     ("sequences of samples", short::sequences),
@@ -39,34 +40,8 @@ const PARTS: [Part<Runs, Tally>; 10] = [
     ("every character", characters::every),
 ];
 
-/// How the runs are done.
-pub struct Runs {
-    pub subject: &'static dyn Subject,
-    pub seed: u64,
-    pub threads: usize,
-    /// How many random texts.
-    pub random: u64,
-    /// Of all characters, one in so many.
-    pub every: u64,
-    /// Also the text whose search needs the greatest store.
-    pub greatest: bool,
-}
-
-impl Runs {
-    /// All of them.
-    pub fn new(subject: &'static dyn Subject) -> Runs {
-        let threads = available_parallelism().map_or(1, usize::from);
-        Runs { subject, seed: 1, threads, random: 240_000, every: 1, greatest: false }
-    }
-
-    /// Does all parts and prints what each counted; false at a difference.
-    pub fn all(&self) -> bool {
-        println!("seed {}, {} threads", self.seed, self.threads);
-        parts::all(&PARTS, self, self.seed)
-    }
-
-    /// Does `work` for each index below `total`, shared among the threads.
-    fn each(&self, total: u64, work: impl Fn(&mut Holder, u64) -> Held + Sync) -> Found {
-        share::each(|| Holder::new(self.subject), self.threads, total, work)
-    }
+/// Does all parts and prints what each counted; false at a difference.
+pub fn all(runs: &Runs) -> bool {
+    println!("{runs}");
+    runs.all(&PARTS)
 }

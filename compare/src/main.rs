@@ -5,8 +5,8 @@ use std::io::{self, Write};
 use std::process::ExitCode;
 
 use compare::bench::{self, Side};
+use compare::runs::{Amount, Runs, Worker};
 use compare::subject::{self, Subject};
-use compare::vectors;
 use compare::words::{Words, number};
 use compare::{decode, encode};
 
@@ -18,15 +18,15 @@ compare vectors N
 compare encode-vectors N
 compare bench [--subject model]
 compare bench --list
-compare bench --only rust|subject|questions CASE PASSES [--subject model]";
+compare bench --only rust|subject|question CASE PASSES [--subject model]";
 
 fn main() -> ExitCode {
     let mut words = Words::of_program();
     let done = match words.take().as_deref() {
-        Some("decode") => run_decode(words),
-        Some("encode") => run_encode(words),
+        Some("decode") => run(words, decode::USUAL, decode::all),
+        Some("encode") => run(words, encode::USUAL, encode::all),
         Some("crate") => run_crate(words),
-        Some("vectors") => write_file(words, vectors::file),
+        Some("vectors") => write_file(words, decode::vectors::file),
         Some("encode-vectors") => write_file(words, encode::vectors::file),
         Some("bench") => measure(words),
         _ => Err(USAGE.into()),
@@ -41,59 +41,56 @@ fn main() -> ExitCode {
     }
 }
 
-/// All differential runs of decoding; false at a difference.
-fn run_decode(mut words: Words) -> Result<bool, String> {
+/// All differential runs of decoding or of coding; false at a difference.
+fn run<W>(
+    mut words: Words,
+    usual: Amount,
+    all: fn(&Runs<W, Amount>) -> bool,
+) -> Result<bool, String>
+where
+    W: Worker<Subject = &'static dyn Subject>,
+{
     let (name, subject) = subject(&mut words)?;
-    let usual = decode::Runs::new(subject);
-    let runs = decode::Runs {
-        seed: words.number("--seed", usual.seed)?,
-        threads: words.number("--threads", usual.threads as u64)?.max(1) as usize,
+    let amount = Amount {
         random: words.number("--random", usual.random)?,
         every: words.number("--every", usual.every)?.max(1),
         greatest: words.flag("--greatest"),
-        ..usual
     };
-    words.end()?;
+    let runs = runs(words, subject, amount)?;
     println!("subject: {name}");
-    Ok(runs.all())
-}
-
-/// All differential runs of coding; false at a difference.
-fn run_encode(mut words: Words) -> Result<bool, String> {
-    let (name, subject) = subject(&mut words)?;
-    let usual = encode::Runs::new(subject);
-    let runs = encode::Runs {
-        seed: words.number("--seed", usual.seed)?,
-        threads: words.number("--threads", usual.threads as u64)?.max(1) as usize,
-        random: words.number("--random", usual.random)?,
-        every: words.number("--every", usual.every)?.max(1),
-        greatest: words.flag("--greatest"),
-        ..usual
-    };
-    words.end()?;
-    println!("subject: {name}");
-    Ok(runs.all())
+    Ok(all(&runs))
 }
 
 /// All differential runs of the crate in rust/; false at a difference.
 #[cfg(feature = "library")]
 fn run_crate(mut words: Words) -> Result<bool, String> {
-    use compare::binding::{CALLS, Runs};
-    let usual = Runs::new(CALLS);
-    let runs = Runs {
-        seed: words.number("--seed", usual.seed)?,
-        threads: words.number("--threads", usual.threads as u64)?.max(1) as usize,
-        inputs: words.number("--inputs", usual.inputs)?,
-        texts: words.number("--texts", usual.texts)?,
-        ..usual
+    use compare::binding::{Amount, CALLS, USUAL, all};
+    let amount = Amount {
+        inputs: words.number("--inputs", USUAL.inputs)?,
+        texts: words.number("--texts", USUAL.texts)?,
     };
-    words.end()?;
-    Ok(runs.all())
+    Ok(all(&runs(words, CALLS, amount)?))
 }
 
 #[cfg(not(feature = "library"))]
 fn run_crate(_: Words) -> Result<bool, String> {
     Err("no library is linked".into())
+}
+
+/// Runs with the seed and the threads of the last words.
+fn runs<W: Worker, A: Sync>(
+    mut words: Words,
+    subject: W::Subject,
+    amount: A,
+) -> Result<Runs<W, A>, String> {
+    let usual = Runs::new(subject, amount);
+    let runs = Runs {
+        seed: words.number("--seed", usual.seed)?,
+        threads: words.number("--threads", usual.threads as u64)?.max(1) as usize,
+        ..usual
+    };
+    words.end()?;
+    Ok(runs)
 }
 
 /// A file of vectors, on standard output.

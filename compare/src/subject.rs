@@ -37,14 +37,19 @@ pub trait Subject: Sync {
     fn key(&self, call: Call, key: &mut [u8], counts: &mut [usize]) -> u32;
 }
 
+/// The model, which is always there.
+pub fn model() -> &'static dyn Subject {
+    &standin::StandIn
+}
+
 /// The subject of that name, `library` or `model`; with none, the library where it is linked.
 pub fn named(name: Option<&str>) -> Option<(&'static str, &'static dyn Subject)> {
     match name {
         #[cfg(feature = "library")]
         None | Some("library") => Some(("library", &library::Library)),
         #[cfg(not(feature = "library"))]
-        None => Some(("model", &standin::StandIn)),
-        Some("model") => Some(("model", &standin::StandIn)),
+        None => Some(("model", model())),
+        Some("model") => Some(("model", model())),
         _ => None,
     }
 }

@@ -14,6 +14,11 @@ pub fn lines() -> impl Iterator<Item = (Vec<u8>, &'static str)> {
     })
 }
 
+/// The titles.
+pub fn texts() -> Vec<&'static str> {
+    lines().map(|(_, title)| title).collect()
+}
+
 /// The titles' bytes.
 pub fn all() -> Vec<Vec<u8>> {
     lines().map(|(bytes, _)| bytes).collect()

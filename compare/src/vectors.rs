@@ -1,69 +1,52 @@
-//! `compare vectors`: a fixed list of calls with their answers, for a replay without the Rust.
+//! Files with a fixed list of calls and their answers, for a replay without the Rust.
 //!
 //! Numbers are four bytes, big-endian. First the number of cases, then the cases, each of them
-//! eleven numbers (README.md names them), the input, the text, and four numbers an issue.
+//! some numbers (README.md names them), the input, and what it is answered.
 
-mod cases;
+use oracle::coding::Refusal;
 
-use crate::call::{Call, Rooms};
+use crate::call::Call;
 use crate::cells;
-use crate::hold::Holder;
-use crate::model::Reading;
-use crate::subject;
 
-/// One call.
-pub struct Case {
+/// One call, with its rooms.
+#[derive(Clone)]
+pub struct Case<R> {
     /// The cell table: zeros, or the Rust's (jis.tab).
-    zeros: bool,
-    initial: u32,
-    width: u32,
-    input: Vec<u8>,
-    rooms: Rooms,
+    pub zeros: bool,
+    pub initial: u32,
+    pub width: u32,
+    pub input: Vec<u8>,
+    pub rooms: R,
 }
 
-/// The file with the first `count` cases of the list. The model's answers are held against the
-/// Rust's where the table is the Rust's.
-pub fn file(count: usize) -> Vec<u8> {
-    let (rusts, zeros) = (cells::rusts(), cells::zeros());
-    let (_, model) = subject::named(Some("model")).expect("the model is always there");
-    let mut holder = Holder::new(model);
-    let mut out = (count as u32).to_be_bytes().to_vec();
-    for case in cases::all().take(count) {
-        let Case { initial, width, ref input, .. } = case;
-        let call = Call { cells: if case.zeros { &zeros } else { &rusts }, initial, width, input };
-        let mut refusal = call.questions();
-        if refusal == 0 {
-            if case.zeros {
-                holder.read(call);
-            } else {
-                holder.read_both(call).unwrap_or_else(|difference| panic!("{difference}"));
-            }
-            refusal = case.rooms.questions(holder.reading());
-        }
-        put(&mut out, &case, refusal, if refusal == 0 { holder.reading() } else { &NOTHING });
+impl<R> Case<R> {
+    pub fn call(&self) -> Call<'_> {
+        let Case { zeros, initial, width, ref input, .. } = *self;
+        Call { cells: if zeros { cells::zeros() } else { cells::rusts() }, initial, width, input }
     }
+
+    /// The case's numbers, then the input.
+    pub fn put(&self, out: &mut Vec<u8>, rooms: [usize; 2], refusal: Refusal, counts: &[usize]) {
+        let [first, second] = rooms.map(|n| n as u32);
+        numbers(out, [self.zeros.into(), self.initial, self.width]);
+        numbers(out, [self.input.len() as u32, first, second]);
+        numbers(out, [refusal.number, refusal.place]);
+        numbers(out, counts.iter().map(|&n| n as u32));
+        out.extend_from_slice(&self.input);
+    }
+}
+
+/// The file with the first `count` cases of the list, each as `put` writes it.
+pub fn file<R>(
+    count: usize,
+    cases: impl Iterator<Item = Case<R>>,
+    mut put: impl FnMut(&mut Vec<u8>, &Case<R>),
+) -> Vec<u8> {
+    let mut out = (count as u32).to_be_bytes().to_vec();
+    cases.take(count).for_each(|case| put(&mut out, &case));
     out
 }
 
-/// Of a refused call.
-static NOTHING: Reading = Reading { text: Vec::new(), issues: Vec::new(), charge: 0 };
-
-/// Eleven numbers, then the input, the text and the issues. The place is 0 in each refusal of
-/// decoding.
-fn put(out: &mut Vec<u8>, case: &Case, refusal: u32, reading: &Reading) {
-    let Rooms { text, issues } = case.rooms;
-    let asked = [case.zeros.into(), case.initial, case.width];
-    let lengths = [case.input.len(), text, issues].map(|n| n as u32);
-    let counts = [reading.text.len(), reading.issues.len(), reading.charge].map(|n| n as u32);
-    numbers(out, &asked);
-    numbers(out, &lengths);
-    numbers(out, &[refusal, 0]);
-    numbers(out, &counts);
-    out.extend_from_slice(&case.input);
-    out.extend_from_slice(&reading.text);
-    numbers(out, reading.issues.as_flattened());
-}
-
-pub fn numbers(out: &mut Vec<u8>, numbers: &[u32]) {
-    out.extend(numbers.iter().flat_map(|n| n.to_be_bytes()));
+pub fn numbers(out: &mut Vec<u8>, numbers: impl IntoIterator<Item = u32>) {
+    out.extend(numbers.into_iter().flat_map(u32::to_be_bytes));
 }

@@ -55,7 +55,7 @@ fn corners() {
     let (rusts, zeros) = (cells::rusts(), cells::zeros());
     let mut model = Coder::default();
     for (table, initial, width, text, answer) in CORNERS {
-        let cells = if matches!(table, Rusts) { &rusts } else { &zeros };
+        let cells = if matches!(table, Rusts) { rusts } else { zeros };
         let call = Call { cells, initial: *initial, width: *width, input: text.as_bytes() };
         match (model.code(&call), answer) {
             (Ok(coding), Coding(digits, gap, store)) => {
@@ -76,7 +76,7 @@ fn corners() {
 #[test]
 fn rooms() {
     let cells = cells::zeros();
-    let call = Call { cells: &cells, initial: 0, width: 0, input: b"A" };
+    let call = Call { cells, initial: 0, width: 0, input: b"A" };
     let coding = Coder::default().code(&call).unwrap();
     let refusal =
         |store, coding_room| CodingRooms { store, coding: coding_room }.questions(&coding);

@@ -1,24 +1,25 @@
 //! A crate with a fault is found out.
 #![cfg(feature = "library")]
 
-use compare::binding::{CALLS, Calls, Holder, Runs};
+mod found;
+
+use compare::binding::{self, CALLS, Calls, Holder, Runs, USUAL};
+use compare::call::under_all;
+use compare::cells;
+use compare::runs::Worker;
 use ours::{
     AribString, Coded, Decoded, EncodeError, EncodeOptions, GraphicSet, IssueKind, Refused,
 };
 
 /// The first difference on this input under Si and CharacterSize.
 fn read(calls: Calls, input: &[u8]) -> Option<String> {
-    let runs = Runs::new(calls);
-    let mut holder = Holder::new(&runs);
-    let [call, ..] = holder.under_all(input);
-    holder.read(call).err().map(|difference| difference.to_string())
+    let [call, ..] = under_all(cells::rusts(), input);
+    Holder::new(calls).read(call).err().map(|difference| difference.to_string())
 }
 
 fn code(calls: Calls, text: &str) -> Option<String> {
-    let runs = Runs::new(calls);
-    let mut holder = Holder::new(&runs);
-    let [call, ..] = holder.under_all(text.as_bytes());
-    holder.code(call).err().map(|difference| difference.to_string())
+    let [call, ..] = under_all(cells::rusts(), text.as_bytes());
+    Holder::new(calls).code(call).err().map(|difference| difference.to_string())
 }
 
 /// あ; a cell without a character; an unknown escape; い.
@@ -60,10 +61,7 @@ fn faults_in_a_reading() {
         |found| found.issues[0].kind = undefined(GraphicSet::Kanji, 0x2922),
         |found| found.issues[1].kind = IssueKind::UnknownEscape(vec![0x1B, 0x21, 0x41]),
     ];
-    for (n, calls) in faulty.into_iter().enumerate() {
-        let difference = read(calls, &INPUT).unwrap_or_else(|| panic!("fault {n}"));
-        assert!(difference.contains("input 7 bytes: A229211B2140A4\n"), "{difference}");
-    }
+    found::each(faulty, "input 7 bytes: A229211B2140A4\n", |calls| read(calls, &INPUT));
 }
 
 /// A panic is a difference too: its input is printed.
@@ -116,16 +114,14 @@ fn faults_in_a_coding() {
 #[test]
 fn a_run_that_finds_a_difference() {
     let calls = Calls { decode: |_, _| Decoded::default(), ..CALLS };
-    assert!(!Runs { threads: 1, ..Runs::new(calls) }.all());
+    assert!(!binding::all(&Runs { threads: 1, ..Runs::new(calls, USUAL) }));
 }
 
 #[test]
 fn faults_in_what_is_too_long() {
     let too_long = |calls| {
-        let (runs, input) = (Runs::new(calls), [0xA2; 65_536]);
-        let mut holder = Holder::new(&runs);
-        let [call, ..] = holder.under_all(&input);
-        holder.too_long(call, &" ".repeat(7_282)).is_err()
+        let [call, ..] = under_all(cells::rusts(), &[0xA2; 65_536]);
+        Holder::new(calls).too_long(call, &" ".repeat(7_282)).is_err()
     };
     assert!(!too_long(CALLS));
     assert!(too_long(Calls { try_decode: |_, _| Ok(Decoded::default()), ..CALLS }));

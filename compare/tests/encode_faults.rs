@@ -1,50 +1,22 @@
 //! A subject with a fault in its coding is found out.
 
+mod faulty;
+mod found;
+
 use compare::call::{Call, CodingRooms};
 use compare::cells;
-use compare::encode::hold::Holder;
-use compare::subject::{self, CodingLent, Lent, Subject};
+use compare::encode::Holder;
+use compare::runs::Worker;
+use compare::subject::{CodingLent, Lent};
+use faulty::{Faulty, SOUND};
 
 type Fault = fn(&mut CodingLent, &mut u32);
 
-/// The model, and then a fault in what it left.
-struct Faulty {
-    fault: Fault,
-    /// Whether it also reads wrongly: it then finds nothing in any input.
-    reads_nothing: bool,
-}
-
-fn model() -> &'static dyn Subject {
-    subject::named(Some("model")).unwrap().1
-}
-
-impl Subject for Faulty {
-    fn decode(&self, call: Call, lent: Lent) -> u32 {
-        let input = if self.reads_nothing { &[] } else { call.input };
-        model().decode(Call { input, ..call }, lent)
-    }
-
-    fn unknown_escape(&self, input: &[u8], start: usize, length: usize) -> (usize, [usize; 2]) {
-        model().unknown_escape(input, start, length)
-    }
-
-    fn encode(&self, call: Call, mut lent: CodingLent) -> u32 {
-        let CodingLent { store, coding, counts } = &mut lent;
-        let mut refusal = model().encode(call, CodingLent { store, coding, counts });
-        (self.fault)(&mut lent, &mut refusal);
-        refusal
-    }
-
-    fn key(&self, _: Call, _: &mut [u8], _: &mut [usize]) -> u32 {
-        unreachable!("no key is made here")
-    }
-}
-
 /// A text in these rooms.
-fn run(fault: Fault, text: &str, rooms: CodingRooms) -> Option<String> {
-    let (subject, cells) = (Faulty { fault, reads_nothing: false }, cells::rusts());
+fn run(coding: Fault, text: &str, rooms: CodingRooms) -> Option<String> {
+    let subject = Faulty { coding, ..SOUND };
     let mut holder = Holder::new(&subject);
-    let call = Call { cells: &cells, initial: 0, width: 0, input: text.as_bytes() };
+    let call = Call { cells: cells::rusts(), initial: 0, width: 0, input: text.as_bytes() };
     holder.code_both(call).unwrap();
     holder.run(call, rooms).err().map(|difference| difference.to_string())
 }
@@ -73,10 +45,7 @@ fn faults_in_an_accepted_call() {
         |lent, _| lent.counts[2] = 1,
         |_, refusal| *refusal = 7,
     ];
-    for (n, fault) in faults.into_iter().enumerate() {
-        let difference = run(fault, "あ", ROOMS).unwrap_or_else(|| panic!("fault {n}"));
-        assert!(difference.contains("input 3 bytes: E38182\n"), "{difference}");
-    }
+    found::each(faults, "input 3 bytes: E38182\n", |fault| run(fault, "あ", ROOMS));
 }
 
 #[test]
@@ -89,17 +58,20 @@ fn faults_in_a_refused_call() {
         |lent, _| lent.counts[2] = 1,
         |_, refusal| *refusal = 8,
     ];
-    for (n, fault) in faults.into_iter().enumerate() {
-        assert!(run(fault, "あ", TOO_SMALL).is_some(), "fault {n}");
-    }
+    found::each(faults, "input 3 bytes: E38182\n", |fault| run(fault, "あ", TOO_SMALL));
     assert!(run(|lent, _| lent.counts[0] = 3, "あ\n\u{301}", ROOMS).is_some());
 }
 
+/// A subject that finds nothing in any input.
 #[test]
 fn a_coding_that_does_not_read_back() {
-    let (subject, cells) = (Faulty { fault: |_, _| {}, reads_nothing: true }, cells::rusts());
+    let nothing = |lent: &mut Lent, _: &mut u32| {
+        lent.text.fill(0);
+        *lent.counts = [0; 4];
+    };
+    let subject = Faulty { reading: nothing, ..SOUND };
     let mut holder = Holder::new(&subject);
-    let call = Call { cells: &cells, initial: 0, width: 0, input: "あ".as_bytes() };
+    let call = Call { cells: cells::rusts(), initial: 0, width: 0, input: "あ".as_bytes() };
     assert!(holder.code_both(call).is_err());
     assert!(holder.code(call).is_err());
 }

@@ -2,13 +2,12 @@
 
 mod rest;
 
-use compare::call::{Call, CodingRooms};
+use compare::call::CodingRooms;
 use compare::coding::Coding;
 use compare::encode::Buffers;
 use compare::encode::vectors::{self, LONGEST, MOST};
-use compare::{cells, subject};
-use oracle::coding::Refusal;
-use rest::Rest;
+use compare::subject;
+use rest::{Case, Rest};
 
 /// What the cases hold, by refusal number, and how many have a gap.
 #[test]
@@ -16,26 +15,20 @@ fn each_vector_is_answered() {
     let file = vectors::file(1_100);
     assert!(file.len() < 300_000);
     let (_, subject) = subject::named(None).unwrap();
-    let tables = [cells::rusts(), cells::zeros()];
     let mut buffers = Buffers::default();
     let mut rest = Rest(&file);
     let (mut numbers, mut gaps) = ([0; 9], 0);
-    let count = rest.number();
-    for case in 0..count {
-        let [table, initial, width] = rest.numbers();
-        let [text, store, buffer] = rest.numbers();
-        let [number, place, length, gap] = rest.numbers();
-        let rooms = CodingRooms { store: store as usize, coding: buffer as usize };
-        assert!(text as usize <= LONGEST);
+    for case in 0..rest.number() {
+        let Case { call, rooms: [store, coding], refusal, counts: [length, gap] } = rest.case();
+        let rooms = CodingRooms { store, coding };
+        assert!(call.input.len() <= LONGEST);
         assert!(rooms.store <= MOST.store && rooms.coding <= MOST.coding);
-        let text = rest.bytes(text);
         let bytes = rest.bytes(length).to_vec();
         let coding = Coding { bytes, gap: gap as usize, states: 0, dropped: 0 };
-        let answer = if number == 0 { Ok(&coding) } else { Err(Refusal { number, place }) };
-        let call = Call { cells: &tables[table as usize], initial, width, input: text };
+        let answer = if refusal.number == 0 { Ok(&coding) } else { Err(refusal) };
         let given = subject.encode(call, buffers.lend(rooms));
         assert_eq!(buffers.fault(given, answer), None, "case {case}");
-        numbers[number as usize] += 1;
+        numbers[refusal.number as usize] += 1;
         gaps += u32::from(gap > 0);
     }
     assert!(rest.0.is_empty());

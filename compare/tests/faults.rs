@@ -1,46 +1,22 @@
 //! A subject with a fault is found out.
 
+mod faulty;
+mod found;
+
 use compare::call::{Call, Rooms};
 use compare::cells;
-use compare::hold::Holder;
-use compare::subject::{self, CodingLent, Lent, Subject};
+use compare::decode::Holder;
+use compare::runs::Worker;
+use compare::subject::Lent;
+use faulty::{Faulty, SOUND};
 
-/// The model, and then a fault in what it left.
-struct Faulty(fn(&mut Lent, &mut u32));
-
-fn model() -> &'static dyn Subject {
-    subject::named(Some("model")).unwrap().1
-}
-
-impl Subject for Faulty {
-    fn decode(&self, call: Call, mut lent: Lent) -> u32 {
-        let mut refusal = model()
-            .decode(call, Lent { text: lent.text, issues: lent.issues, counts: lent.counts });
-        (self.0)(&mut lent, &mut refusal);
-        refusal
-    }
-
-    fn unknown_escape(&self, _: &[u8], _: usize, _: usize) -> (usize, [usize; 2]) {
-        (0, [0, 0])
-    }
-
-    fn encode(&self, _: Call, _: CodingLent) -> u32 {
-        unreachable!("nothing is coded here")
-    }
-
-    fn key(&self, call: Call, key: &mut [u8], counts: &mut [usize]) -> u32 {
-        let mut refusal = model().key(call, key, counts);
-        let counts = counts.try_into().unwrap();
-        (self.0)(&mut Lent { text: key, issues: &mut [], counts }, &mut refusal);
-        refusal
-    }
-}
+type Fault = fn(&mut Lent, &mut u32);
 
 /// あ, Truncated at 0; room for 10 bytes and 7 numbers.
-fn run(fault: fn(&mut Lent, &mut u32), rooms: Rooms) -> Option<String> {
-    let (subject, cells) = (Faulty(fault), cells::rusts());
+fn run(reading: Fault, rooms: Rooms) -> Option<String> {
+    let subject = Faulty { reading, ..SOUND };
     let mut holder = Holder::new(&subject);
-    let call = Call { cells: &cells, initial: 0, width: 0, input: &[0x24, 0xA2] };
+    let call = Call { cells: cells::rusts(), initial: 0, width: 0, input: &[0x24, 0xA2] };
     holder.read_both(call).unwrap();
     holder.run(call, rooms).err().map(|difference| difference.to_string())
 }
@@ -56,7 +32,7 @@ fn no_fault() {
 
 #[test]
 fn faults_in_an_accepted_call() {
-    let faults: [fn(&mut Lent, &mut u32); 8] = [
+    let faults: [Fault; 8] = [
         |lent, _| lent.text[2] ^= 1,
         |lent, _| lent.text[9] = 0xA5,
         |lent, _| lent.issues[1] = 5,
@@ -66,30 +42,25 @@ fn faults_in_an_accepted_call() {
         |lent, _| lent.counts[3] = 1,
         |_, refusal| *refusal = 8,
     ];
-    for (n, fault) in faults.into_iter().enumerate() {
-        let difference = run(fault, ROOMS).unwrap_or_else(|| panic!("fault {n}"));
-        assert!(difference.contains("input 2 bytes: 24A2\n"), "{difference}");
-    }
+    found::each(faults, "input 2 bytes: 24A2\n", |fault| run(fault, ROOMS));
 }
 
 #[test]
 fn faults_in_a_refused_call() {
-    let faults: [fn(&mut Lent, &mut u32); 4] = [
+    let faults: [Fault; 4] = [
         |lent, _| lent.text[0] = 0xE3,
         |lent, _| lent.issues[1] = 4,
         |lent, _| lent.counts[1] = 3,
         |_, refusal| *refusal = 9,
     ];
-    for (n, fault) in faults.into_iter().enumerate() {
-        assert!(run(fault, TOO_SMALL).is_some(), "fault {n}");
-    }
+    found::each(faults, "input 2 bytes: 24A2\n", |fault| run(fault, TOO_SMALL));
 }
 
 /// あ い: seven bytes of text, the key has six.
-fn key(fault: fn(&mut Lent, &mut u32), input: &[u8], room: usize) -> Option<String> {
-    let (subject, cells) = (Faulty(fault), cells::rusts());
+fn key(reading: Fault, input: &[u8], room: usize) -> Option<String> {
+    let subject = Faulty { reading, ..SOUND };
     let mut holder = Holder::new(&subject);
-    let call = Call { cells: &cells, initial: 0, width: 1, input };
+    let call = Call { cells: cells::rusts(), initial: 0, width: 1, input };
     holder.read(call);
     holder.key(call, room).err().map(|difference| difference.to_string())
 }
@@ -105,7 +76,7 @@ fn no_fault_in_a_key() {
 
 #[test]
 fn faults_in_a_key() {
-    let faults: [fn(&mut Lent, &mut u32); 7] = [
+    let faults: [Fault; 7] = [
         |lent, _| lent.text[5] ^= 1,
         |lent, _| lent.text[6] = 0xA5,
         |lent, _| lent.counts[0] = 1,
@@ -114,10 +85,7 @@ fn faults_in_a_key() {
         |lent, _| lent.counts[3] = 0,
         |_, refusal| *refusal = 8,
     ];
-    for (n, fault) in faults.into_iter().enumerate() {
-        let difference = key(fault, &SPACED, 7).unwrap_or_else(|| panic!("fault {n}"));
-        assert!(difference.contains("input 3 bytes: A220A4\n"), "{difference}");
-    }
+    found::each(faults, "input 3 bytes: A220A4\n", |fault| key(fault, &SPACED, 7));
 }
 
 /// The key would fit where its text does not; 8 comes before 10.
@@ -133,9 +101,8 @@ fn faults_in_a_refused_key() {
 /// 1B 21 40 is unknown; the Rust has its bytes.
 #[test]
 fn a_wrong_part_of_the_input() {
-    let (subject, cells) = (Faulty(|_, _| {}), cells::rusts());
-    let mut holder = Holder::new(&subject);
-    let call = Call { cells: &cells, initial: 0, width: 0, input: &[0x1B, 0x21, 0x40] };
+    let mut holder = Holder::new(&SOUND);
+    let call = Call { cells: cells::rusts(), initial: 0, width: 0, input: &[0x1B, 0x21, 0x40] };
     assert!(holder.read_both(call).is_err());
     assert!(holder.part(&[0x1B], 0, 1, [0, 1]).is_err());
 }

@@ -148,19 +148,19 @@ fn pairs_of_samples() {
     let (cells, mut model) = (cells::rusts(), Coder::default());
     let texts = (0..samples::count(2)).map(|index| samples::sequence(index, 2));
     let all = texts.flat_map(|text| OPTIONS.map(|options| (text.clone(), options)));
-    let compared = all.filter(|(text, options)| compare(&mut model, &cells, text, *options));
+    let compared = all.filter(|(text, options)| compare(&mut model, cells, text, *options));
     assert!(compared.count() > 1_500);
 }
 
 #[test]
 fn mixtures() {
     let (cells, mut model) = (cells::rusts(), Coder::default());
-    let alphabet = Alphabet::new(&cells);
+    let alphabet = Alphabet::new(cells);
     for index in 0..60 {
         let mut random = Random::new(7, index);
         let length = random.range(3, 40);
         let text = alphabet.mixture(&mut random, length);
-        compare(&mut model, &cells, &text, random.one_of(&OPTIONS));
+        compare(&mut model, cells, &text, random.one_of(&OPTIONS));
     }
 }
 
@@ -169,13 +169,13 @@ fn mixtures() {
 fn the_gap_bounds() {
     let (cells, mut model, mut whole) =
         (cells::rusts(), Coder::default(), Coder::keeping(u32::MAX));
-    let alphabet = Alphabet::new(&cells);
+    let alphabet = Alphabet::new(cells);
     for index in 0..60 {
         let mut random = Random::new(8, index);
         let length = random.range(10, 60);
         let text = alphabet.mixture(&mut random, length);
         let (initial, width) = random.one_of(&OPTIONS);
-        let call = Call { cells: &cells, initial, width, input: text.as_bytes() };
+        let call = Call { cells, initial, width, input: text.as_bytes() };
         let (Ok(coding), Ok(shortest)) = (model.code(&call), whole.code(&call)) else { continue };
         let (length, least) = (coding.bytes.len(), shortest.bytes.len());
         assert!(least <= length && length - coding.gap <= least, "{text:?}");

@@ -22,7 +22,7 @@ fn the_table_of_twelve() {
     let cells = cells::zeros();
     for ((initial, width, input), (text, issues, charge)) in corners::table().zip(ANSWERS) {
         let mut reading = Reading::default();
-        Call { cells: &cells, initial, width, input: &input }.read(&mut reading);
+        Call { cells, initial, width, input: &input }.read(&mut reading);
         let expected = Reading { text: text.into(), issues: issues.to_vec(), charge };
         assert_eq!(reading, expected, "{input:02X?}");
     }

@@ -22,6 +22,7 @@ pub fn code(options: Options, text: &[u8]) -> Result<Vec<u8>, Refusal> {
     }
 }
 
-fn refusal(number: u32, place: usize) -> Refusal {
+/// The refusal with this number at this place.
+pub fn refusal(number: u32, place: usize) -> Refusal {
     Refusal { number, place: place as u32 }
 }

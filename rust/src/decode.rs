@@ -3,8 +3,9 @@
 use std::error::Error;
 use std::fmt;
 
-use crate::cells::CELLS;
-use crate::ffi::{self, Options};
+use crate::buffers::{self, larger, written};
+use crate::cells;
+use crate::ffi::{self, Call};
 use crate::sets::{GraphicSet, InitialState};
 
 /// How the width of alphanumerics and SP goes over into Unicode.
@@ -34,11 +35,8 @@ pub struct DecodeOptions {
 }
 
 impl DecodeOptions {
-    pub(crate) fn numbers(&self) -> Options {
-        Options {
-            initial: self.initial.number(),
-            width: self.width.number(),
-        }
+    pub(crate) fn call<'a>(&self, bytes: &'a [u8]) -> Call<'a> {
+        cells::call(self.initial, self.width, bytes)
     }
 }
 
@@ -103,6 +101,16 @@ pub struct Refused {
     pub place: usize,
 }
 
+impl Refused {
+    /// The first count is the place.
+    pub(crate) fn new(number: u32, counts: &[usize]) -> Refused {
+        Refused {
+            number,
+            place: counts[0],
+        }
+    }
+}
+
 impl fmt::Display for Refused {
     fn fmt(&self, f: &mut fmt::Formatter<'_>) -> fmt::Result {
         write!(f, "refused {} {}", self.number, self.place)
@@ -131,29 +139,22 @@ pub fn decode_with(bytes: &[u8], opts: &DecodeOptions) -> Decoded {
 /// assert_eq!(refused.number, 3);
 /// ```
 pub fn try_decode_with(bytes: &[u8], opts: &DecodeOptions) -> Result<Decoded, Refused> {
-    let mut text = vec![0; 4 * bytes.len() + 64];
-    let mut issues = vec![0; 4 * 16];
+    let (mut text, mut issues) = (buffers::for_text(bytes), vec![0; 4 * 16]);
+    let mut counts = [0; 4];
     loop {
-        let answer = ffi::decode(&CELLS, opts.numbers(), bytes, &mut text, &mut issues);
-        let [_, length, count, _] = answer.counts;
-        match answer.number {
-            0 => {
-                text.truncate(length);
-                let text = String::from_utf8(text).expect("the library writes UTF-8");
-                let issues = issues.chunks_exact(4).take(count);
-                let issues = issues.map(|numbers| issue(bytes, numbers)).collect();
-                return Ok(Decoded { text, issues });
-            }
-            8 => text = vec![0; 4 * text.len()],
-            9 => issues = vec![0; 4 * issues.len()],
-            number => {
-                return Err(Refused {
-                    number,
-                    place: answer.counts[0],
-                });
-            }
+        match ffi::decode(opts.call(bytes), &mut text, &mut issues, &mut counts) {
+            0 => break,
+            8 => text = larger(&text),
+            9 => issues = larger(&issues),
+            number => return Err(Refused::new(number, &counts)),
         }
     }
+    let [_, length, count, _] = counts;
+    let issues = issues.chunks_exact(4).take(count);
+    Ok(Decoded {
+        text: written(text, length),
+        issues: issues.map(|numbers| issue(bytes, numbers)).collect(),
+    })
 }
 
 /// An issue from its four numbers.

@@ -4,9 +4,10 @@ use std::error::Error;
 use std::fmt;
 
 use crate::AribString;
-use crate::cells::CELLS;
+use crate::buffers::larger;
+use crate::cells;
 use crate::decode::WidthMode;
-use crate::ffi::{self, Answer, Options};
+use crate::ffi;
 use crate::sets::InitialState;
 
 /// Options of coding: those under which the receiver decodes.
@@ -80,33 +81,28 @@ pub fn encode_with(text: &str, opts: &EncodeOptions) -> Result<AribString, Encod
 /// assert_eq!(code_with("Ａ", &EncodeOptions::default()).unwrap().gap, 0);
 /// ```
 pub fn code_with(text: &str, opts: &EncodeOptions) -> Result<Coded, EncodeError> {
-    let options = Options {
-        initial: opts.initial.number(),
-        width: opts.width.number(),
-    };
+    let call = cells::call(opts.initial, opts.width, text.as_bytes());
     let mut coding = vec![0; 9 * text.len().min(7_281)];
-    let mut store = vec![0; 4 * 2_048];
+    let (mut store, mut counts) = (vec![0; 4 * 2_048], [0; 3]);
     loop {
-        let answer = ffi::encode(&CELLS, options, text.as_bytes(), &mut store, &mut coding);
-        match answer.number {
-            0 => {
-                coding.truncate(answer.counts[1]);
-                return Ok(Coded {
-                    bytes: AribString(coding),
-                    gap: answer.counts[2],
-                });
-            }
-            7 => store = vec![0; 4 * store.len()],
-            _ => return Err(error(text, &answer)),
+        match ffi::encode(call, &mut store, &mut coding, &mut counts) {
+            0 => break,
+            7 => store = larger(&store),
+            number => return Err(error(text, number, counts[0])),
         }
     }
+    let [_, length, gap] = counts;
+    coding.truncate(length);
+    Ok(Coded {
+        bytes: AribString(coding),
+        gap,
+    })
 }
 
 /// The error of a refusal other than 7. 8 does not come: a character takes at most nine bytes.
-fn error(text: &str, answer: &Answer<3>) -> EncodeError {
-    let index = answer.counts[0];
+fn error(text: &str, number: u32, index: usize) -> EncodeError {
     let ch = text[index..].chars().next().unwrap_or('\0');
-    match answer.number {
+    match number {
         5 => EncodeError::NoBase { index, ch },
         6 => EncodeError::Unencodable { index, ch },
         3 => EncodeError::TooLong,

@@ -1,138 +1,79 @@
-//! The library's calls, with slices for pointers and lengths. Every call writes all of its counts.
+//! The library's calls, with slices for pointers and lengths; `include/arib_text.h` tells them. A
+//! call that is refused writes its buffers and counts too. The repository's own comparison goes
+//! through them.
 
-/// What every call gives: the number of the refusal, 0 for none, and its counts.
-pub struct Answer<const N: usize> {
-    pub number: u32,
-    pub counts: [usize; N],
+/// What a call is given, its buffers aside. The options are 01's numbers.
+#[derive(Clone, Copy)]
+pub struct Call<'a> {
+    pub cells: &'a [u16],
+    pub initial: u32,
+    pub width: u32,
+    pub input: &'a [u8],
+}
+
+/// Defines the calls that are lent buffers and counts. Each answers with the number of its refusal,
+/// or 0.
+macro_rules! calls {
+    ($($(#[$doc:meta])* $name:ident = $symbol:ident($($lent:ident: $number:ty),*);)*) => {
+        unsafe extern "C" {
+            $(fn $symbol(
+                cells: *const u16,
+                cells_len: usize,
+                initial: u32,
+                width: u32,
+                input: *const u8,
+                input_len: usize,
+                $($lent: *mut $number, _: usize,)*
+                counts: *mut usize,
+                counts_len: usize,
+            ) -> u32;)*
+        }
+
+        $($(#[$doc])*
+        #[inline]
+        pub fn $name(call: Call, $($lent: &mut [$number],)* counts: &mut [usize]) -> u32 {
+            // SAFETY: each pointer comes with the length of its slice, and no two slices overlap.
+            unsafe {
+                $symbol(
+                    call.cells.as_ptr(),
+                    call.cells.len(),
+                    call.initial,
+                    call.width,
+                    call.input.as_ptr(),
+                    call.input.len(),
+                    $($lent.as_mut_ptr(), $lent.len(),)*
+                    counts.as_mut_ptr(),
+                    counts.len(),
+                )
+            }
+        })*
+    };
+}
+
+calls! {
+    /// Counts: place, bytes of text, issues, charge.
+    decode = arib_decode(text: u8, issues: u32);
+    /// Counts: place, bytes of the coding, gap. The input is the text.
+    encode = arib_encode(store: u32, coding: u8);
+    /// Counts: place, bytes of the key, charge.
+    key = arib_key(key: u8);
 }
 
 unsafe extern "C" {
-    fn arib_decode(
-        cells: *const u16,
-        cells_len: usize,
-        initial: u32,
-        width: u32,
+    fn arib_unknown_escape(
         input: *const u8,
         input_len: usize,
-        text: *mut u8,
-        text_len: usize,
-        issues: *mut u32,
-        issues_len: usize,
-        counts: *mut usize,
-        counts_len: usize,
-    ) -> u32;
-
-    fn arib_encode(
-        cells: *const u16,
-        cells_len: usize,
-        initial: u32,
-        width: u32,
-        text: *const u8,
-        text_len: usize,
-        store: *mut u32,
-        store_len: usize,
-        coding: *mut u8,
-        coding_len: usize,
-        counts: *mut usize,
-        counts_len: usize,
-    ) -> u32;
-
-    fn arib_key(
-        cells: *const u16,
-        cells_len: usize,
-        initial: u32,
-        width: u32,
-        input: *const u8,
-        input_len: usize,
-        key: *mut u8,
-        key_len: usize,
-        counts: *mut usize,
-        counts_len: usize,
-    ) -> u32;
+        start: usize,
+        length: usize,
+        part: *mut usize,
+        part_len: usize,
+    ) -> usize;
 }
 
-/// Options, by 01's numbers.
-#[derive(Clone, Copy)]
-pub struct Options {
-    pub initial: u32,
-    pub width: u32,
-}
-
-/// Counts: place, bytes of text, issues, charge.
-pub fn decode(
-    cells: &[u16],
-    options: Options,
-    input: &[u8],
-    text: &mut [u8],
-    issues: &mut [u32],
-) -> Answer<4> {
-    let mut counts = [0; 4];
-    // SAFETY: each pointer comes with the length of its slice, and no two slices overlap.
-    let number = unsafe {
-        arib_decode(
-            cells.as_ptr(),
-            cells.len(),
-            options.initial,
-            options.width,
-            input.as_ptr(),
-            input.len(),
-            text.as_mut_ptr(),
-            text.len(),
-            issues.as_mut_ptr(),
-            issues.len(),
-            counts.as_mut_ptr(),
-            counts.len(),
-        )
-    };
-    Answer { number, counts }
-}
-
-/// Counts: place, bytes of the coding, gap.
-pub fn encode(
-    cells: &[u16],
-    options: Options,
-    text: &[u8],
-    store: &mut [u32],
-    coding: &mut [u8],
-) -> Answer<3> {
-    let mut counts = [0; 3];
-    // SAFETY: each pointer comes with the length of its slice, and no two slices overlap.
-    let number = unsafe {
-        arib_encode(
-            cells.as_ptr(),
-            cells.len(),
-            options.initial,
-            options.width,
-            text.as_ptr(),
-            text.len(),
-            store.as_mut_ptr(),
-            store.len(),
-            coding.as_mut_ptr(),
-            coding.len(),
-            counts.as_mut_ptr(),
-            counts.len(),
-        )
-    };
-    Answer { number, counts }
-}
-
-/// Counts: place, bytes of the key, charge.
-pub fn key(cells: &[u16], options: Options, input: &[u8], key: &mut [u8]) -> Answer<3> {
-    let mut counts = [0; 3];
-    // SAFETY: each pointer comes with the length of its slice, and no two slices overlap.
-    let number = unsafe {
-        arib_key(
-            cells.as_ptr(),
-            cells.len(),
-            options.initial,
-            options.width,
-            input.as_ptr(),
-            input.len(),
-            key.as_mut_ptr(),
-            key.len(),
-            counts.as_mut_ptr(),
-            counts.len(),
-        )
-    };
-    Answer { number, counts }
+/// The length of the part of the input; `part` gets its start and length.
+#[inline]
+pub fn unknown_escape(input: &[u8], start: usize, length: usize, part: &mut [usize]) -> usize {
+    let (bytes, places) = (input.as_ptr(), part.as_mut_ptr());
+    // SAFETY: both pointers come with the lengths of their slices, which do not overlap.
+    unsafe { arib_unknown_escape(bytes, input.len(), start, length, places, part.len()) }
 }

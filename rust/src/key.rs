@@ -1,6 +1,6 @@
 //! Keys of titles.
 
-use crate::cells::CELLS;
+use crate::buffers::{self, larger, written};
 use crate::decode::{DecodeOptions, Refused};
 use crate::ffi;
 
@@ -14,21 +14,12 @@ use crate::ffi;
 /// assert_eq!(key_with(&[0x24, 0xA2], &options).unwrap_err().number, 10);
 /// ```
 pub fn key_with(bytes: &[u8], opts: &DecodeOptions) -> Result<String, Refused> {
-    let mut key = vec![0; 4 * bytes.len() + 64];
+    let (mut key, mut counts) = (buffers::for_text(bytes), [0; 3]);
     loop {
-        let answer = ffi::key(&CELLS, opts.numbers(), bytes, &mut key);
-        match answer.number {
-            0 => {
-                key.truncate(answer.counts[1]);
-                return Ok(String::from_utf8(key).expect("the library writes UTF-8"));
-            }
-            8 => key = vec![0; 4 * key.len()],
-            number => {
-                return Err(Refused {
-                    number,
-                    place: answer.counts[0],
-                });
-            }
+        match ffi::key(opts.call(bytes), &mut key, &mut counts) {
+            0 => return Ok(written(key, counts[1])),
+            8 => key = larger(&key),
+            number => return Err(Refused::new(number, &counts)),
         }
     }
 }

@@ -24,10 +24,12 @@
 //! coding of the text could be; [`key_with`] gives the key of a title; [`try_decode_with`] says
 //! which question an input fails instead of panicking.
 
+mod buffers;
 mod cells;
 pub mod decode;
 pub mod encode;
-mod ffi;
+#[doc(hidden)]
+pub mod ffi;
 pub mod key;
 pub mod sets;
 

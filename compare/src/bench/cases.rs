@@ -1,17 +1,69 @@
 //! What is measured.
 
-use crate::call::{LONGEST, Rooms};
+use crate::call::{Call, CodingRooms, LONGEST, Rooms};
+use crate::cells;
+use crate::coding::Coder;
 use crate::inputs::bombs;
+use crate::texts::long;
 use crate::titles;
 
-/// Inputs that are decoded or keyed one after another, under CharacterSize, with the Rust's table.
+/// What is done with an input.
+#[derive(Clone, Copy, PartialEq, Eq)]
+pub enum Work {
+    Decode(Rooms),
+    /// With room for so many bytes of the text before removal.
+    Key(usize),
+    /// In one store and one buffer that serve all texts of the case.
+    Code,
+}
+
+/// Inputs that are taken one after another, under CharacterSize, with the Rust's table.
 pub struct Case {
     pub name: &'static str,
+    pub work: Work,
     pub initial: u32,
     pub inputs: fn() -> Vec<Vec<u8>>,
-    pub rooms: Rooms,
-    /// How often the case is run to count its instructions.
+    /// How often the case is run to count its instructions; 0 if the Rust is too slow for that.
     pub passes: u32,
+}
+
+/// A case with its inputs, and the call that each of them goes into.
+pub struct Ready {
+    pub work: Work,
+    pub call: Call<'static>,
+    pub inputs: Vec<Vec<u8>>,
+}
+
+impl Case {
+    pub fn ready(&self) -> Ready {
+        let call = Call { cells: cells::rusts(), initial: self.initial, width: 0, input: &[] };
+        Ready { work: self.work, call, inputs: (self.inputs)() }
+    }
+}
+
+impl Ready {
+    /// The lengths of what is lent: text and issues, the key alone, or store and coding.
+    pub fn rooms(&self) -> [usize; 2] {
+        match self.work {
+            Work::Decode(Rooms { text, issues }) => [text, issues],
+            Work::Key(text) => [text, 0],
+            Work::Code => {
+                let CodingRooms { store, coding } = self.greatest();
+                [store, coding]
+            }
+        }
+    }
+
+    /// The greatest need of any text.
+    fn greatest(&self) -> CodingRooms {
+        let mut model = Coder::default();
+        let codings = self.inputs.iter().map(|input| model.code(&Call { input, ..self.call }));
+        let exact = codings.map(|coding| CodingRooms::exact(&coding.expect("no refusal")));
+        exact.fold(CodingRooms::default(), |most, rooms| CodingRooms {
+            store: most.store.max(rooms.store),
+            coding: most.coding.max(rooms.coding),
+        })
+    }
 }
 
 /// Three bytes of text for each byte that is read, so that little is filled with zeros: of the
@@ -20,12 +72,12 @@ const TITLE: Rooms = Rooms { text: 256, issues: 64 };
 const PLAIN: Rooms = Rooms { text: 3 * LONGEST, issues: 64 };
 const MACROS: Rooms = Rooms { text: 3 * (65 * LONGEST + 4_096), issues: 4_096 };
 
-pub const TITLES: Case =
-    Case { name: "titles", initial: 0, inputs: titles::all, rooms: TITLE, passes: 50 };
-pub const MIXED: Case = large("mixed", || vec![mixed()], PLAIN, 5);
+const TITLES: Case =
+    Case { name: "titles", work: Work::Decode(TITLE), initial: 0, inputs: titles::all, passes: 50 };
+const MIXED: Case = large("mixed", || vec![mixed()], PLAIN, 5);
 
-/// All cases of decoding.
-pub const CASES: [Case; 7] = [
+/// All cases: of decoding, of keys, of coding.
+pub const CASES: [Case; 14] = [
     TITLES,
     large("kanji", || vec![kanji()], PLAIN, 5),
     large("kana", || vec![kana()], PLAIN, 5),
@@ -33,6 +85,13 @@ pub const CASES: [Case; 7] = [
     large("macro-kana", || vec![bombs::called(&[0xA2; 65], LONGEST)], MACROS, 1),
     large("macro-one-byte", || vec![bombs::chain(&[&[0xA2], &[0x21; 32]], LONGEST)], MACROS, 1),
     large("macro-empty", || vec![bombs::chain(&[&[], &[0x21; 64]], LONGEST)], MACROS, 1),
+    Case { name: "key-titles", work: Work::Key(TITLE.text), ..TITLES },
+    Case { name: "key-mixed", work: Work::Key(PLAIN.text), ..MIXED },
+    coded("code-titles", 0, || titles::texts().into_iter().map(Vec::from).collect(), 1),
+    coded("code-lines", 1, || vec![long::caption(700).into()], 1),
+    coded("code-caption", 1, || vec![long::caption(7_000).into()], 0),
+    coded("code-mixed", 0, || vec![long::mixed(400).into()], 1),
+    coded("code-newlines", 0, || vec![long::newlines(100).into()], 1),
 ];
 
 /// One input of 64 KB, a caption.
@@ -42,7 +101,17 @@ const fn large(
     rooms: Rooms,
     passes: u32,
 ) -> Case {
-    Case { name, initial: 1, inputs, rooms, passes }
+    Case { name, work: Work::Decode(rooms), initial: 1, inputs, passes }
+}
+
+/// Texts to code.
+const fn coded(
+    name: &'static str,
+    initial: u32,
+    inputs: fn() -> Vec<Vec<u8>>,
+    passes: u32,
+) -> Case {
+    Case { name, work: Work::Code, initial, inputs, passes }
 }
 
 /// The first level's kanji, rows 16 to 47, over and over.

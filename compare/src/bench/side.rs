@@ -2,23 +2,26 @@
 
 use std::hint::black_box;
 
-use isdb_text::decode_with;
-use oracle::options::Options;
+use isdb_text::{decode_with, encode_with};
 
-use super::Case;
+use super::{Ready, Work};
 use crate::call::Call;
-use crate::subject::{Lent, Subject};
+use crate::key::key;
+use crate::subject::{CodingLent, Lent, Subject};
 
-/// Who decodes.
+/// Who does the work of a case.
 #[derive(Clone, Copy, PartialEq, Eq)]
 pub enum Side {
-    /// `isdb_text::decode_with`.
+    /// isdb-text. It has no call for keys: it decodes, and the key is made of its text.
     Rust,
-    /// `arib_decode`, question 1 included.
+    /// The subject, question 1 included.
     Subject,
     /// `arib_decode` with no buffers and an option that question 2 refuses: question 1 alone.
     Question,
 }
+
+/// What does a case's work once.
+pub type Runner<'a> = Box<dyn FnMut() + 'a>;
 
 impl Side {
     pub fn named(name: &str) -> Option<Side> {
@@ -30,36 +33,73 @@ impl Side {
         }
     }
 
-    /// What decodes the inputs once. The lent buffers are made here, the Rust's text and issues
+    /// What takes the inputs once. What is lent is made here, what the Rust answers and its layers
     /// within each call.
-    pub fn runner<'a>(
-        self,
-        subject: &'a dyn Subject,
-        cells: &'a [u16],
-        case: &Case,
-        inputs: &'a [Vec<u8>],
-    ) -> Box<dyn FnMut() + 'a> {
-        let (initial, width) = (case.initial, 0);
-        if self == Side::Rust {
-            let options = Options::from_numbers(initial, width).expect("0 or 1").into();
-            let decode = move |input: &Vec<u8>| drop(black_box(decode_with(input, &options)));
-            return Box::new(move || inputs.iter().for_each(decode));
+    pub fn runner<'a>(self, subject: &'a dyn Subject, case: &'a Ready) -> Runner<'a> {
+        match self {
+            Side::Rust => rust(case),
+            Side::Subject => own(subject, case),
+            Side::Question => question(subject, case),
         }
-        if self == Side::Question {
-            let call = Call { cells, initial: 2, width, input: &[] };
-            return Box::new(move || {
-                for _ in inputs {
-                    let lent = Lent { text: &mut [], issues: &mut [], counts: &mut [0; 4] };
-                    assert_eq!(subject.decode(call, lent), 2);
-                }
-            });
-        }
-        let (mut text, mut issues) = (vec![0; case.rooms.text], vec![0; case.rooms.issues]);
-        Box::new(move || {
-            for input in inputs {
-                let lent = Lent { text: &mut text, issues: &mut issues, counts: &mut [0; 4] };
-                assert_eq!(subject.decode(Call { cells, initial, width, input }, lent), 0);
-            }
-        })
     }
+}
+
+fn rust(case: &Ready) -> Runner<'_> {
+    let options = case.call.options();
+    let (decoding, coding) = (options.into(), options.into());
+    match case.work {
+        Work::Decode(_) => {
+            each(&case.inputs, move |input| drop(black_box(decode_with(input, &decoding))))
+        }
+        Work::Key(_) => each(&case.inputs, move |input| {
+            drop(black_box(key(&decode_with(input, &decoding).text)));
+        }),
+        Work::Code => {
+            let text = |input| str::from_utf8(input).expect("a text");
+            let texts: Vec<&str> = case.inputs.iter().map(|input| text(input)).collect();
+            Box::new(move || {
+                texts.iter().for_each(|text| drop(black_box(encode_with(text, &coding))));
+            })
+        }
+    }
+}
+
+fn own<'a>(subject: &'a dyn Subject, case: &'a Ready) -> Runner<'a> {
+    let ([first, second], call) = (case.rooms(), case.call);
+    match case.work {
+        Work::Decode(_) => {
+            let (mut text, mut issues) = (vec![0; first], vec![0; second]);
+            each(&case.inputs, move |input| {
+                let lent = Lent { text: &mut text, issues: &mut issues, counts: &mut [0; 4] };
+                assert_eq!(subject.decode(Call { input, ..call }, lent), 0);
+            })
+        }
+        Work::Key(_) => {
+            let mut buffer = vec![0; first];
+            each(&case.inputs, move |input| {
+                assert_eq!(subject.key(Call { input, ..call }, &mut buffer, &mut [0; 3]), 0);
+            })
+        }
+        Work::Code => {
+            let (mut store, mut coding) = (vec![0; first], vec![0; second]);
+            each(&case.inputs, move |input| {
+                let (store, coding) = (&mut store[..], &mut coding[..]);
+                let lent = CodingLent { store, coding, counts: &mut [0; 3] };
+                assert_eq!(subject.encode(Call { input, ..call }, lent), 0);
+            })
+        }
+    }
+}
+
+fn question<'a>(subject: &'a dyn Subject, case: &'a Ready) -> Runner<'a> {
+    let call = Call { initial: 2, ..case.call };
+    each(&case.inputs, move |_| {
+        let lent = Lent { text: &mut [], issues: &mut [], counts: &mut [0; 4] };
+        assert_eq!(subject.decode(call, lent), 2);
+    })
+}
+
+/// Does it with each input in turn.
+fn each<'a>(inputs: &'a [Vec<u8>], mut work: impl FnMut(&'a Vec<u8>) + 'a) -> Runner<'a> {
+    Box::new(move || inputs.iter().for_each(&mut work))
 }

@@ -2,9 +2,8 @@
 
 use std::time::Instant;
 
-use super::{CASES, CODING, Case, CodingCase, KEYS, Side};
-use crate::call::CodingRooms;
-use crate::cells;
+use super::side::Runner;
+use super::{CASES, Case, Side, Work};
 use crate::subject::Subject;
 
 /// How many times are taken of each side; their median counts.
@@ -14,53 +13,32 @@ const LEAST: f64 = 0.02;
 
 /// Measures all cases, the sides in turn, and prints a line for each.
 pub fn print(subject: &dyn Subject) {
-    let cells = cells::rusts();
-    let question = question(subject, &cells);
+    let question = question(subject);
     println!("nanoseconds a call, medians of {SAMPLES}");
     line(["case", "calls", "bytes", "text room", "issue room", "rust", "subject", "ratio"]);
     line(["question-1", "-", "-", "-", "-", "-", &format!("{question:.0}"), "-"]);
-    CASES.iter().for_each(|case| decoding(subject, &cells, case, question));
-    KEYS.iter().for_each(|case| keys(subject, &cells, case, question));
+    let (coding, others): (Vec<_>, Vec<_>) = CASES.iter().partition(|case| case.work == Work::Code);
+    others.into_iter().for_each(|case| measured(subject, case, question));
     line(["case", "calls", "bytes", "store", "coding room", "rust", "subject", "ratio"]);
-    CODING.iter().for_each(|case| coding(subject, &cells, case));
+    coding.into_iter().for_each(|case| measured(subject, case, 0.0));
 }
 
 /// Question 1 alone. It is taken off the rows of decoding and of keys.
-fn question(subject: &dyn Subject, cells: &[u16]) -> f64 {
-    let case = &CASES[0];
-    let inputs = (case.inputs)();
-    let [question] = times([Side::Question.runner(subject, cells, case, &inputs)], inputs.len());
+fn question(subject: &dyn Subject) -> f64 {
+    let ready = CASES[0].ready();
+    let [question] = times([Side::Question.runner(subject, &ready)], ready.inputs.len());
     question
 }
 
-fn decoding(subject: &dyn Subject, cells: &[u16], case: &Case, question: f64) {
-    let inputs = (case.inputs)();
-    let calls = inputs.len();
-    let runners =
-        [Side::Rust, Side::Subject].map(|side| side.runner(subject, cells, case, &inputs));
+/// The line of a case, with so much taken off the subject's time.
+fn measured(subject: &dyn Subject, case: &Case, off: f64) {
+    let ready = case.ready();
+    let calls = ready.inputs.len();
+    let runners = [Side::Rust, Side::Subject].map(|side| side.runner(subject, &ready));
     let [rust, own] = times(runners, calls);
-    let bytes = inputs.iter().map(Vec::len).sum::<usize>() / calls;
-    row(case.name, [calls, bytes, case.rooms.text, case.rooms.issues], rust, own - question);
-}
-
-/// No issues are lent.
-fn keys(subject: &dyn Subject, cells: &[u16], case: &Case, question: f64) {
-    let inputs = (case.inputs)();
-    let calls = inputs.len();
-    let runners = [Side::Rust, Side::Subject].map(|side| case.keys(side, subject, cells, &inputs));
-    let [rust, own] = times(runners, calls);
-    let bytes = inputs.iter().map(Vec::len).sum::<usize>() / calls;
-    row(case.name, [calls, bytes, case.rooms.text, 0], rust, own - question);
-}
-
-fn coding(subject: &dyn Subject, cells: &[u16], case: &CodingCase) {
-    let texts = (case.texts)();
-    let calls = texts.len();
-    let runners = [Side::Rust, Side::Subject].map(|side| case.runner(side, subject, cells, &texts));
-    let [rust, own] = times(runners, calls);
-    let bytes = texts.iter().map(String::len).sum::<usize>() / calls;
-    let CodingRooms { store, coding } = case.rooms(cells, &texts);
-    row(case.name, [calls, bytes, store, coding], rust, own);
+    let bytes = ready.inputs.iter().map(Vec::len).sum::<usize>() / calls;
+    let [first, second] = ready.rooms();
+    row(case.name, [calls, bytes, first, second], rust, own - off);
 }
 
 /// A case's sizes, its times and their ratio.
@@ -77,7 +55,7 @@ fn line([name, words @ ..]: [&str; 8]) {
 }
 
 /// The median nanoseconds a call of the sides, taken in turn.
-fn times<const N: usize>(runners: [Box<dyn FnMut() + '_>; N], calls: usize) -> [f64; N] {
+fn times<const N: usize>(runners: [Runner; N], calls: usize) -> [f64; N] {
     let mut runners = runners.map(|mut run| (passes(&mut run), run, Vec::new()));
     for _ in 0..SAMPLES {
         for (passes, run, taken) in &mut runners {

@@ -5,57 +5,47 @@ use std::fmt::Debug;
 use std::panic::{AssertUnwindSafe, catch_unwind};
 
 use isdb_text::{decode_with, encode_with};
-use oracle::options::Options;
 use ours::{Coded, Decoded, EncodeError, Refused};
 
 use super::types::{coded, decode_options, decoded, encode_options};
-use super::{Calls, Runs, Tally};
-use crate::call::{Call, under_all};
+use super::{Calls, Tally};
+use crate::call::Call;
 use crate::coding::Coder;
-use crate::difference::Difference;
-use crate::hold::Held;
+use crate::difference::{Difference, Held, held};
 use crate::key::key;
-use crate::share::Worker;
+use crate::runs::Worker;
 
 /// What a thread keeps from call to call.
-pub struct Holder<'a> {
+pub struct Holder {
     calls: Calls,
-    cells: &'a [u16],
     model: Coder,
     pub tally: Tally,
 }
 
-impl Worker for Holder<'_> {
+impl Worker for Holder {
+    type Subject = Calls;
     type Tally = Tally;
+
+    fn new(calls: Calls) -> Self {
+        let (model, tally) = Default::default();
+        Holder { calls, model, tally }
+    }
 
     fn tally(self) -> Tally {
         self.tally
     }
 }
 
-impl<'a> Holder<'a> {
-    pub fn new(runs: &'a Runs) -> Self {
-        let (model, tally) = Default::default();
-        Holder { calls: runs.calls, cells: &runs.cells, model, tally }
-    }
-
-    /// The calls of an input or a text under all options.
-    pub fn under_all<'b>(&self, input: &'b [u8]) -> [Call<'b>; 4]
-    where
-        'a: 'b,
-    {
-        under_all(self.cells, input)
-    }
-
+impl Holder {
     /// An input.
     pub fn read(&mut self, call: Call) -> Held {
         self.reading(call).map(drop)
     }
 
     /// Text, issues with all their fields, and the key.
-    fn reading(&mut self, call: Call) -> Result<Decoded, Box<Difference>> {
+    fn reading(&mut self, call: Call) -> Result<Decoded, Difference> {
         let (calls, own) = (self.calls, decode_options(&call));
-        let reading = decoded(decode_with(call.input, &options(&call).into()));
+        let reading = decoded(decode_with(call.input, &call.options().into()));
         same("reading", &call, &reading, || (calls.decode)(call.input, &own))?;
         let key = if reading.issues.is_empty() { Ok(key(&reading.text)) } else { refused(10) };
         same("key", &call, &key, || (calls.key)(call.input, &own))?;
@@ -70,7 +60,7 @@ impl<'a> Holder<'a> {
     pub fn code(&mut self, call: Call) -> Held {
         let Ok(text) = str::from_utf8(call.input) else { return Ok(()) };
         let (calls, own) = (self.calls, encode_options(&call));
-        let coding = coded(encode_with(text, &options(&call).into()));
+        let coding = coded(encode_with(text, &call.options().into()));
         same("coding", &call, &coding, || (calls.encode)(text, &own))?;
         let gap = self.model.code(&call).map_or(0, |coding| coding.gap);
         let with_gap = coding.clone().map(|bytes| Coded { bytes, gap });
@@ -98,11 +88,6 @@ impl<'a> Holder<'a> {
     }
 }
 
-/// isdb-text's options.
-fn options(call: &Call) -> Options {
-    Options::from_numbers(call.initial, call.width).expect("0 or 1")
-}
-
 fn refused<T>(number: u32) -> Result<T, Refused> {
     Err(Refused { number, place: 0 })
 }
@@ -113,10 +98,9 @@ where
     T: PartialEq + Debug,
 {
     let found = catch_unwind(AssertUnwindSafe(answer)).ok();
-    if found.as_ref() == Some(expected) {
-        return Ok(());
-    }
-    let found = found.map_or("a panic".into(), |found| format!("{found:?}"));
-    let difference = Difference::new(what, call).line("expected", format!("{expected:?}"));
-    Err(Box::new(difference.line("crate", found)))
+    let fault = (found.as_ref() != Some(expected)).then_some(what);
+    held(fault, call, |difference| {
+        let found = found.map_or("a panic".into(), |found| format!("{found:?}"));
+        difference.line("expected", format!("{expected:?}")).line("crate", found)
+    })
 }

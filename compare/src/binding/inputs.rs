@@ -1,14 +1,14 @@
 //! Inputs that are decoded and keyed, under all options unless said.
 
 use super::{Found, Holder, Runs};
-use crate::hold::Held;
+use crate::call::under_all;
+use crate::difference::Held;
 use crate::inputs::{self, long};
 use crate::random::Random;
-use crate::titles;
+use crate::{cells, titles};
 
 pub fn corners(runs: &Runs) -> Found {
-    let list = inputs::every_corner();
-    runs.each(list.len() as u64, |holder, index| read(holder, &list[index as usize]))
+    runs.each_of(&inputs::every_corner(), |holder, input| read(holder, input))
 }
 
 pub fn to_two(runs: &Runs) -> Found {
@@ -17,7 +17,7 @@ pub fn to_two(runs: &Runs) -> Found {
 
 pub fn random(runs: &Runs) -> Found {
     let titles = titles::all();
-    runs.each(runs.inputs, |holder, index| {
+    runs.each(runs.amount.inputs, |holder, index| {
         read(holder, &inputs::random(&mut Random::new(runs.seed, index), &titles))
     })
 }
@@ -27,11 +27,10 @@ pub fn long(runs: &Runs) -> Found {
     runs.each(long::COUNT, |holder, index| {
         let mut random = Random::new(!runs.seed, index);
         let input = long::long(&mut random, index);
-        let call = random.one_of(&holder.under_all(&input));
-        holder.read(call)
+        holder.read(random.one_of(&under_all(cells::rusts(), &input)))
     })
 }
 
 fn read(holder: &mut Holder, input: &[u8]) -> Held {
-    holder.under_all(input).into_iter().try_for_each(|call| holder.read(call))
+    under_all(cells::rusts(), input).into_iter().try_for_each(|call| holder.read(call))
 }

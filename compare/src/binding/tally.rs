@@ -2,29 +2,19 @@
 
 use std::fmt::{Display, Formatter, Result};
 
-use crate::tally::Sum;
+use crate::tally::tally;
 
-#[derive(Debug, Clone, Default)]
-pub struct Tally {
-    /// Inputs decoded and keyed, once for each pair of options.
-    pub readings: u64,
-    /// Their issues, and how many have a key.
-    pub issues: u64,
-    pub keys: u64,
-    /// Texts coded or refused, likewise; how many were decoded again, how many have a gap.
-    pub codings: u64,
-    pub again: u64,
-    pub gaps: u64,
-}
-
-impl Sum for Tally {
-    fn add(&mut self, other: &Tally) {
-        self.readings += other.readings;
-        self.issues += other.issues;
-        self.keys += other.keys;
-        self.codings += other.codings;
-        self.again += other.again;
-        self.gaps += other.gaps;
+tally! {
+    pub struct Tally {
+        /// Inputs decoded and keyed, once for each pair of options.
+        pub readings: u64,
+        /// Their issues, and how many have a key.
+        pub issues: u64,
+        pub keys: u64,
+        /// Texts coded or refused, likewise; how many were decoded again, how many have a gap.
+        pub codings: u64,
+        pub again: u64,
+        pub gaps: u64,
     }
 }
 

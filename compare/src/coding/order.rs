@@ -1,8 +1,7 @@
 //! The text's characters in the order in which they are coded; questions 4 and 5.
 
-use oracle::coding::Refusal;
+use oracle::coding::{Refusal, refusal};
 
-use super::refusal;
 use crate::model::tables::is_mark;
 
 /// Each character with its byte place, the marks before their base in the order of the text.

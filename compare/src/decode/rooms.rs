@@ -1,7 +1,8 @@
 //! Rooms for the last reading.
 
+use super::Holder;
 use crate::call::{Call, Rooms};
-use crate::hold::{Held, Holder};
+use crate::difference::Held;
 use crate::random::Random;
 
 /// Beyond what is needed, with a remainder of the issue buffer.

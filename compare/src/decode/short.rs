@@ -1,7 +1,7 @@
 //! The corners, and every input of up to three bytes.
 
 use super::rooms::{all_rooms, key_rooms};
-use super::{Found, Runs, asked};
+use super::{Found, Runs};
 use crate::call::{Call, Rooms, under_all};
 use crate::{cells, inputs};
 
@@ -10,13 +10,11 @@ const SMALL: Rooms = Rooms { text: 200, issues: 18 };
 
 /// The corners under all options, with the Rust's table and with zeros, in all rooms.
 pub fn corners(runs: &Runs) -> Found {
-    let list = inputs::every_corner();
-    let (rusts, zeros) = (cells::rusts(), cells::zeros());
-    runs.each(list.len() as u64, |holder, index| {
-        for call in under_all(&rusts, &list[index as usize]) {
+    runs.each_of(&inputs::every_corner(), |holder, input| {
+        for call in under_all(cells::rusts(), input) {
             holder.read_both(call)?;
             all_rooms(holder, call)?;
-            let call = Call { cells: &zeros, ..call };
+            let call = Call { cells: cells::zeros(), ..call };
             holder.read(call);
             all_rooms(holder, call)?;
         }
@@ -26,9 +24,8 @@ pub fn corners(runs: &Runs) -> Found {
 
 /// Every input of up to two bytes.
 pub fn to_two(runs: &Runs) -> Found {
-    let cells = cells::rusts();
     runs.each(inputs::TO_TWO, |holder, index| {
-        for call in under_all(&cells, &inputs::to_two(index)) {
+        for call in under_all(cells::rusts(), &inputs::to_two(index)) {
             holder.read_both(call)?;
             holder.run(call, SMALL)?;
             key_rooms(holder, call)?;
@@ -37,15 +34,13 @@ pub fn to_two(runs: &Runs) -> Found {
     })
 }
 
-/// Every input of three bytes, through the call that puts no question.
+/// Every input of three bytes.
 pub fn three(runs: &Runs) -> Found {
-    let cells = cells::rusts();
-    let calls = asked(&cells);
-    runs.each((1 << 24) / runs.every, |holder, index| {
-        let bytes = inputs::numbered(index * runs.every, 3);
-        for asked in calls.map(|asked| asked.with(&bytes[..3]).expect("three bytes")) {
-            holder.read_both(asked.call())?;
-            holder.run(asked.call(), SMALL)?;
+    let every = runs.amount.every;
+    runs.each((1 << 24) / every, |holder, index| {
+        for call in under_all(cells::rusts(), &inputs::numbered(index * every, 3)[..3]) {
+            holder.read_both(call)?;
+            holder.run(call, SMALL)?;
         }
         Ok(())
     })

@@ -1,9 +1,9 @@
 //! Other cell tables that question 1 lets through, against the model.
 
 use super::rooms::{all_rooms, key_rooms};
-use super::{Found, Runs};
+use super::{Found, Holder, Runs};
 use crate::call::{Call, OPTIONS, Rooms};
-use crate::hold::{Held, Holder};
+use crate::difference::Held;
 use crate::random::Random;
 use crate::{cells, inputs, titles};
 
@@ -13,10 +13,10 @@ const INPUTS: u64 = 100;
 /// Zeros, then tables with odd cells: one input by such a table for twenty random ones.
 pub fn tables(runs: &Runs) -> Found {
     let titles = titles::all();
-    let total = (runs.random / 20 / INPUTS).max(20);
+    let total = (runs.amount.random / 20 / INPUTS).max(20);
     runs.each(total, |holder, index| {
         let mut random = Random::new(runs.seed ^ 0xCE11, index);
-        let cells = if index == 0 { cells::zeros() } else { cells::odd(&mut random) };
+        let cells = cells::other(&mut random, index);
         for _ in 0..INPUTS {
             let input = inputs::random(&mut random, &titles);
             let (initial, width) = random.one_of(&OPTIONS);

@@ -1,6 +1,6 @@
 //! The titles and random texts, and long ones.
 
-use super::rooms::{self, in_all, in_two};
+use super::rooms::{self, in_all, in_two, under_all_options};
 use super::{Found, Runs};
 use crate::call::{Call, LONGEST_TEXT, under_all};
 use crate::random::Random;
@@ -13,22 +13,15 @@ const ALL_ROOMS: usize = 8;
 
 /// The titles under all options, then random texts, each under one pair of options.
 pub fn random(runs: &Runs) -> Found {
-    let cells = cells::rusts();
-    let alphabet = Alphabet::new(&cells);
-    let titles: Vec<&str> = titles::lines().map(|(_, title)| title).collect();
-    let mut sum = runs.each(titles.len() as u64, |holder, index| {
-        holder.tally.texts += 1;
-        for call in under_all(&cells, titles[index as usize].as_bytes()) {
-            holder.code_both(call)?;
-            in_all(holder, call)?;
-        }
-        Ok(())
-    })?;
-    sum.add(&runs.each(runs.random, |holder, index| {
+    let alphabet = Alphabet::new(cells::rusts());
+    let titles = titles::texts();
+    let mut sum =
+        runs.each_of(&titles, |holder, title| under_all_options(holder, title.as_bytes()))?;
+    sum.add(&runs.each(runs.amount.random, |holder, index| {
         let mut random = Random::new(runs.seed, index);
         let text = texts::random(&mut random, &alphabet);
         holder.tally.texts += 1;
-        let call = random.one_of(&under_all(&cells, &text));
+        let call = random.one_of(&under_all(cells::rusts(), &text));
         holder.code_both(call)?;
         if random.once_in(ALL_ROOMS) {
             in_all(holder, call)
@@ -42,24 +35,23 @@ pub fn random(runs: &Runs) -> Found {
 /// Long texts, each under one pair of options, those that are not random under CharacterSize,
 /// since AnnexE refuses some; on request the one that needs the greatest store.
 pub fn long(runs: &Runs) -> Found {
-    let cells = cells::rusts();
-    let alphabet = Alphabet::new(&cells);
+    let alphabet = Alphabet::new(cells::rusts());
     let mut sum = runs.each(long::COUNT, |holder, index| {
         let mut random = Random::new(!runs.seed, index);
         let text = long::long(&mut random, &alphabet, index);
         holder.tally.texts += 1;
-        let mut call = random.one_of(&under_all(&cells, &text));
+        let mut call = random.one_of(&under_all(cells::rusts(), &text));
         if index < long::FIXED {
             call.width = 0;
         }
         holder.code_both(call)?;
         in_two(holder, call, &mut random)
     })?;
-    if runs.greatest {
+    if runs.amount.greatest {
         let text = long::newlines(LONGEST_TEXT).into_bytes();
         sum.add(&runs.each(1, |holder, _| {
             holder.tally.texts += 1;
-            let call = Call { cells: &cells, initial: 0, width: 0, input: &text };
+            let call = Call { cells: cells::rusts(), initial: 0, width: 0, input: &text };
             holder.code_both(call)?;
             holder.run(call, rooms::exact(holder))
         })?);

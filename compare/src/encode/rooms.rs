@@ -1,8 +1,9 @@
-//! Rooms for the last text.
+//! Rooms for the last text, and texts coded in them.
 
-use super::hold::Holder;
-use crate::call::{Call, CodingRooms};
-use crate::hold::Held;
+use super::Holder;
+use crate::call::{Call, CodingRooms, under_all};
+use crate::cells;
+use crate::difference::Held;
 use crate::random::Random;
 
 /// So much more than is needed.
@@ -51,4 +52,22 @@ pub fn in_two(holder: &mut Holder, call: Call, random: &mut Random) -> Held {
     holder.run(call, list[0])?;
     let other = random.range(1, list.len() - 1);
     holder.run(call, list[other])
+}
+
+/// A text under all options in all rooms, by the Rust too.
+pub fn under_all_options(holder: &mut Holder, text: &[u8]) -> Held {
+    holder.tally.texts += 1;
+    for call in under_all(cells::rusts(), text) {
+        holder.code_both(call)?;
+        in_all(holder, call)?;
+    }
+    Ok(())
+}
+
+/// A text under one pair of options in two rooms, by the Rust too.
+pub fn under_one(holder: &mut Holder, text: &[u8], random: &mut Random) -> Held {
+    holder.tally.texts += 1;
+    let call = random.one_of(&under_all(cells::rusts(), text));
+    holder.code_both(call)?;
+    in_two(holder, call, random)
 }

@@ -12,10 +12,10 @@ const TEXTS: u64 = 40;
 
 /// Zeros, then tables with odd cells: one text by such a table for ten random ones.
 pub fn tables(runs: &Runs) -> Found {
-    let total = (runs.random / 10 / TEXTS).max(20);
+    let total = (runs.amount.random / 10 / TEXTS).max(20);
     runs.each(total, |holder, index| {
         let mut random = Random::new(runs.seed ^ 0xCE11, index);
-        let cells = if index == 0 { cells::zeros() } else { cells::odd(&mut random) };
+        let cells = cells::other(&mut random, index);
         let alphabet = Alphabet::new(&cells);
         for _ in 0..TEXTS {
             let text = texts::random(&mut random, &alphabet);

@@ -2,47 +2,31 @@
 
 use std::fmt::{Display, Formatter, Result};
 
-use crate::tally::{Sum, by_number};
+use crate::tally::{Greatest, by_number, tally};
 
-#[derive(Debug, Clone, Default)]
-pub struct Tally {
-    /// Texts given to the Rust, under one pair of options or several.
-    pub texts: u64,
-    /// Texts coded by the model, once for each pair of options and each cell table.
-    pub codings: u64,
-    /// Codings and refusals held against the Rust.
-    pub rust: u64,
-    /// Codings that were decoded again.
-    pub again: u64,
-    /// Codings whose search dropped states, and those with a gap.
-    pub dropping: u64,
-    pub gaps: u64,
-    /// Calls of the subject.
-    pub calls: u64,
-    /// Answers by refusal number; 0 for accepted calls.
-    pub answers: [u64; 9],
-    /// Bytes of the longest text and the longest coding, the greatest gap, and the most numbers
-    /// of a store that were needed.
-    pub text: usize,
-    pub coding: usize,
-    pub gap: usize,
-    pub store: usize,
-}
-
-impl Sum for Tally {
-    fn add(&mut self, other: &Tally) {
-        self.texts += other.texts;
-        self.codings += other.codings;
-        self.rust += other.rust;
-        self.again += other.again;
-        self.dropping += other.dropping;
-        self.gaps += other.gaps;
-        self.calls += other.calls;
-        self.answers.iter_mut().zip(other.answers).for_each(|(sum, n)| *sum += n);
-        self.text = self.text.max(other.text);
-        self.coding = self.coding.max(other.coding);
-        self.gap = self.gap.max(other.gap);
-        self.store = self.store.max(other.store);
+tally! {
+    pub struct Tally {
+        /// Texts given to the Rust, under one pair of options or several.
+        pub texts: u64,
+        /// Texts coded by the model, once for each pair of options and each cell table.
+        pub codings: u64,
+        /// Codings and refusals held against the Rust.
+        pub rust: u64,
+        /// Codings that were decoded again.
+        pub again: u64,
+        /// Codings whose search dropped states, and those with a gap.
+        pub dropping: u64,
+        pub gaps: u64,
+        /// Calls of the subject.
+        pub calls: u64,
+        /// Answers by refusal number; 0 for accepted calls.
+        pub answers: [u64; 9],
+        /// Bytes of the longest text and the longest coding, the greatest gap, and the most numbers
+        /// of a store that were needed.
+        pub text: Greatest,
+        pub coding: Greatest,
+        pub gap: Greatest,
+        pub store: Greatest,
     }
 }
 

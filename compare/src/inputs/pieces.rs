@@ -1,17 +1,7 @@
 //! The pieces of which random inputs are made.
 
 use super::Writer;
-
-/// The cells of the seven marks, row and cell as GL bytes.
-const MARKS: [[u8; 2]; 7] = [
-    [0x21, 0x2D],
-    [0x21, 0x2E],
-    [0x21, 0x2F],
-    [0x21, 0x30],
-    [0x21, 0x31],
-    [0x21, 0x32],
-    [0x22, 0x7E],
-];
+use crate::model::tables::MARKS;
 
 /// Macro codes that definitions and calls meet in: plain, built-in, and codes that no byte of
 /// GL or GR calls.
@@ -93,8 +83,8 @@ impl Writer {
     }
 
     fn mark(&mut self) {
-        let mark = self.random.one_of(&MARKS);
-        self.pair(mark);
+        let (row, cell, _) = self.random.one_of(&MARKS);
+        self.pair([row + 0x20, cell + 0x20]);
     }
 
     /// Rows beside a limit: 8, 9, 15, 16, 84 to 86, 89 to 94, and row 90's gaps.

@@ -2,8 +2,10 @@
 
 use std::sync::OnceLock;
 
+use crate::cells::index;
+
 /// The non-spacing cells of the Kanji set (Table E-1).
-const MARKS: [(u8, u8, char); 7] = [
+pub const MARKS: [(u8, u8, char); 7] = [
     (1, 13, '\u{301}'),
     (1, 14, '\u{300}'),
     (1, 15, '\u{308}'),
@@ -50,20 +52,20 @@ pub fn alphanumeric(code: u8, narrow: bool) -> Option<char> {
 
 /// The hiragana set (Table 7-7).
 pub fn hiragana(code: u8) -> Option<char> {
-    match code {
-        0x21..=0x73 => run('ぁ', code - 0x21),
-        0x77 | 0x78 => run('ゝ', code - 0x77),
-        0x79..=0x7E => Some(KANA_SIGNS[usize::from(code) - 0x79]),
-        _ => None,
-    }
+    kana(code, 0x73, 'ぁ', 'ゝ')
 }
 
 /// The katakana set (Table 7-6).
 pub fn katakana(code: u8) -> Option<char> {
+    kana(code, 0x76, 'ァ', 'ヽ')
+}
+
+/// Letters from 21 to `last`, two iteration marks, and the signs.
+fn kana(code: u8, last: u8, letters: char, iteration: char) -> Option<char> {
     match code {
-        0x21..=0x76 => run('ァ', code - 0x21),
-        0x77 | 0x78 => run('ヽ', code - 0x77),
+        0x77 | 0x78 => run(iteration, code - 0x77),
         0x79..=0x7E => Some(KANA_SIGNS[usize::from(code) - 0x79]),
+        0x21.. if code <= last => run(letters, code - 0x21),
         _ => None,
     }
 }
@@ -104,9 +106,4 @@ fn of_list(list: &[(u8, u8, char)], row: u8, cell: u8) -> Option<char> {
 /// The character `n` places after `first`.
 fn run(first: char, n: u8) -> Option<char> {
     char::from_u32(u32::from(first) + u32::from(n))
-}
-
-/// Row by row; rows and cells count from 1.
-fn index(row: u8, cell: u8) -> usize {
-    (usize::from(row) - 1) * 94 + usize::from(cell) - 1
 }

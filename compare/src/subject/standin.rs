@@ -5,7 +5,7 @@ use std::cell::RefCell;
 use oracle::coding::Refusal;
 
 use super::{CodingLent, Lent, Subject};
-use crate::call::{Call, CodingRooms, Rooms};
+use crate::call::{Call, CodingRooms, Rooms, numbered, question};
 use crate::coding::{Coder, Coding};
 use crate::key;
 use crate::model::Reading;
@@ -14,10 +14,12 @@ pub struct StandIn;
 
 impl Subject for StandIn {
     fn decode(&self, call: Call, lent: Lent) -> u32 {
-        match call.questions() {
-            0 => read(call, lent),
-            number => refuse(number, lent),
-        }
+        let rooms = Rooms { text: lent.text.len(), issues: lent.issues.len() };
+        let (number, reading) = read(call, |reading| rooms.questions(reading));
+        write(lent.text, &reading.text);
+        write(lent.issues, reading.issues.as_flattened());
+        *lent.counts = [0, reading.text.len(), reading.issues.len(), reading.charge];
+        number
     }
 
     fn unknown_escape(&self, input: &[u8], start: usize, length: usize) -> (usize, [usize; 2]) {
@@ -27,52 +29,40 @@ impl Subject for StandIn {
 
     fn encode(&self, call: Call, lent: CodingLent) -> u32 {
         let rooms = CodingRooms { store: lent.store.len(), coding: lent.coding.len() };
-        match answer(call, rooms) {
-            Ok(coding) => accept_coding(&coding, lent),
-            Err(refusal) => refuse_coding(refusal, lent),
-        }
+        let (answer, nothing) = (code(call, rooms), Coding::default());
+        let (refusal, coding) = numbered(answer.as_ref().map_err(|&refusal| refusal), &nothing);
+        write(lent.store, &[]);
+        write(lent.coding, &coding.bytes);
+        *lent.counts = [refusal.place as usize, coding.bytes.len(), coding.gap];
+        refusal.number
     }
 
     fn key(&self, call: Call, buffer: &mut [u8], counts: &mut [usize]) -> u32 {
-        let mut reading = Reading::default();
-        let mut number = call.questions();
-        if number == 0 {
-            call.read(&mut reading);
-            number = key::questions(buffer.len(), &reading);
-        }
+        let (number, reading) = read(call, |reading| key::questions(buffer.len(), reading));
         let (key, charge) = key::of(number, &reading);
-        buffer.fill(0);
-        buffer[..key.len()].copy_from_slice(key.as_bytes());
+        write(buffer, key.as_bytes());
         counts[..3].copy_from_slice(&[0, key.len(), charge]);
         number
     }
 }
 
-fn read(call: Call, lent: Lent) -> u32 {
+/// The result, and zeros behind it.
+fn write<T: Copy + Default>(buffer: &mut [T], result: &[T]) {
+    let (written, unused) = buffer.split_at_mut(result.len());
+    written.copy_from_slice(result);
+    unused.fill(T::default());
+}
+
+/// Questions 1 to 3, then the others, which a reading answers: the refusal's number and an empty
+/// reading, or 0 and the reading.
+fn read(call: Call, others: impl Fn(&Reading) -> u32) -> (u32, Reading) {
     let mut reading = Reading::default();
-    call.read(&mut reading);
-    match (Rooms { text: lent.text.len(), issues: lent.issues.len() }).questions(&reading) {
-        0 => accept(&reading, lent),
-        number => refuse(number, lent),
+    let mut number = call.questions();
+    if number == 0 {
+        call.read(&mut reading);
+        number = others(&reading);
     }
-}
-
-fn accept(reading: &Reading, lent: Lent) -> u32 {
-    let (text, unused) = lent.text.split_at_mut(reading.text.len());
-    text.copy_from_slice(&reading.text);
-    unused.fill(0);
-    let (issues, unused) = lent.issues.split_at_mut(4 * reading.issues.len());
-    issues.copy_from_slice(reading.issues.as_flattened());
-    unused.fill(0);
-    *lent.counts = [0, reading.text.len(), reading.issues.len(), reading.charge];
-    0
-}
-
-fn refuse(number: u32, lent: Lent) -> u32 {
-    lent.text.fill(0);
-    lent.issues.fill(0);
-    *lent.counts = [0; 4];
-    number
+    (number, if number == 0 { reading } else { Reading::default() })
 }
 
 thread_local! {
@@ -81,26 +71,9 @@ thread_local! {
 }
 
 /// All questions of coding in their order.
-fn answer(call: Call, rooms: CodingRooms) -> Result<Coding, Refusal> {
-    let refused = |number| if number == 0 { Ok(()) } else { Err(Refusal { number, place: 0 }) };
-    refused(call.text_questions())?;
+fn code(call: Call, rooms: CodingRooms) -> Result<Coding, Refusal> {
+    question(call.text_questions())?;
     let coding = CODER.with_borrow_mut(|coder| coder.code(&call))?;
-    refused(rooms.questions(&coding))?;
+    question(rooms.questions(&coding))?;
     Ok(coding)
-}
-
-fn accept_coding(coding: &Coding, lent: CodingLent) -> u32 {
-    let (bytes, unused) = lent.coding.split_at_mut(coding.bytes.len());
-    bytes.copy_from_slice(&coding.bytes);
-    unused.fill(0);
-    lent.store.fill(0);
-    *lent.counts = [0, coding.bytes.len(), coding.gap];
-    0
-}
-
-fn refuse_coding(refusal: Refusal, lent: CodingLent) -> u32 {
-    lent.coding.fill(0);
-    lent.store.fill(0);
-    *lent.counts = [refusal.place as usize, 0, 0];
-    refusal.number
 }

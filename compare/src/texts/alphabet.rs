@@ -10,10 +10,6 @@ pub struct Alphabet {
     kinds: Vec<Vec<char>>,
 }
 
-/// The marks.
-pub const MARKS: [char; 7] =
-    ['\u{301}', '\u{300}', '\u{308}', '\u{302}', '\u{305}', '\u{332}', '\u{20DD}'];
-
 /// In how many lists each text's mixture can draw.
 const MOST: usize = 6;
 
@@ -45,8 +41,9 @@ impl Alphabet {
     }
 
     /// Every character once, marks not among them.
-    pub fn all(&self) -> BTreeSet<char> {
-        self.kinds.iter().flatten().copied().collect()
+    pub fn all(&self) -> Vec<char> {
+        let once: BTreeSet<char> = self.kinds.iter().flatten().copied().collect();
+        once.into_iter().collect()
     }
 
     /// A text of so many characters of some kinds, in runs, some texts with marks.
@@ -71,12 +68,17 @@ impl Alphabet {
     }
 }
 
+/// One of the marks.
+pub fn mark(random: &mut Random) -> char {
+    random.one_of(&tables::MARKS).2
+}
+
 /// A character of the kind, with marks after some of them.
 fn put(text: &mut String, random: &mut Random, kind: &[char], marked: bool) {
     let c = random.one_of(kind);
     text.push(c);
     if marked && c != '\n' && random.once_in(3) {
-        (0..random.range(1, 3)).for_each(|_| text.push(random.one_of(&MARKS)));
+        (0..random.range(1, 3)).for_each(|_| text.push(mark(random)));
     }
 }
 

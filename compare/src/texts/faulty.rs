@@ -1,6 +1,6 @@
 //! Texts that question 4, 5 or 6 refuses, most of them.
 
-use super::alphabet::MARKS;
+use super::alphabet::mark;
 use crate::inputs::damage;
 use crate::random::Random;
 
@@ -39,7 +39,7 @@ fn insert(random: &mut Random, text: &mut String, baseless: bool) {
     if !baseless {
         return text.insert(place, random.one_of(&WITHOUT));
     }
-    text.insert(place, random.one_of(&MARKS));
+    text.insert(place, mark(random));
     if place > 0 && random.once_in(2) {
         text.insert(place, '\n');
     }

@@ -67,7 +67,7 @@ pub fn caption(bytes: usize) -> String {
 
 /// Titles, one a line.
 fn titles(bytes: usize) -> String {
-    let lines: String = titles::lines().map(|(_, title)| format!("{title}\n")).collect();
+    let lines: String = titles::texts().iter().map(|title| format!("{title}\n")).collect();
     cut(&lines.repeat(1 + bytes / lines.len()), bytes).into()
 }
 

@@ -2,9 +2,10 @@
 //! 1,024 bytes, then random ones without end.
 
 use super::{Case, LONGEST, MOST};
-use crate::call::{Call, CodingRooms, OPTIONS};
+use crate::call::{CodingRooms, OPTIONS};
 use crate::coding::{Coder, Coding};
 use crate::encode::rooms::SOME;
+use crate::questions::some_wrong_options;
 use crate::random::Random;
 use crate::texts::{self, Alphabet, corners, long, samples};
 use crate::{cells, titles};
@@ -32,7 +33,7 @@ fn table() -> impl Iterator<Item = Case> {
 /// Each corner with both tables: by the Rust's in exact rooms and in rooms that lack a number, a
 /// byte or both, by zeros beyond the exact ones; under all options in turn.
 fn corners() -> impl Iterator<Item = Case> {
-    let mut needs = Needs::new();
+    let mut needs = Needs::default();
     corners::all().enumerate().flat_map(move |(n, text)| {
         let rusts = case(false, OPTIONS[n % 4], text);
         let zeros = case(true, OPTIONS[n / 4 % 4], text);
@@ -58,14 +59,13 @@ fn tight(case: &Case, needs: &mut Needs) -> Vec<Case> {
 
 /// Options that question 2 refuses.
 fn options() -> impl Iterator<Item = Case> {
-    let wrong = [2, 3, 256, 257, 1 << 31, u32::MAX];
-    let pairs = wrong.into_iter().flat_map(|n| [(n, 0), (1, n), (n, n)]);
+    let pairs = some_wrong_options();
     pairs.map(|options| Case { rooms: SOME, ..case(false, options, "あ\u{301}".as_bytes()) })
 }
 
 /// Every third pair of samples, with both tables under all options in turn.
 fn pairs() -> impl Iterator<Item = Case> {
-    let mut needs = Needs::new();
+    let mut needs = Needs::default();
     (0..samples::count(2)).step_by(3).map(move |index| {
         let text = samples::sequence(index, 2);
         let n = (index / 3) as usize;
@@ -77,7 +77,7 @@ fn pairs() -> impl Iterator<Item = Case> {
 
 /// The titles in tight rooms, and once more under the other options in turn.
 fn named() -> impl Iterator<Item = Case> {
-    let mut needs = Needs::new();
+    let mut needs = Needs::default();
     titles::lines().enumerate().flat_map(move |(n, (_, title))| {
         let si = case(false, (0, 0), title.as_bytes());
         let other = case(n % 2 == 1, OPTIONS[1 + n % 3], title.as_bytes());
@@ -90,7 +90,7 @@ fn named() -> impl Iterator<Item = Case> {
 
 /// Mixtures whose codings have a gap, in exact rooms.
 fn gaps() -> impl Iterator<Item = Case> {
-    let (mut needs, alphabet) = (Needs::new(), Alphabet::new(&cells::rusts()));
+    let (mut needs, alphabet) = (Needs::default(), Alphabet::new(cells::rusts()));
     let found = (0..).filter_map(move |index| {
         let mut random = Random::new(0x6A95, index);
         let length = random.range(20, 90);
@@ -115,8 +115,8 @@ fn great() -> impl Iterator<Item = Case> {
 
 /// Random texts that stay short, in rooms beyond, exact or too small by a little.
 fn random() -> impl Iterator<Item = Case> {
-    let mut needs = Needs::new();
-    let alphabets = [Alphabet::new(&cells::rusts()), Alphabet::new(&cells::zeros())];
+    let mut needs = Needs::default();
+    let alphabets = [Alphabet::new(cells::rusts()), Alphabet::new(cells::zeros())];
     (0..).filter_map(move |index| {
         let mut random = Random::new(0x5EED, index);
         let zeros = random.once_in(3);
@@ -143,24 +143,21 @@ fn around(random: &mut Random, exact: CodingRooms) -> CodingRooms {
 
 /// A case with no store and no buffer.
 fn case(zeros: bool, (initial, width): (u32, u32), text: &[u8]) -> Case {
-    Case { zeros, initial, width, text: text.to_vec(), rooms: CodingRooms::default() }
+    Case { zeros, initial, width, input: text.to_vec(), rooms: CodingRooms::default() }
 }
 
 /// The case, if its rooms and its text are not too great.
 fn fitting(case: Case) -> Option<Case> {
     let CodingRooms { store, coding } = case.rooms;
-    let fits = store <= MOST.store && coding <= MOST.coding && case.text.len() <= LONGEST;
+    let fits = store <= MOST.store && coding <= MOST.coding && case.input.len() <= LONGEST;
     fits.then_some(case)
 }
 
-/// The model with both tables.
-struct Needs([(Vec<u16>, Coder); 2]);
+/// The model with both tables, each of which it is lent once.
+#[derive(Default)]
+struct Needs([Coder; 2]);
 
 impl Needs {
-    fn new() -> Needs {
-        Needs([cells::rusts(), cells::zeros()].map(|cells| (cells, Coder::default())))
-    }
-
     /// Exact rooms.
     fn rooms(&mut self, case: &Case) -> CodingRooms {
         self.of(case).map_or(SOME, |coding| CodingRooms::exact(&coding))
@@ -168,8 +165,6 @@ impl Needs {
 
     /// The coding of the case's text, none if it is refused.
     fn of(&mut self, case: &Case) -> Option<Coding> {
-        let Case { zeros, initial, width, ref text, .. } = *case;
-        let (cells, model) = &mut self.0[usize::from(zeros)];
-        model.code(&Call { cells, initial, width, input: text }).ok()
+        self.0[usize::from(case.zeros)].code(&case.call()).ok()
     }
 }

@@ -4,6 +4,7 @@ use super::Case;
 use crate::call::{Call, OPTIONS, Rooms};
 use crate::inputs::{self, bombs, corners};
 use crate::model::Reading;
+use crate::questions::some_wrong_options;
 use crate::random::Random;
 use crate::{cells, titles};
 
@@ -36,7 +37,7 @@ fn tight() -> impl Iterator<Item = Case> {
     let cells = cells::rusts();
     corners::corners().flat_map(move |(initial, width, input)| {
         let mut reading = Reading::default();
-        Call { cells: &cells, initial, width, input: &input }.read(&mut reading);
+        Call { cells, initial, width, input: &input }.read(&mut reading);
         let Rooms { text, issues } = Rooms::exact(&reading);
         let (less_text, less_issues) = (text.saturating_sub(1), issues.saturating_sub(1));
         let mut list = vec![
@@ -55,8 +56,7 @@ fn tight() -> impl Iterator<Item = Case> {
 
 /// Options that question 2 refuses.
 fn options() -> impl Iterator<Item = Case> {
-    let wrong = [2, 3, 256, 257, 1 << 31, u32::MAX];
-    let pairs = wrong.into_iter().flat_map(|n| [(n, 0), (1, n), (n, n)]);
+    let pairs = some_wrong_options();
     pairs.map(|(initial, width)| case(false, initial, width, vec![0xA2]))
 }
 
@@ -135,7 +135,7 @@ fn random() -> impl Iterator<Item = Case> {
         };
         let (zeros, (initial, width)) = (random.once_in(4), random.one_of(&OPTIONS));
         let mut reading = Reading::default();
-        let cells = &tables[usize::from(zeros)];
+        let cells = tables[usize::from(zeros)];
         Call { cells, initial, width, input: &input }.read(&mut reading);
         let exact = Rooms::exact(&reading);
         let size = input.len() + exact.text + 4 * exact.issues;

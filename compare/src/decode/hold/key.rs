@@ -1,8 +1,8 @@
 //! One call of `arib_key` held against the last reading.
 
-use super::{Held, Holder};
+use super::Holder;
 use crate::call::{Call, Rooms};
-use crate::difference::{Difference, digits};
+use crate::difference::{Held, held};
 use crate::key;
 
 impl Holder<'_> {
@@ -15,17 +15,14 @@ impl Holder<'_> {
     pub(super) fn key_answer(&mut self, call: Call, room: usize, number: u32) -> Held {
         self.tally.keys[number as usize] += 1;
         let lent = self.buffers.lend(Rooms { text: room, issues: 0 });
-        let refusal = self.subject.key(call, lent.text, lent.counts);
+        let given = self.subject.key(call, lent.text, lent.counts);
         let (key, charge) = key::of(number, &self.reading);
-        let Some(what) = self.buffers.key_fault(refusal, number, key.as_bytes(), charge) else {
-            return Ok(());
-        };
-        let counts = self.buffers.counts();
-        let subject =
-            format!("refusal {refusal} counts {counts:?}: {}", digits(self.buffers.text()));
-        let difference = Difference::new(format!("key: {what}"), &call)
-            .line("room", room.to_string())
-            .line("subject", subject);
-        Err(Box::new(difference.line("key", format!("charged {charge}: {key}"))))
+        let fault = self.buffers.key_fault((given, number), key.as_bytes(), charge);
+        held(fault.map(|what| format!("key: {what}")), &call, |difference| {
+            difference
+                .line("room", room)
+                .line("subject", self.buffers.key_words(given))
+                .line("key", format!("charged {charge}: {key}"))
+        })
     }
 }

@@ -1,0 +1,137 @@
+//! One call held: the model against the Rust, then the subject against the model, so that the
+//! subject is held against both.
+
+mod key;
+mod rust;
+
+use oracle::reading;
+
+use super::lent::{Buffers, issues};
+use super::tally::Tally;
+use crate::call::{Call, Rooms, question};
+use crate::difference::{Held, digits, held};
+use crate::model::Reading;
+use crate::runs::Worker;
+use crate::subject::Subject;
+
+/// What a thread keeps from call to call.
+pub struct Holder<'a> {
+    subject: &'a dyn Subject,
+    buffers: Buffers,
+    reading: Reading,
+    pub tally: Tally,
+}
+
+impl<'a> Worker for Holder<'a> {
+    type Subject = &'a dyn Subject;
+    type Tally = Tally;
+
+    fn new(subject: &'a dyn Subject) -> Self {
+        let (buffers, reading, tally) = Default::default();
+        Holder { subject, buffers, reading, tally }
+    }
+
+    fn tally(self) -> Tally {
+        self.tally
+    }
+}
+
+impl Holder<'_> {
+    /// The model's reading of the last call.
+    pub fn reading(&self) -> &Reading {
+        &self.reading
+    }
+
+    /// Reads with the model, for a table that the Rust does not have.
+    pub fn read(&mut self, call: Call) {
+        call.read(&mut self.reading);
+        self.tally.readings += 1;
+        self.tally.longest.see(self.reading.text.len());
+        self.tally.charge.see(self.reading.charge);
+        for [_, kind, ..] in &self.reading.issues {
+            self.tally.kinds[*kind as usize] += 1;
+        }
+    }
+
+    /// Reads with the model and with the Rust: text, issues with their fields, and the bytes of
+    /// unknown escapes as the subject hands them back. The table is the Rust's.
+    pub fn read_both(&mut self, call: Call) -> Held {
+        self.read(call);
+        self.tally.rust += 1;
+        let rust = reading::read(call.options(), call.input);
+        let fault = rust::fault(&self.reading, &rust, call.input)
+            .map(String::from)
+            .or_else(|| self.part_fault(&rust, call.input));
+        held(fault, &call, |difference| {
+            difference.line("rust", rust::words(&rust)).line("model", words(&self.reading))
+        })
+    }
+
+    /// `arib_decode` with these rooms, after a reading.
+    pub fn run(&mut self, call: Call, rooms: Rooms) -> Held {
+        self.decode(call, rooms, rooms.questions(&self.reading))
+    }
+
+    /// `arib_decode` and `arib_key` on a call that one of questions 1 to 3 refuses with this
+    /// number.
+    pub fn refused(&mut self, call: Call, rooms: Rooms, number: u32) -> Held {
+        assert_eq!(call.questions(), number, "the model's own answer");
+        self.decode(call, rooms, number)?;
+        self.key_answer(call, rooms.text, number)
+    }
+
+    /// `arib_unknown_escape`: the part of the input, or the empty part at its beginning.
+    pub fn part(&mut self, input: &[u8], start: usize, length: usize, part: [usize; 2]) -> Held {
+        self.tally.parts += 1;
+        let found = self.subject.unknown_escape(input, start, length);
+        let fault = (found != (part[1], part)).then(|| {
+            format!("part {start} {length}: (returned, part) {found:?}, expected {part:?}")
+        });
+        let call = Call { cells: &[], initial: 0, width: 0, input };
+        held(fault, &call, |difference| difference)
+    }
+
+    /// `arib_decode` refuses with this number, or gives the reading where it is 0: every byte and
+    /// count.
+    fn decode(&mut self, call: Call, rooms: Rooms, number: u32) -> Held {
+        self.tally.calls += 1;
+        self.tally.answers[number as usize] += 1;
+        let given = self.subject.decode(call, self.buffers.lend(rooms));
+        let answer = question(number).map(|()| &self.reading);
+        held(self.buffers.fault(given, answer), &call, |difference| {
+            let difference = difference.line("rooms", rooms);
+            let difference = difference.line("subject", self.buffers.words(given));
+            if call.questions() != 0 {
+                return difference;
+            }
+            difference.line("model", words(&self.reading))
+        })
+    }
+
+    /// The Rust's bytes of each unknown escape, through `arib_unknown_escape`.
+    fn part_fault(&mut self, rust: &reading::Reading, input: &[u8]) -> Option<String> {
+        let escapes = rust.issues.iter().zip(&self.reading.issues).filter(|(i, _)| i.kind == 1);
+        for (issue, &[_, _, start, length]) in escapes {
+            let (start, length) = (start as usize, length as usize);
+            let (returned, part) = self.subject.unknown_escape(input, start, length);
+            self.tally.parts += 1;
+            let bytes = part[0].checked_add(part[1]).and_then(|end| input.get(part[0]..end));
+            if (returned, part) != (length, [start, length]) || bytes != Some(&issue.escape) {
+                return Some(format!("part {start} {length}: {returned}, {part:?}"));
+            }
+        }
+        None
+    }
+}
+
+/// The model's reading in words.
+pub fn words(reading: &Reading) -> String {
+    format!(
+        "text {} issues {} charged {}: {}{}",
+        reading.text.len(),
+        reading.issues.len(),
+        reading.charge,
+        digits(&reading.text),
+        issues(reading.issues.as_flattened())
+    )
+}

@@ -1,0 +1,64 @@
+//! Text, issues and counts to lend.
+
+use crate::call::{Answer, Rooms, numbered};
+use crate::difference::digits;
+use crate::lent::{Buffer, answer_fault};
+use crate::model::Reading;
+use crate::subject::Lent;
+
+/// Buffers that are used again from call to call.
+#[derive(Default)]
+pub struct Buffers {
+    text: Buffer<u8>,
+    issues: Buffer<u32>,
+    counts: [usize; 4],
+}
+
+impl Buffers {
+    /// Buffers of these lengths, filled with the pattern.
+    pub fn lend(&mut self, rooms: Rooms) -> Lent<'_> {
+        self.counts = [usize::MAX; 4];
+        Lent {
+            text: self.text.lend(rooms.text),
+            issues: self.issues.lend(rooms.issues),
+            counts: &mut self.counts,
+        }
+    }
+
+    /// The first thing in which the buffers are not as the answer says, if any.
+    pub fn fault(&self, given: u32, answer: Answer<Reading>) -> Option<String> {
+        let nothing = Reading::default();
+        let (refusal, reading) = numbered(answer, &nothing);
+        let counts = [0, reading.text.len(), reading.issues.len(), reading.charge];
+        answer_fault((given, refusal.number), &self.counts, &counts)
+            .or_else(|| self.text.fault("text byte", &reading.text))
+            .or_else(|| self.issues.fault("issue number", reading.issues.as_flattened()))
+    }
+
+    /// The same of a key in the place of the text. It has three counts: the fourth stays.
+    pub fn key_fault(&self, numbers: (u32, u32), key: &[u8], charge: usize) -> Option<String> {
+        answer_fault(numbers, &self.counts, &[0, key.len(), charge, usize::MAX])
+            .or_else(|| self.text.fault("text byte", key))
+    }
+
+    /// What the call left, in words.
+    pub fn words(&self, given: u32) -> String {
+        let [place, text, count, charge] = self.counts;
+        format!(
+            "refusal {given} place {place} text {text} issues {count} charged {charge}: {}{}",
+            digits(self.text.lent()),
+            issues(self.issues.lent())
+        )
+    }
+
+    /// The same of a key.
+    pub fn key_words(&self, given: u32) -> String {
+        format!("refusal {given} counts {:?}: {}", self.counts, digits(self.text.lent()))
+    }
+}
+
+/// Four numbers an issue.
+pub fn issues(numbers: &[u32]) -> String {
+    let issue = |n: &[u32]| n.iter().map(u32::to_string).collect::<Vec<_>>().join(",");
+    numbers.chunks(4).map(|n| format!(" {}", issue(n))).collect()
+}

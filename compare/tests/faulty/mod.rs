@@ -1,0 +1,41 @@
+//! A subject with a fault.
+
+use compare::call::Call;
+use compare::subject::{CodingLent, Lent, Subject, model};
+
+/// The model, and then a fault in what it left. It has no part of any input.
+pub struct Faulty {
+    /// Of decoding, and of keys, which have no issues.
+    pub reading: fn(&mut Lent, &mut u32),
+    pub coding: fn(&mut CodingLent, &mut u32),
+}
+
+/// The model but for the parts.
+pub const SOUND: Faulty = Faulty { reading: |_, _| {}, coding: |_, _| {} };
+
+impl Subject for Faulty {
+    fn decode(&self, call: Call, mut lent: Lent) -> u32 {
+        let Lent { text, issues, counts } = &mut lent;
+        let mut refusal = model().decode(call, Lent { text, issues, counts });
+        (self.reading)(&mut lent, &mut refusal);
+        refusal
+    }
+
+    fn unknown_escape(&self, _: &[u8], _: usize, _: usize) -> (usize, [usize; 2]) {
+        (0, [0, 0])
+    }
+
+    fn encode(&self, call: Call, mut lent: CodingLent) -> u32 {
+        let CodingLent { store, coding, counts } = &mut lent;
+        let mut refusal = model().encode(call, CodingLent { store, coding, counts });
+        (self.coding)(&mut lent, &mut refusal);
+        refusal
+    }
+
+    fn key(&self, call: Call, key: &mut [u8], counts: &mut [usize]) -> u32 {
+        let mut refusal = model().key(call, key, counts);
+        let counts = counts.try_into().unwrap();
+        (self.reading)(&mut Lent { text: key, issues: &mut [], counts }, &mut refusal);
+        refusal
+    }
+}
