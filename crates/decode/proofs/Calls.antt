@@ -28,8 +28,9 @@ use Rattle.decode_state.specs.Contracts.{whole, Holds}
 use Rattle.decode.specs.declared.call.Answer.{Answer}
 use Rattle.decode.specs.declared.call.Answer.the-variants.{Decoded, Refused}
 use Rattle.decode_output.proofs.Held.{release-marks}
-use Rattle.decode_bodies.specs.Contracts.{Ready, Grown}
-use Rattle.decode_outer.specs.Contracts.{TopRan}
+use Rattle.decode_bodies.specs.Contracts.{Grown}
+use Rattle.decode_outer.specs.Contracts.{Outside, TopRan}
+use Rattle.decode_outer.proofs.Defining.{inside-start}
 use Rattle.decode.specs.Answers.{fitsIn, numberOf, placeOf, textOf, issuesOf, chargedOf, lent, Refuses, Answers, Answered}
 
 -- ---- the answer, from what was written
@@ -53,14 +54,21 @@ module _ (o : Output) (charge : ℕ) (t₀ i₀ : List ℕ) (out : Out) (t i : L
   as-many : length i ≡ length i₀
   as-many = ap length (h .issues) ∙ length-sets i₀ 0 (issuesNumbers (o .issues))
 
-  refusing : (q : ℕ) (r : Answer) (t′ i′ : List ℕ) → fitsIn (length (utf8s (o .text))) (length (issuesNumbers (o .issues))) (length t₀) (length i₀) ≡ suc q → Refuses (suc q) t i r t′ i′
+  refusing : (q : ℕ) (r : Answer) (t′ i′ : List ℕ)
+      → fitsIn (length (utf8s (o .text))) (length (issuesNumbers (o .issues))) (length t₀) (length i₀) ≡ suc q → Refuses (suc q) t i r t′ i′
       → Answers o charge (length t₀) (length i₀) r t′ i′
   refusing q r t′ i′ e v = record {
     number = ap numberOf (v .answer) ∙ sym e;
     place = ap placeOf (v .answer);
     case = λ z. absurd (omega (arith, sym (ap numberOf (v .answer)) ∙ z));
     accepted = λ z. absurd (omega (arith, sym (ap numberOf (v .answer)) ∙ z));
-    refused = λ z. (ap textOf (v .answer), ap issuesOf (v .answer), ap chargedOf (v .answer), v .text ∙ ap (λ (n : ℕ). padded n []) as-long, v .issues ∙ ap (λ (n : ℕ). padded n []) as-many);
+    refused = λ z. (
+      ap textOf (v .answer),
+      ap issuesOf (v .answer),
+      ap chargedOf (v .answer),
+      v .text ∙ ap (λ (n : ℕ). padded n []) as-long,
+      v .issues ∙ ap (λ (n : ℕ). padded n []) as-many,
+    );
   }
 
   -- the text does not fit
@@ -161,39 +169,52 @@ refused c (suc q) r ti ii t i z k a b v =
 
 -- ---- the start
 
-abbrev pub startCore : ℕ → Bool → Core
+abbrev startCore : ℕ → Bool → Core
 startCore g3 annex = record { sets = 0 ∷ 1 ∷ 2 ∷ g3 ∷ []; gl = 0; gr = 2; narrow = false; annex = annex; charged = 0; out = output.outOf nothing }
 
-pub holds-start : (g : Given) (initial : ℕ) (t i : List ℕ) → Holds g t i (start initial) (whole (startCore (cond (eqb initial 0) 3 15) (g .annexE)) (replicate 128 0) (replicate 128 0)) t i
+abbrev pub startOf : ℕ → Bool → Decoder
+startOf g3 annex = whole (startCore g3 annex) (replicate 128 0) (replicate 128 0)
+
+holds-start : (g : Given) (initial : ℕ) (t i : List ℕ) → Holds g t i (start initial) (startOf (cond (eqb initial 0) 3 15) (g .annexE)) t i
 unfolding start
 holds-start g initial t i = record { state = refl; out = holds-nothing t i }
 
-pub ready-start : (input : List ℕ) (g3 : ℕ) (annex : Bool) → length input ≤ 65535 → Ready (limit input) (length input) (startCore g3 annex)
+-- no macro is defined yet, and there is room for all steps
+pub outside-start : (input : List ℕ) (g3 : ℕ) (annex : Bool) → length input ≤ 65535 → Outside input (length input) (startOf g3 annex)
 unfolding limit nothing utf8s
-ready-start input g3 annex h = record {
-  gl = omega arith;
-  gr = omega arith;
-  within = omega arith;
-  room = record { ordered = omega arith; repeat = omega arith; text = omega arith; issues = omega arith };
+outside-start input g3 annex h = record {
+  short = h;
+  inside = inside-start input;
+  ready = record {
+    gl = omega arith;
+    gr = omega arith;
+    within = omega arith;
+    room = record { ordered = omega arith; repeat = omega arith; text = omega arith; issues = omega arith };
+  };
 }
 
 -- after all steps there is room for the release of the marks
-pub room-end : (input : List ℕ) (g3 : ℕ) (annex : Bool) {r : Core} → length input ≤ 65535 → Grown (limit input) (length input) (startCore g3 annex) r → output.Room 0 1 (r .out)
+pub room-end : {cells input : List ℕ} {d : Decoder} {t i : List ℕ} {r : Decoder} {t′ i′ : List ℕ} (g3 : ℕ) (annex : Bool) → length input ≤ 65535 → d ≡ startOf g3 annex
+    → TopRan cells input d t i r t′ i′ → output.Room 0 1 (r .core .out)
 unfolding limit nothing utf8s
-room-end input g3 annex h w = record { ordered = w .ordered; repeat = w .repeat; text = omega (arith, w .text); issues = omega (arith, w .issues) }
+room-end {input = input} {r = r} g3 annex h e v =
+    let w : Grown (limit input) (length input) (startCore g3 annex) (r .core) =
+    subst (λ (z : Decoder). Grown (limit input) (length input) (z .core) (r .core)) e (v .grown) in
+    record { ordered = w .ordered; repeat = w .repeat; text = omega (arith, w .text); issues = omega (arith, w .issues) }
 
 -- from the start, by all steps and the release of the marks, to the answer
-pub checked : (cells : List ℕ) (initial width : ℕ) (input t i : List ℕ) (d r : Decoder) (t₁ i₁ : List ℕ) (o : Out) (i₂ : List ℕ) (a : Answer) (t₃ i₃ : List ℕ)
-    → firstRefusal cells initial width decodeLimit (length input) ≡ 0 → d ≡ whole (startCore (cond (eqb initial 0) 3 15) (eqb width 1)) (replicate 128 0) (replicate 128 0)
-    → TopRan cells input d t i r t₁ i₁ → output.Wrote 0 1 release (r .core .out) t₁ i₁ o t₁ i₂
-    → ((t₀ i₀ : List ℕ) (x : Output) → x .marks ≡ [] → output.Holds t₀ i₀ x o t₁ i₂ → Answers x (r .core .charged) (length t₀) (length i₀) a t₃ i₃)
-    → Answered (lent cells initial width input t i) a t₃ i₃
-unfolding reading decode writes
-checked cells initial width input t i d r t₁ i₁ o i₂ a t₃ i₃ z e top flush finish =
-    let g : Given = record { cells = cells; annexE = eqb width 1; input = input } in
-    let s : State = run g 4 input 0 0 (start initial) in
-    let h : Holds g t i s r t₁ i₁ = top .does g refl refl t i (start initial) (subst (λ (x : Decoder). Holds g t i (start initial) x t i) (sym e) (holds-start g initial t i)) in
-    let k : output.Holds t i (release (s .out)) o t₁ i₂ = flush .does t i (s .out) (h .out) in
-    let v : Answers (release (s .out)) (r .core .charged) (length t) (length i) a t₃ i₃ = finish t i (release (s .out)) (release-marks (s .out)) k in
-    answered (lent cells initial width input t i) a t₃ i₃ z
-    (subst (λ (n : ℕ). Answers (release (s .out)) n (length t) (length i) a t₃ i₃) (ap (λ (x : Decoder). x .core .charged) (h .state)) v)
+module _ (cells : List ℕ) (initial width : ℕ) (input t i : List ℕ) (d r : Decoder) (t₁ i₁ : List ℕ) (o : Out) (i₂ : List ℕ) (a : Answer) (t₃ i₃ : List ℕ) where
+  pub checked : firstRefusal cells initial width decodeLimit (length input) ≡ 0 → d ≡ startOf (cond (eqb initial 0) 3 15) (eqb width 1)
+      → TopRan cells input d t i r t₁ i₁ → output.Wrote 0 1 release (r .core .out) t₁ i₁ o t₁ i₂
+      → ((t₀ i₀ : List ℕ) (x : Output) → x .marks ≡ [] → output.Holds t₀ i₀ x o t₁ i₂ → Answers x (r .core .charged) (length t₀) (length i₀) a t₃ i₃)
+      → Answered (lent cells initial width input t i) a t₃ i₃
+  unfolding reading decode writes
+  checked z e top flush finish =
+      let g : Given = record { cells = cells; annexE = eqb width 1; input = input } in
+      let s : State = run g 4 input 0 0 (start initial) in
+      let begun : Holds g t i (start initial) d t i = subst (λ (x : Decoder). Holds g t i (start initial) x t i) (sym e) (holds-start g initial t i) in
+      let h : Holds g t i s r t₁ i₁ = top .does g refl refl t i (start initial) begun in
+      let k : output.Holds t i (release (s .out)) o t₁ i₂ = flush .does t i (s .out) (h .out) in
+      let v : Answers (release (s .out)) (r .core .charged) (length t) (length i) a t₃ i₃ = finish t i (release (s .out)) (release-marks (s .out)) k in
+      let charge : r .core .charged ≡ s .charged = ap (λ (x : Decoder). x .core .charged) (h .state) in
+      answered (lent cells initial width input t i) a t₃ i₃ z (subst (λ (n : ℕ). Answers (release (s .out)) n (length t) (length i) a t₃ i₃) charge v)

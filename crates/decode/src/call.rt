@@ -15,8 +15,8 @@ ghost use Rattle.questions.specs.Questions.{firstRefusal};
 ghost use Rattle.reading.specs.Call.{escapePart};
 ghost use Rattle.decode.specs.Answers.{lent, Refuses, Answers, Answered};
 
-// What a decoding call answers: the text's bytes, the issues and the charge, or the number of the
-// first question that it fails, with its place.
+/// What a decoding call answers: the text's bytes, the issues and the charge, or the number of the
+/// first question that it fails, with its place.
 pub enum Answer {
     Decoded {
         text: usize,
@@ -29,7 +29,7 @@ pub enum Answer {
     },
 }
 
-// Refuses: both buffers are filled with zero.
+/// Refuses: both buffers are filled with zero.
 fn refuse(number: u32, text: &mut [u8], issues: &mut [u32]) -> Answer
     ensures { λ r. ⌜ Refuses number (now (text .entry)) (now (issues .entry)) r (now (text .exit)) (now (issues .exit)) ⌝ }
 {
@@ -38,7 +38,7 @@ fn refuse(number: u32, text: &mut [u8], issues: &mut [u32]) -> Answer
     Answer::Refused { number, place: 0 }
 }
 
-// The state before the first byte.
+/// The state before the first byte.
 fn start(g3: u8, annex: bool) -> Decoder
     ensures { λ r. ⌜ r ≡ whole (record { sets = 0 ∷ 1 ∷ 2 ∷ g3 ∷ []; gl = 0; gr = 2; narrow = false; annex = annex; charged = 0; out = outOf nothing }) (replicate 128 0) (replicate 128 0) ⌝ }
 {
@@ -58,15 +58,15 @@ fn start(g3: u8, annex: bool) -> Decoder
     }
 }
 
-// The set that G3 starts with. Part 3, Table 8-2; Katakana in SI.
+/// The set that G3 starts with. Part 3, Table 8-2; Katakana in SI.
 fn initial_g3(initial: u32) -> u8
     ensures { λ r. ⌜ r ≡ cond (eqb initial 0) 3 15 ⌝ }
 {
     if initial == 0 { 3 } else { 15 }
 }
 
-// What was written, as the answer: too little room is refused with 8 or 9, else what is left of the
-// buffers is zero.
+/// What was written, as the answer: too little room is refused with 8 or 9, else what is left of the
+/// buffers is zero.
 fn finish(out: Out, charged: usize, text: &mut [u8], issues: &mut [u32]) -> Answer
     requires { ⌜ out .issues ≤ 0x10000000000 ⌝ }
     ensures { λ r. ⌜ ((t₀ i₀ : List ℕ) (o : Output) → o .marks ≡ [] → Holds t₀ i₀ o out (now (text .entry)) (now (issues .entry)) → Answers o charged (length t₀) (length i₀) r (now (text .exit)) (now (issues .exit))) ⌝ }
@@ -88,8 +88,8 @@ fn finish(out: Out, charged: usize, text: &mut [u8], issues: &mut [u32]) -> Answ
     }
 }
 
-// Decodes where questions 1 to 3 were put and passed: for whoever reads many strings with one cell
-// table.
+/// Decodes where questions 1 to 3 were put and passed: for whoever reads many strings with one cell
+/// table.
 pub fn decode_checked(
     cells: &[u16],
     initial: u32,
@@ -114,7 +114,7 @@ pub fn decode_checked(
     finish(flushed, core.charged, text, issues)
 }
 
-// Decodes a string of the eight-unit code: `decode_with`.
+/// Decodes a string of the eight-unit code: `decode_with`.
 pub fn decode_with(
     cells: &[u16],
     initial: u32,
@@ -132,8 +132,8 @@ pub fn decode_with(
     decode_checked(cells, initial, width, input, text, issues)
 }
 
-// The part of the input that an unknown escape is; a start and length that leave the input get the
-// empty part at its beginning.
+/// The part of the input that an unknown escape is; a start and length that leave the input get the
+/// empty part at its beginning.
 pub fn unknown_escape(input: &[u8], start: usize, len: usize) -> &[u8]
     ensures { λ r. ⌜ now r ≡ escapePart (now (input .entry)) start len ⌝ }
 {

@@ -1,3 +1,6 @@
-pub mod Loops
+pub mod Room
+pub mod Along
+pub mod Steps
 pub mod Bodies
+pub mod Stops
 pub mod Commands

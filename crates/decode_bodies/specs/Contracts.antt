@@ -1,16 +1,16 @@
 -- What the functions that run macro bodies promise.
 use Prim.Native.Nat.{ℕ, zero, suc, _+_, _-_, _*_, _≤_, _<_}
 use mathlib.Core.Path.{_≡_}
-use mathlib.Core.List.{List, [], _∷_}
+use mathlib.Core.List.{List}
 use lib.ListN.{length, take, drop, getD}
 use Rattle.decode_output.specs.Contracts as output
 use Rattle.reading.specs.State.{Given, State, Step}
 use Rattle.reading.specs.Macros.{Run, endOf, limit}
-use Rattle.reading.specs.Steps.{run}
+use Rattle.reading.specs.Steps.{step, run}
 use Rattle.decode_state.specs.declared.Core.{Core}
 use Rattle.decode_state.specs.declared.Decoder.{Decoder}
-use Rattle.decode_state.specs.declared.Stepped.{Stepped}
-use Rattle.decode_state.specs.Contracts.{whole, Holds, Does}
+use Rattle.decode_state.specs.Contracts.{Holds, Does}
+use Rattle.decode_bodies.specs.declared.Place.{Place}
 
 -- to run a body one deeper, where `left` more may be opened
 unfoldable pub below : Given → ℕ → Run
@@ -18,26 +18,47 @@ unfolding run
 below g zero = λ b base origin s. s
 below g (suc left) = run g left
 
+-- the step at the byte j of a body that runs at p
+abbrev pub stepIn : List ℕ → ℕ → Place → Given → State → Step
+stepIn b j p g = step g (p .left) (below g (p .left)) (getD b j 0) (drop (j + 1) b) (p .base + j) (p .at)
+
+-- ---- what a function is given
+
 -- the body of a code
 abbrev pub bodyAt : List ℕ → List ℕ → List ℕ → ℕ → List ℕ
 bodyAt input starts lens code = take (getD lens code 0) (drop (getD starts code 0) input)
 
--- there are 128 starts and lengths; every body lies in the input, and no definition ends in it
+-- a body: it is no longer than an input, and no definition ends in it
+pub record Body (b : List ℕ) : Type 0 where
+  pub short : length b ≤ 65535
+  pub bare : endOf b ≡ length b
+
+-- "128 starts and lengths": every body lies in the input, and no definition ends in it
 pub record Inside (input starts lens : List ℕ) : Type 0 where
   pub starts-count : length starts ≡ 128
   pub lens-count : length lens ≡ 128
   pub within : (code : ℕ) → getD starts code 0 + getD lens code 0 ≤ length input
   pub bare : (code : ℕ) → endOf (bodyAt input starts lens code) ≡ length (bodyAt input starts lens code)
 
--- What a function of the cycle is given that takes e bytes: n may be charged in all; the elements are of the four; the charge is within n; and there
--- is room for e bytes and for all that may still be charged.
+-- What holds before e bytes, where n may be charged in all: the code elements in GL and GR are of the four, the charge is within n,
+-- and there is room for e bytes and for all that may still be charged.
 pub record Ready (n e : ℕ) (c : Core) : Type 0 where
   pub gl : c .gl < 4
   pub gr : c .gr < 4
   pub within : c .charged ≤ n
   pub room : output.Room (n - c .charged + e) (n - c .charged + e) (c .out)
 
--- what it gives
+-- what a function of the cycle is given that takes e bytes at p
+pub record Opens (input starts lens : List ℕ) (p : Place) (e : ℕ) (c : Core) : Type 0 where
+  pub input-short : length input ≤ 65535
+  pub base : p .base ≤ 65535
+  pub at : p .at < 65535
+  pub inside : Inside input starts lens
+  pub ready : Ready (limit input) e c
+
+-- ---- what it gives
+
+-- e bytes later: what was written grew by no more than e bytes, and what was charged since, can write
 pub record Grown (n e : ℕ) (c r : Core) : Type 0 where
   pub gl : r .gl < 4
   pub gr : r .gr < 4
@@ -47,15 +68,15 @@ pub record Grown (n e : ℕ) (c r : Core) : Type 0 where
   pub text : r .out .end + 256 * (n - r .charged) ≤ c .out .end + 256 * (n - c .charged + e)
   pub issues : r .out .issues + (n - r .charged) ≤ c .out .issues + (n - c .charged + e)
 
--- a function of the cycle goes as f, and the macros stay
-pub record Ran (cells input : List ℕ) (e : ℕ) (f : Given → State → State) (starts lens : List ℕ) (c : Core) (t i : List ℕ) (r : Core) (t′ i′ : List ℕ) : Type 0 where
-  pub does : (g : Given) → g .cells ≡ cells → g .input ≡ input → Does g (f g) (whole c starts lens) t i (whole r starts lens) t′ i′
-  pub grown : Grown (limit input) e c r
+-- from d, t, i to d′, t′, i′ as f goes, e bytes on
+pub record Ran (cells input : List ℕ) (e : ℕ) (f : Given → State → State) (d : Decoder) (t i : List ℕ) (d′ : Decoder) (t′ i′ : List ℕ) : Type 0 where
+  pub does : (g : Given) → g .cells ≡ cells → g .input ≡ input → Does g (f g) d t i d′ t′ i′
+  pub grown : Grown (limit input) e (d .core) (d′ .core)
 
--- a step of the cycle, at the byte i of b
-pub record RanStep (cells input b : List ℕ) (i : ℕ) (f : Given → State → Step) (starts lens : List ℕ) (c : Core) (t j : List ℕ) (r : Stepped) (t′ j′ : List ℕ) : Type 0 where
-  pub does : (g : Given) → g .cells ≡ cells → g .input ≡ input → Does g (λ s. f g s .to) (whole c starts lens) t j (whole (r .core) starts lens) t′ j′
-  pub used : (g : Given) → g .cells ≡ cells → g .input ≡ input → (t₀ j₀ : List ℕ) (s : State) → Holds g t₀ j₀ s (whole c starts lens) t j → r .used ≡ f g s .used
-  pub some : 1 ≤ r .used
-  pub most : i + r .used ≤ length b
-  pub grown : Grown (limit input) 1 c (r .core)
+-- the same of a step that takes u bytes, at the byte j of b
+pub record RanStep (cells input b : List ℕ) (j : ℕ) (f : Given → State → Step) (d : Decoder) (t i : List ℕ) (u : ℕ) (d′ : Decoder) (t′ i′ : List ℕ) : Type 0 where
+  pub does : (g : Given) → g .cells ≡ cells → g .input ≡ input → Does g (λ s. f g s .to) d t i d′ t′ i′
+  pub used : (g : Given) → g .cells ≡ cells → g .input ≡ input → (t₀ i₀ : List ℕ) (s : State) → Holds g t₀ i₀ s d t i → u ≡ f g s .used
+  pub some : 1 ≤ u
+  pub most : j + u ≤ length b
+  pub grown : Grown (limit input) 1 (d .core) (d′ .core)

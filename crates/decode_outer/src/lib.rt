@@ -1,25 +1,34 @@
 // Steps outside every body. There alone macros are defined, so the decoder's struct with its two
 // arrays goes in and comes back by value here, and is lent to the cycle.
+use control::MACRO;
+use decode_bodies::Place;
 use decode_macros::Command;
 use decode_state::Core;
 use decode_state::Decoder;
-use decode_state::Outer;
-use decode_state::Stop;
+use decode_steps::Stop;
 use issues::IssueKind;
 ghost use mathlib.Core.Path.{_≡_};
-ghost use Prim.Native.Nat.{ℕ, _+_, _≤_, _<_};
-ghost use mathlib.Core.List.{List};
+ghost use Prim.Native.Nat.{ℕ, _+_, _<_};
 ghost use lib.ListN.{length, drop, getD, set};
 ghost use mathlib.Core.Bool.{cond};
 ghost use Rattle.reading.specs.Characters.{graphic};
-ghost use Rattle.reading.specs.Macros.{runMacro, defined, macroCmd, limit};
+ghost use Rattle.reading.specs.Macros.{runMacro, defined, macroCmd};
 ghost use Rattle.decode_state.specs.Contracts.{whole};
 ghost use Rattle.decode_macros.specs.Contracts.{Defined};
 ghost use Rattle.decode_steps.specs.Contracts.{StopAt};
-ghost use Rattle.decode_bodies.specs.Contracts.{below, Inside, Ready};
-ghost use Rattle.decode_outer.specs.Contracts.{Executed, OuterStep, stepAt, TopRan};
+ghost use Rattle.decode_bodies.specs.Contracts.{below};
+ghost use Rattle.decode_outer.specs.Contracts.{Outside, Executed, OuterStep, stepAt, TopRan};
 
-// The decoder with its core anew.
+/// After a step outside every body, where macros are defined.
+pub struct Outer {
+    pub used: usize,
+    pub decoder: Decoder,
+}
+
+/// How many bodies may be open at a time.
+const MAX_MACRO_DEPTH: usize = 4;
+
+/// The decoder with its core anew.
 fn with_core(d: Decoder, core: Core) -> Decoder
     ensures { λ r. ⌜ r ≡ whole core (d .starts) (d .lens) ⌝ }
 {
@@ -28,7 +37,7 @@ fn with_core(d: Decoder, core: Core) -> Decoder
     r
 }
 
-// The macro of `code` gets a body.
+/// The macro of `code` gets a body.
 fn define(d: Decoder, code: usize, start: u16, len: u16) -> Decoder
     requires { ⌜ code < 128 ⌝ }
     ensures { λ r. ⌜ r ≡ whole (d .core) (set (d .starts) code start) (set (d .lens) code len) ⌝ }
@@ -39,7 +48,7 @@ fn define(d: Decoder, code: usize, start: u16, len: u16) -> Decoder
     r
 }
 
-// A character at the byte i, through a code element that has the macro set.
+/// A character at the byte i, through a code element that has the macro set.
 fn call(
     cells: &[u16],
     input: &[u8],
@@ -49,19 +58,22 @@ fn call(
     text: &mut [u8],
     issues: &mut [u32],
 ) -> Outer
-    requires { ⌜ (length (now input) ≤ 65535) × (i < length (now input)) × (at < 65535) ⌝ }
-    requires { ⌜ Inside (now input) (d .starts) (d .lens) ⌝ }
-    requires { ⌜ Ready (limit (now input)) 1 (d .core) ⌝ }
+    requires { ⌜ Outside (now input) 1 d ⌝ }
+    requires { ⌜ (i < length (now input)) × (at < 65535) ⌝ }
     ensures { λ r. ⌜ ((e : ℕ) → getD (d .core .sets) e 0 ≡ 15 → OuterStep (now (cells .entry)) (now (input .entry)) i (λ g. graphic g 4 (below g 4) e (getD (now (input .entry)) i 0) (drop (i + 1) (now (input .entry))) at) d (now (text .entry)) (now (issues .entry)) r (now (text .exit)) (now (issues .exit))) ⌝ }
 {
     let core = d.core;
+    let p = Place {
+        base: 0,
+        at,
+        left: MAX_MACRO_DEPTH,
+    };
     let r = decode_bodies::graphic(
         cells,
         input,
         input,
         i,
-        at,
-        4,
+        p,
         core,
         &d.starts,
         &d.lens,
@@ -75,7 +87,7 @@ fn call(
     }
 }
 
-// The macro of `code` runs once.
+/// The macro of `code` runs once.
 fn execute(
     cells: &[u16],
     input: &[u8],
@@ -85,18 +97,21 @@ fn execute(
     text: &mut [u8],
     issues: &mut [u32],
 ) -> Decoder
-    requires { ⌜ (length (now input) ≤ 65535) × (code < 128) × (at < 65535) ⌝ }
-    requires { ⌜ Inside (now input) (d .starts) (d .lens) ⌝ }
-    requires { ⌜ Ready (limit (now input)) 1 (d .core) ⌝ }
+    requires { ⌜ Outside (now input) 1 d ⌝ }
+    requires { ⌜ (code < 128) × (at < 65535) ⌝ }
     ensures { λ r. ⌜ Executed (now (cells .entry)) (now (input .entry)) (λ g. runMacro g 4 (below g 4) code at) d (now (text .entry)) (now (issues .entry)) r (now (text .exit)) (now (issues .exit)) ⌝ }
 {
     let core = d.core;
+    let p = Place {
+        base: 0,
+        at,
+        left: MAX_MACRO_DEPTH,
+    };
     let after = decode_bodies::run_macro(
         cells,
         input,
         code,
-        at,
-        4,
+        p,
         core,
         &d.starts,
         &d.lens,
@@ -106,7 +121,7 @@ fn execute(
     with_core(d, after)
 }
 
-// MACRO 40 or 41 at the byte i, with a body of `len` bytes.
+/// MACRO 40 or 41 at the byte i, with a body of `len` bytes.
 fn definition(
     cells: &[u16],
     input: &[u8],
@@ -118,10 +133,9 @@ fn definition(
     text: &mut [u8],
     issues: &mut [u32],
 ) -> Outer
-    requires { ⌜ (length (now input) ≤ 65535) × (i < length (now input)) ⌝ }
+    requires { ⌜ Outside (now input) 1 d ⌝ }
+    requires { ⌜ i < length (now input) ⌝ }
     requires { ⌜ Defined code len (now input) i ⌝ }
-    requires { ⌜ Inside (now input) (d .starts) (d .lens) ⌝ }
-    requires { ⌜ Ready (limit (now input)) 1 (d .core) ⌝ }
     ensures { λ r. ⌜ OuterStep (now (cells .entry)) (now (input .entry)) i (λ g. defined g 4 (below g 4) (cond runs 0x41 0x40) code len i i) d (now (text .entry)) (now (issues .entry)) r (now (text .exit)) (now (issues .exit)) ⌝ }
 {
     let defined = define(d, code, (i + 3) as u16, len as u16);
@@ -137,7 +151,7 @@ fn definition(
     }
 }
 
-// MACRO at the byte i. Table 7-16.
+/// MACRO at the byte i. Table 7-16.
 fn macro_cmd(
     cells: &[u16],
     input: &[u8],
@@ -146,9 +160,8 @@ fn macro_cmd(
     text: &mut [u8],
     issues: &mut [u32],
 ) -> Outer
-    requires { ⌜ (length (now input) ≤ 65535) × (i < length (now input)) ⌝ }
-    requires { ⌜ Inside (now input) (d .starts) (d .lens) ⌝ }
-    requires { ⌜ Ready (limit (now input)) 1 (d .core) ⌝ }
+    requires { ⌜ Outside (now input) 1 d ⌝ }
+    requires { ⌜ i < length (now input) ⌝ }
     ensures { λ r. ⌜ OuterStep (now (cells .entry)) (now (input .entry)) i (λ g. macroCmd g 4 (below g 4) (drop (i + 1) (now (input .entry))) i i) d (now (text .entry)) (now (issues .entry)) r (now (text .exit)) (now (issues .exit)) ⌝ }
 {
     let core = d.core;
@@ -168,7 +181,7 @@ fn macro_cmd(
         Command::Malformed => {
             let after = decode_characters::report(
                 i as u32,
-                IssueKind::MalformedControl(0x95),
+                IssueKind::MalformedControl(MACRO),
                 core,
                 issues,
             );
@@ -183,7 +196,7 @@ fn macro_cmd(
     }
 }
 
-// The step at which plain steps stopped.
+/// The step at which plain steps stopped.
 fn step(
     cells: &[u16],
     input: &[u8],
@@ -193,16 +206,15 @@ fn step(
     text: &mut [u8],
     issues: &mut [u32],
 ) -> Outer
-    requires { ⌜ (length (now input) ≤ 65535) × (i < length (now input)) ⌝ }
-    requires { ⌜ Inside (now input) (d .starts) (d .lens) ⌝ }
-    requires { ⌜ Ready (limit (now input)) 1 (d .core) ⌝ }
+    requires { ⌜ Outside (now input) 1 d ⌝ }
+    requires { ⌜ i < length (now input) ⌝ }
     requires { ⌜ StopAt stop (now input) i (d .core) ⌝ }
     ensures { λ r. ⌜ OuterStep (now (cells .entry)) (now (input .entry)) i (stepAt (now (input .entry)) i) d (now (text .entry)) (now (issues .entry)) r (now (text .exit)) (now (issues .exit)) ⌝ }
 {
     match stop {
         Stop::Macro => macro_cmd(cells, input, i, d, text, issues),
-        Stop::Char(_) => call(cells, input, i, i as u32, d, text, issues),
-        Stop::Shifted(_) => {
+        Stop::Char => call(cells, input, i, i as u32, d, text, issues),
+        Stop::Shifted => {
             let r = call(cells, input, i + 1, i as u32, d, text, issues);
             let next = r.decoder;
             Outer {
@@ -217,7 +229,7 @@ fn step(
     }
 }
 
-// All steps of the input.
+/// All steps of the input.
 pub fn top(
     cells: &[u16],
     input: &[u8],
@@ -225,9 +237,7 @@ pub fn top(
     text: &mut [u8],
     issues: &mut [u32],
 ) -> Decoder
-    requires { ⌜ length (now input) ≤ 65535 ⌝ }
-    requires { ⌜ Inside (now input) (decoder .starts) (decoder .lens) ⌝ }
-    requires { ⌜ Ready (limit (now input)) (length (now input)) (decoder .core) ⌝ }
+    requires { ⌜ Outside (now input) (length (now input)) decoder ⌝ }
     ensures { λ r. ⌜ TopRan (now (cells .entry)) (now (input .entry)) decoder (now (text .entry)) (now (issues .entry)) r (now (text .exit)) (now (issues .exit)) ⌝ }
 {
     let mut d = decoder;

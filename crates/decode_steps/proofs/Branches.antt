@@ -1,4 +1,4 @@
--- A step by its byte, where no macro is concerned. Assumes nothing.
+-- A step by its byte, where no macro is concerned.
 use Prim.Native.Nat.{ℕ, zero, suc, _-_, _≤_, _<_}
 use mathlib.Core.Path.{_≡_, refl, ap, _∙_}
 use mathlib.Core.Bool.{Bool, true, false, cond, _||_}

@@ -1,4 +1,4 @@
--- A step that plain steps leave, by its byte. Assumes nothing.
+-- A step that plain steps leave, by its byte.
 use Prim.Native.Nat.{ℕ, _-_}
 use mathlib.Core.Path.{_≡_}
 use mathlib.Core.Bool.{true, false}

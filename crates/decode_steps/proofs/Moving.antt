@@ -1,4 +1,4 @@
--- From what a callee promises to a step over a cell table. Assumes nothing.
+-- From what a callee promises to a step over a cell table.
 use Prim.Native.Nat.{ℕ, _≤_, _<_}
 use mathlib.Core.Path.{_≡_, refl, ap, _∙_, subst}
 use mathlib.Core.Bool.{false}

@@ -1,4 +1,4 @@
--- Where plain steps pass. Assumes nothing.
+-- Where plain steps pass.
 use Prim.Native.Nat.{ℕ, _+_, _<_}
 use mathlib.Core.Path.{_≡_, refl, sym, ap, _∙_}
 use mathlib.Core.Bool.{Bool, true, false}

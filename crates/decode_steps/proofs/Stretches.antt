@@ -1,4 +1,4 @@
--- The loop of `plain`: what each turn adds. Assumes nothing.
+-- The loop of `plain`: what each turn adds.
 use Prim.Native.Nat.{ℕ, _+_, _-_, _≤_, _<_}
 use mathlib.Core.Path.{_≡_, refl, _∙_, subst}
 use mathlib.Core.List.{List}

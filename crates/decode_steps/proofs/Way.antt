@@ -1,4 +1,4 @@
--- What holds at the head of the loop of `plain`, and how a turn keeps it. Assumes nothing.
+-- What holds at the head of the loop of `plain`, and how a turn keeps it.
 use Prim.Native.Nat.{ℕ, _+_, _-_, _≤_, _<_}
 use mathlib.Core.Path.{_≡_, refl, _∙_, subst}
 use mathlib.Core.List.{List}
@@ -8,8 +8,8 @@ use Rattle.reading.specs.Macros.{Run}
 use Rattle.reading.specs.Steps.{step, offset}
 use Rattle.decode_state.specs.declared.Core.{Core}
 use Rattle.decode_state.specs.declared.Stepped.{Stepped}
-use Rattle.decode_state.specs.declared.Stop.{Stop}
-use Rattle.decode_state.specs.declared.Stop.the-variants.{End, Macro, Char, Shifted}
+use Rattle.decode_steps.specs.declared.Stop.{Stop}
+use Rattle.decode_steps.specs.declared.Stop.the-variants.{End, Macro, Char, Shifted}
 use Rattle.decode_state.specs.Contracts.{Good, TookOver, Stretch}
 use Rattle.decode_steps.specs.Contracts.{Verdict, StopAt}
 use Rattle.decode_steps.proofs.Stretches.{good-after, stretch-start, stretch-on, stretch-step}
@@ -52,5 +52,5 @@ good-next h k = record { gl = h .gl; gr = h .gr; room = record { ordered = h .ro
 pub stop-at : (r : Stop) (b : List ℕ) (i : ℕ) (c : Core) → (r ≡ End → ⊥) → Verdict r b i c → StopAt r b i c
 stop-at End b i c h v = absurd (h refl)
 stop-at Macro b i c h v = v
-stop-at (Char e) b i c h v = v
-stop-at (Shifted e) b i c h v = v
+stop-at Char b i c h v = v
+stop-at Shifted b i c h v = v

@@ -10,8 +10,6 @@ use control::SS2;
 use control::SS3;
 use decode_state::Core;
 use decode_state::Stepped;
-use decode_state::Stop;
-use decode_state::Stretched;
 ghost use mathlib.Core.Path.{_≡_};
 ghost use Prim.Native.Nat.{ℕ, _+_, _-_, _≤_, _<_};
 ghost use mathlib.Core.Bool.{true};
@@ -25,10 +23,29 @@ ghost use Rattle.decode_output.specs.Output.{newline};
 ghost use Rattle.decode_state.specs.Contracts.{Good, TookOver};
 ghost use Rattle.decode_steps.specs.Contracts.{CharOf, ShiftOf, Verdict, Passes, Plain};
 
-// The macro set, by 01's number.
+/// Where a run of steps that concern no macro stops.
+pub enum Stop {
+    /// Nowhere before the body's end.
+    End,
+    /// At MACRO.
+    Macro,
+    /// At a character of the macro set.
+    Char,
+    /// At a single shift with a character of the macro set behind it.
+    Shifted,
+}
+
+/// After such a run.
+pub struct Stretched {
+    pub at: usize,
+    pub stop: Stop,
+    pub core: Core,
+}
+
+/// The macro set, by 01's number.
 const MACRO_SET: u8 = 15;
 
-// The offset to report at the byte i of a body: its own (origin 0), or the outermost caller's.
+/// The offset to report at the byte i of a body: its own (origin 0), or the outermost caller's.
 pub fn offset(origin: u32, i: usize) -> u32
     requires { ⌜ i < 65536 ⌝ }
     ensures { λ r. ⌜ r ≡ offset origin i ⌝ }
@@ -36,8 +53,8 @@ pub fn offset(origin: u32, i: usize) -> u32
     if origin == 0 { i as u32 } else { origin - 1 }
 }
 
-// What stops plain steps at a single shift: the macro set in its element e, and a character behind
-// it.
+/// What stops plain steps at a single shift: the macro set in its element e, and a character behind
+/// it.
 fn stop_shift(b: &[u8], i: usize, s: Core, e: usize) -> Stop
     requires { ⌜ (i < length (now b)) × (e < 4) × ShiftOf (getD (now b) i 0) e ⌝ }
     ensures { λ r. ⌜ Verdict r (now (b .entry)) i s ⌝ }
@@ -50,13 +67,13 @@ fn stop_shift(b: &[u8], i: usize, s: Core, e: usize) -> Stop
         return Stop::End;
     }
     if decode_codes::is_graphic(b[i + 1]) {
-        Stop::Shifted(e)
+        Stop::Shifted
     } else {
         Stop::End
     }
 }
 
-// What stops plain steps at a character of the code element e: the macro set there.
+/// What stops plain steps at a character of the code element e: the macro set there.
 fn stop_char(x: u8, s: Core, e: usize) -> Stop
     requires { ⌜ CharOf x e s ⌝ }
     ensures { λ r. ⌜ ((b : List ℕ) (i : ℕ) → i < length b → getD b i 0 ≡ x → Verdict r b i s) ⌝ }
@@ -65,11 +82,11 @@ fn stop_char(x: u8, s: Core, e: usize) -> Stop
     if sets[e] != MACRO_SET {
         return Stop::End;
     }
-    Stop::Char(e)
+    Stop::Char
 }
 
-// What stops a run of plain steps at the byte i; End where nothing does.
-fn stop(b: &[u8], i: usize, s: Core) -> Stop
+/// What stops a run of plain steps at the byte i; End where nothing does.
+fn stop_at(b: &[u8], i: usize, s: Core) -> Stop
     requires { ⌜ (i < length (now b)) × (s .gl < 4) × (s .gr < 4) ⌝ }
     ensures { λ r. ⌜ Verdict r (now (b .entry)) i s ⌝ }
 {
@@ -84,7 +101,7 @@ fn stop(b: &[u8], i: usize, s: Core) -> Stop
     }
 }
 
-// SP. Table 7-14, Annex E.4.
+/// SP. Table 7-14, Annex E.4.
 fn space(s: Core, text: &mut [u8]) -> Stepped
     requires { ⌜ Good 1 s ⌝ }
     ensures { λ r. ⌜ ((cells b i₁ : List ℕ) (i : ℕ) → i < length b → TookOver cells b i (λ g s. took 1 (space g s)) s (now (text .entry)) i₁ r (now (text .exit)) i₁) ⌝ }
@@ -100,7 +117,7 @@ fn space(s: Core, text: &mut [u8]) -> Stepped
     Stepped { used: 1, core: r }
 }
 
-// LS0 and LS1. Table 7-1.
+/// LS0 and LS1. Table 7-1.
 fn invoke_gl(s: Core, e: u8) -> Stepped
     requires { ⌜ Good 1 s ⌝ }
     requires { ⌜ e < 4 ⌝ }
@@ -111,7 +128,7 @@ fn invoke_gl(s: Core, e: u8) -> Stepped
     Stepped { used: 1, core: r }
 }
 
-// APR. Table 7-15.
+/// APR. Table 7-15.
 fn newline(s: Core, text: &mut [u8], issues: &mut [u32]) -> Stepped
     requires { ⌜ Good 1 s ⌝ }
     ensures { λ r. ⌜ ((cells b : List ℕ) (i : ℕ) → i < length b → TookOver cells b i (λ g s. took 1 (writes newline s)) s (now (text .entry)) (now (issues .entry)) r (now (text .exit)) (now (issues .exit))) ⌝ }
@@ -122,7 +139,7 @@ fn newline(s: Core, text: &mut [u8], issues: &mut [u32]) -> Stepped
     Stepped { used: 1, core: r }
 }
 
-// SP, LS0, LS1, SS2, SS3, ESC, APR, and the codes below 80 with fixed parameters.
+/// SP, LS0, LS1, SS2, SS3, ESC, APR, and the codes below 80 with fixed parameters.
 fn control0(
     cells: &[u16],
     b: &[u8],
@@ -151,7 +168,7 @@ fn control0(
     }
 }
 
-// A character of the set in the code element e, which is not the macro set.
+/// A character of the set in the code element e, which is not the macro set.
 fn graphic(
     cells: &[u16],
     b: &[u8],
@@ -170,7 +187,7 @@ fn graphic(
     decode_characters::graphic(cells, b, i, sets[e], at, s, text, issues)
 }
 
-// One step that concerns no macro.
+/// One step that concerns no macro.
 fn simple(
     cells: &[u16],
     b: &[u8],
@@ -195,7 +212,7 @@ fn simple(
     }
 }
 
-// Plain steps from the byte `from` of a body to its end, or to what stops them.
+/// Plain steps from the byte `from` of a body to its end, or to what stops them.
 pub fn steps(
     cells: &[u16],
     b: &[u8],
@@ -223,7 +240,7 @@ pub fn steps(
                 core: s,
             };
         }
-        let stop = stop(b, i, s);
+        let stop = stop_at(b, i, s);
         let Stop::End = stop else {
             return Stretched {
                 at: i,
@@ -238,7 +255,7 @@ pub fn steps(
     }
 }
 
-// The same, where the first byte often stops them, as in a body that calls macros.
+/// The same, where the first byte often stops them, as in a body that calls macros.
 pub fn plain(
     cells: &[u16],
     b: &[u8],
@@ -260,7 +277,7 @@ pub fn plain(
             core,
         };
     }
-    let stop = stop(b, from, core);
+    let stop = stop_at(b, from, core);
     let Stop::End = stop else {
         return Stretched {
             at: from,

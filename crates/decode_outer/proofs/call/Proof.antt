@@ -1,11 +1,8 @@
-use Rattle.decode_outer.proofs.Defining.{outer-with, ran-outer}
+-- `call`: the step is the cycle's, and the macros stay.
 use borrow.Author.Needs.{needs}
+use Rattle.decode_outer.proofs.Defining.{outer}
 use Rattle.decode_outer.proofs.call.Statement.{statement}
 use Rattle.decode_outer.proofs.call.Tie as tie
-use Rattle.decode_outer.proofs.call.Reads as reads
-use Rattle.decode_outer.proofs.call.Lts as lts
-use Rattle.decode_bodies.proofs.graphic.Reads as graphic-reads
-use Rattle.decode_outer.proofs.with_core.Reads as with-core-reads
 
 graphic-requires : tie.Need-graphic-requires
 graphic-requires c κs = search needs
@@ -20,8 +17,13 @@ same-length-2 : tie.Need-same-length-2
 same-length-2 c = search needs
 
 returns : tie.Need-returns
-returns c = λ e q. outer-with _ _ _ _ _ _ _ _ _ (c .with-core .ensures) (ran-outer (c .before .before .before .before .before .before .before .before .before .before .before .before .before .before .before .before .before .pre .1 .0) (c .before .before .before .before .before .before .graphic .ensures e q))
+returns c =
+    let at-call = c .before .before .before .before .before .before in
+    let entry = at-call .before .before .before .before .before .before .before .before .before .before .before in
+    λ e q. outer (c .with-core .ensures) (entry .pre .0 .inside) (at-call .graphic .ensures e q)
 
 pub call-spec : {M : Type 1} → statement M
 call-spec =
-    tie.close (tie.spec graphic-requires with-core-requires same-length same-length-2 returns)
+    tie.close
+    (tie.spec
+    graphic-requires with-core-requires same-length same-length-2 returns)

@@ -1,22 +1,16 @@
+-- `macro_cmd`: the command is cut, ends, is malformed, or defines a macro.
 use Prim.Native.Nat.{_-_}
-use lib.ListN.{length}
 use mathlib.Core.Path.{_∙_, ap}
+use lib.ListN.{length}
+use borrow.Author.Needs.{needs}
 use Rattle.decode_macros.specs.declared.Command.{Command}
 use Rattle.decode_macros.specs.Contracts.{commanded}
 use Rattle.decode_bodies.specs.Contracts.{below}
-use Rattle.decode_bodies.proofs.Bodies.{took-ran-by}
+use Rattle.decode_bodies.proofs.Steps.{took-ran}
 use Rattle.decode_bodies.proofs.Commands.{took-cut, took-malformed, within-malformed, within-ends, within-defines}
-use Rattle.decode_outer.proofs.Defining.{outer-with, outer-ends, outer-as, ran-outer}
-use borrow.Author.Needs.{needs}
+use Rattle.decode_outer.proofs.Defining.{outer, outer-ends, outer-as}
 use Rattle.decode_outer.proofs.macro_cmd.Statement.{statement}
 use Rattle.decode_outer.proofs.macro_cmd.Tie as tie
-use Rattle.decode_outer.proofs.macro_cmd.Reads as reads
-use Rattle.decode_outer.proofs.macro_cmd.Lts as lts
-use Rattle.decode_characters.proofs.report.Reads as report-reads
-use Rattle.decode_controls.proofs.truncated.Reads as truncated-reads
-use Rattle.decode_outer.proofs.definition.Reads as definition-reads
-use Rattle.decode_outer.proofs.with_core.Reads as with-core-reads
-use Rattle.decode_macros.proofs.read_command.Reads as read-command-reads
 
 read-command-requires : tie.Need-read-command-requires
 read-command-requires c κs = search needs
@@ -52,22 +46,49 @@ enum-known-code : tie.Need-enum-known-code
 enum-known-code c = search needs
 
 definition-requires : tie.Need-definition-requires
-definition-requires c κs = (c .before .before .before .before .before .before .before .before .before .before .before .pre .0, (within-defines _ _ (c .before .before .before .before .before .read-command .ensures .1) (c .before .before .before .code .given .1), c .before .before .before .before .before .before .before .before .before .before .before .pre .1))
+definition-requires c κs =
+    let at-case = c .before .before .before in
+    let at-read = at-case .before .before in
+    let entry = at-read .before .before .before .before .before .before in
+    (entry .pre .0, (entry .pre .1, within-defines _ _ (at-read .read-command .ensures .1) (at-case .code .given .1)))
 
 same-length : tie.Need-same-length
 same-length c = search needs
 
 returns : tie.Need-returns
-returns c = outer-with _ _ _ _ _ _ _ _ _ (c .with-core .ensures) (ran-outer (c .before .before .before .before .before .before .before .before .before .before .before .before .before .before .pre .1 .0) (took-ran-by (λ g. below g 4) (c .before .before .before .before .before .before .before .before .before .before .before .before .before .before .pre .1 .1 .within) (λ R. took-cut _ _ _ _ (c .before .before .before .before .before .before .before .before .read-command .ensures .0) _ _ _ _ _ (c .before .before .before .before .before .before .enum-told .given .1) (c .before .before .before .before .truncated .ensures) 4 R (c .before .before .before .before .before .before .before .before .before .before .before .before .before .before .args .i) (c .before .before .before .before .before .before .before .before .before .before .before .before .before .before .args .cells .now) _)))
+returns c =
+    let at-call = c .before .before .before .before in
+    let at-case = at-call .before .before in
+    let at-read = at-case .before .before in
+    let entry = at-read .before .before .before .before .before .before in
+    let outside = entry .pre .0 in
+    outer (c .with-core .ensures) (outside .inside)
+    (took-ran (λ g. below g 4) (outside .ready .within)
+    (λ R. took-cut _ _ _ _ (at-read .read-command .ensures .0) _ _ _ _ _ (at-case .enum-told .given .1) (at-call .truncated .ensures) 4 R (entry .args .i) (entry .args .cells .now) _))
 
 returns-2 : tie.Need-returns-2
-returns-2 c = outer-ends _ _ _ _ _ _ _ _ (c .before .before .read-command .ensures .0) (c .enum-told2 .given .1) (within-ends _ _ (c .before .before .read-command .ensures .1) (c .enum-told2 .given .1)) (c .before .before .before .before .before .before .before .before .pre .1 .0) (c .before .before .before .before .before .before .before .before .pre .1 .1)
+returns-2 c =
+    let at-read = c .before .before in
+    let entry = at-read .before .before .before .before .before .before in
+    let read = at-read .read-command .ensures in
+    let case = c .enum-told2 .given .1 in
+    outer-ends _ _ _ _ _ _ _ _ (read .0) case (within-ends _ _ (read .1) case) (entry .pre .0)
 
 same-length-2 : tie.Need-same-length-2
 same-length-2 c = search needs
 
 returns-3 : tie.Need-returns-3
-returns-3 c = outer-with _ _ _ _ _ _ _ _ _ (c .with-core2 .ensures) (ran-outer (c .before .before .before .before .before .before .before .before .before .before .before .before .before .pre .1 .0) (took-ran-by (λ g. below g 4) (c .before .before .before .before .before .before .before .before .before .before .before .before .before .pre .1 .1 .within) (λ R. took-malformed _ _ _ _ (c .before .before .before .before .before .before .before .read-command .ensures .0) _ _ _ _ _ (c .before .before .before .before .before .enum-told3 .given .1) (within-malformed _ _ (c .before .before .before .before .before .before .before .read-command .ensures .1) (c .before .before .before .before .before .enum-told3 .given .1)) (c .before .before .before .report .ensures) 4 R (c .before .before .before .before .before .before .before .before .before .before .before .before .before .args .i) (c .before .before .before .before .before .before .before .before .before .before .before .before .before .args .cells .now) _)))
+returns-3 c =
+    let at-call = c .before .before .before in
+    let at-case = at-call .before .before in
+    let at-read = at-case .before .before in
+    let entry = at-read .before .before .before .before .before .before in
+    let outside = entry .pre .0 in
+    let read = at-read .read-command .ensures in
+    let case = at-case .enum-told3 .given .1 in
+    outer (c .with-core2 .ensures) (outside .inside)
+    (took-ran (λ g. below g 4) (outside .ready .within)
+    (λ R. took-malformed _ _ _ _ (read .0) _ _ _ _ _ case (within-malformed _ _ (read .1) case) (at-call .report .ensures) 4 R (entry .args .i) (entry .args .cells .now) _))
 
 same-length-3 : tie.Need-same-length-3
 same-length-3 c = search needs
@@ -77,29 +98,21 @@ same-length-4 c = search needs
 
 returns-4 : tie.Need-returns-4
 unfolding commanded
-returns-4 c = outer-as (λ g s k. c .before .before .before .before .before .before .before .before .before .before .read-command .ensures .0 g 4 (below g 4) (c .before .before .before .before .before .before .before .before .before .before .before .before .before .before .before .before .args .i) (c .before .before .before .before .before .before .before .before .before .before .before .before .before .before .before .before .args .i) s ∙ ap (λ (z : Command). commanded z (length (c .before .before .before .before .before .before .before .before .before .before .before .before .before .before .before .before .args .input .now) - c .before .before .before .before .before .before .before .before .before .before .before .before .before .before .before .before .args .i) g 4 (below g 4) (c .before .before .before .before .before .before .before .before .before .before .before .before .before .before .before .before .args .i) (c .before .before .before .before .before .before .before .before .before .before .before .before .before .before .before .before .args .i) s) (c .before .before .before .before .before .before .before .before .code .given .1)) (c .before .before .before .before .definition .ensures)
+returns-4 c =
+    let at-call = c .before .before .before .before in
+    let at-case = at-call .before .before .before .before in
+    let at-read = at-case .before .before in
+    let a = at-read .before .before .before .before .before .before .args in
+    outer-as
+    (λ g s k.
+    at-read .read-command .ensures .0 g 4 (below g 4) (a .i) (a .i) s
+    ∙ ap (λ (z : Command). commanded z (length (a .input .now) - a .i) g 4 (below g 4) (a .i) (a .i) s) (at-case .code .given .1))
+    (at-call .definition .ensures)
 
 pub macro-cmd-spec : {M : Type 1} → statement M
 macro-cmd-spec =
     tie.close
     (tie.spec
-    read-command-requires
-    enum-told
-    cast-truncated
-    truncated-requires
-    with-core-requires
-    enum-told-2
-    enum-told-3
-    cast-report
-    report-requires
-    with-core-requires-2
-    enum-known-code
-    definition-requires
-    same-length
-    returns
-    returns-2
-    same-length-2
-    returns-3
-    same-length-3
-    same-length-4
-    returns-4)
+    read-command-requires enum-told cast-truncated truncated-requires with-core-requires enum-told-2
+    enum-told-3 cast-report report-requires with-core-requires-2 enum-known-code definition-requires
+    same-length returns returns-2 same-length-2 returns-3 same-length-3 same-length-4 returns-4)

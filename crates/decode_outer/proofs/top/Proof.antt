@@ -1,15 +1,20 @@
-use borrow.Author.Needs.{needs}
-use Prim.Native.Nat.{_-_}
+-- `top`: the loop goes along the input; its measure is what is left unread of it.
+use Prim.Native.Nat.{ℕ, _-_}
+use mathlib.Core.List.{List}
 use native.Mathlib.Omega.{arith}
 use lib.ListN.{length}
-use Rattle.decode_bodies.proofs.Loops.{ready-good, ready-left, ready-less}
-use Rattle.decode_outer.proofs.Loops.{Above, above-start, above-stretch, above-step, above-end}
+use borrow.Author.Needs.{needs}
+use Rattle.decode_state.specs.declared.Decoder.{Decoder}
+use Rattle.decode_bodies.specs.Contracts.{Inside}
+use Rattle.decode_bodies.proofs.Room.{ready-good, ready-left, ready-less}
+use Rattle.decode_bodies.proofs.Along.{Along, along-start, along-stretch, along-step, along-end, outside-step}
 use Rattle.decode_outer.proofs.top.Statement.{statement}
 use Rattle.decode_outer.proofs.top.Tie as tie
-use Rattle.decode_outer.proofs.top.Reads as reads
-use Rattle.decode_outer.proofs.top.Lts as lts
-use Rattle.decode_outer.proofs.step.Reads as step-reads
-use Rattle.decode_steps.proofs.steps.Reads as steps-reads
+
+-- from the start of the input to its byte i, where the macros lie in the input
+record Above (cells input : List ℕ) (d₀ : Decoder) (t₀ i₀ : List ℕ) (i : ℕ) (d : Decoder) (t i₁ : List ℕ) : Type 0 where
+  along : Along cells input 4 0 0 input d₀ t₀ i₀ i d t i₁
+  inside : Inside input (d .starts) (d .lens)
 
 abbrev Inv-loop : tie.InvT-loop
 Inv-loop cells input text₀ issues₀ d₀ i₀ text issues d i = Above cells input d₀ text₀ issues₀ i d text issues
@@ -18,10 +23,16 @@ abbrev μ-loop : tie.MeasureT-loop
 μ-loop cells input text₀ issues₀ d₀ i₀ text issues d i = length input - i
 
 loop-holds : tie.Need-loop-holds Inv-loop μ-loop
-loop-holds c = above-start _ _ _ _ _ (c .before .before .before .before .pre .1 .1) (c .before .before .before .before .pre .1 .0)
+loop-holds c =
+    let outside = c .before .before .before .before .pre in
+    record { along = along-start (outside .ready); inside = outside .inside }
 
 steps-requires : tie.Need-steps-requires Inv-loop μ-loop
-steps-requires c κs = ((c .before .before .before .loop .inv .within, c .before .before .before .before .before .before .before .before .pre .0, omega arith), ready-good (ready-left (c .before .before .before .before .before .before .before .before .pre .1 .1) (c .before .before .before .loop .inv .within) (c .before .before .before .loop .inv .grown)))
+steps-requires c κs =
+    let at-loop = c .before .before .before in
+    let w = at-loop .loop .inv .along in
+    let outside = at-loop .before .before .before .before .before .pre in
+    ((w .within, outside .short, omega arith), ready-good (ready-left (outside .ready) (w .within) (w .grown)))
 
 same-length : tie.Need-same-length Inv-loop μ-loop
 same-length c = search needs
@@ -30,34 +41,53 @@ same-length-2 : tie.Need-same-length-2 Inv-loop μ-loop
 same-length-2 c = search needs
 
 returns : tie.Need-returns Inv-loop μ-loop
-returns c = above-end _ _ _ _ _ _ _ _ _ (above-stretch _ _ _ _ _ _ _ _ _ (c .before .before .before .before .before .before .before .before .before .before .loop .inv) (c .before .before .before .before .before .before .steps .result .at) (c .before .before .before .before .before .before .steps .result .core) _ _ (c .before .before .before .before .before .before .steps .ensures .stretch) (c .before .before .before .before .before .before .steps .kept .1 .1 .1 .1 .1 .1 .0) (c .before .before .before .before .before .before .steps .kept .1 .1 .1 .1 .1 .1 .1 .0)) (c .if1 .taken)
+returns c =
+    let at-steps = c .before .before .before .before .before .before in
+    let at-loop = at-steps .before .before .before .before in
+    let w = along-stretch (at-loop .loop .inv .along) (at-steps .steps .ensures .stretch) (at-steps .steps .kept .1 .1 .1 .1 .1 .1 .0) (at-steps .steps .kept .1 .1 .1 .1 .1 .1 .1 .0) in
+    along-end w (c .if1 .taken)
 
 step-requires : tie.Need-step-requires Inv-loop μ-loop
 step-requires c κs =
-    let w = (above-stretch _ _ _ _ _ _ _ _ _ (c .before .before .before .before .before .before .before .before .before .before .before .before .loop .inv) (c .before .before .before .before .before .before .before .before .steps .result .at) (c .before .before .before .before .before .before .before .before .steps .result .core) _ _ (c .before .before .before .before .before .before .before .before .steps .ensures .stretch) (c .before .before .before .before .before .before .before .before .steps .kept .1 .1 .1 .1 .1 .1 .0) (c .before .before .before .before .before .before .before .before .steps .kept .1 .1 .1 .1 .1 .1 .1 .0)) in
-    ((c .before .before .before .before .before .before .before .before .before .before .before .before .before .before .before .before .before .pre .0, c .before .before .if1 .left), (w .inside, (ready-less (ready-left (c .before .before .before .before .before .before .before .before .before .before .before .before .before .before .before .before .before .pre .1 .1) (w .within) (w .grown)) (omega (arith, c .before .before .if1 .left)), c .before .before .before .before .before .before .before .before .steps .ensures .stop)))
+    let at-test = c .before .before in
+    let at-steps = at-test .before .before .before .before .before .before in
+    let at-loop = at-steps .before .before .before .before in
+    let outside = at-loop .before .before .before .before .before .pre in
+    let w = along-stretch (at-loop .loop .inv .along) (at-steps .steps .ensures .stretch) (at-steps .steps .kept .1 .1 .1 .1 .1 .1 .0) (at-steps .steps .kept .1 .1 .1 .1 .1 .1 .1 .0) in
+    let ready = ready-less {e = 1} (ready-left (outside .ready) (w .within) (w .grown)) (omega (arith, at-test .if1 .left)) in
+    (record { short = outside .short; inside = at-loop .loop .inv .inside; ready = ready }, (at-test .if1 .left, at-steps .steps .ensures .stop))
 
 add-i : tie.Need-add-i Inv-loop μ-loop
-add-i c = omega (arith, c .before .before .before .before .before .before .step .ensures .most, c .before .before .before .before .before .before .before .before .before .before .before .before .before .before .before .before .before .before .before .before .before .before .before .before .pre .0)
+add-i c =
+    let at-step = c .before .before .before .before .before .before in
+    let at-steps = at-step .before .before .before .before .before .before .before .before .before in
+    let at-loop = at-steps .before .before .before .before in
+    omega (arith, at-step .step .ensures .ran .most, at-loop .before .before .before .before .before .pre .short)
 
 loop-less : tie.Need-loop-less Inv-loop μ-loop
-loop-less c = omega (arith, c .before .before .before .before .before .before .step .ensures .some, c .before .before .before .before .before .before .step .ensures .most, c .before .before .before .before .before .before .before .before .before .before .before .before .before .before .before .steps .ensures .stretch .past, c .before .before .before .before .before .before .before .before .before .if1 .left)
+loop-less c =
+    let at-step = c .before .before .before .before .before .before in
+    let at-test = at-step .before .before .before in
+    let at-steps = at-test .before .before .before .before .before .before in
+    omega (arith, at-step .step .ensures .ran .some, at-step .step .ensures .ran .most, at-steps .steps .ensures .stretch .past, at-test .if1 .left)
 
 loop-again : tie.Need-loop-again Inv-loop μ-loop
-loop-again c = above-step _ _ _ _ _ _ _ _ _ (above-stretch _ _ _ _ _ _ _ _ _ (c .before .before .before .before .before .before .before .before .before .before .before .before .before .before .before .before .before .before .before .loop .inv) (c .before .before .before .before .before .before .before .before .before .before .before .before .before .before .before .steps .result .at) (c .before .before .before .before .before .before .before .before .before .before .before .before .before .before .before .steps .result .core) _ _ (c .before .before .before .before .before .before .before .before .before .before .before .before .before .before .before .steps .ensures .stretch) (c .before .before .before .before .before .before .before .before .before .before .before .before .before .before .before .steps .kept .1 .1 .1 .1 .1 .1 .0) (c .before .before .before .before .before .before .before .before .before .before .before .before .before .before .before .steps .kept .1 .1 .1 .1 .1 .1 .1 .0)) (c .before .before .before .before .before .before .step .result) _ _ (c .before .before .before .before .before .before .before .before .before .if1 .left) (c .before .before .before .before .before .before .step .ensures) (c .before .before .before .before .before .before .step .kept .1 .1 .1 .1 .1 .0) (c .before .before .before .before .before .before .step .kept .1 .1 .1 .1 .1 .1 .0)
+loop-again c =
+    let at-step = c .before .before .before .before .before .before in
+    let at-test = at-step .before .before .before in
+    let at-steps = at-test .before .before .before .before .before .before in
+    let at-loop = at-steps .before .before .before .before in
+    let w = along-stretch (at-loop .loop .inv .along) (at-steps .steps .ensures .stretch) (at-steps .steps .kept .1 .1 .1 .1 .1 .1 .0) (at-steps .steps .kept .1 .1 .1 .1 .1 .1 .1 .0) in
+    let step = at-step .step .ensures in
+    record {
+      along =
+          along-step w (at-test .if1 .left) (outside-step 4 (at-steps .steps .result .at) (step .ran))
+          (at-step .step .kept .1 .1 .1 .1 .1 .0) (at-step .step .kept .1 .1 .1 .1 .1 .1 .0);
+      inside = step .inside;
+    }
 
 pub top-spec : {M : Type 1} → statement M
 top-spec =
     tie.close
-    (tie.spec
-    Inv-loop
-    μ-loop
-    loop-holds
-    steps-requires
-    same-length
-    same-length-2
-    returns
-    step-requires
-    add-i
-    loop-less
-    loop-again)
+    (tie.spec Inv-loop μ-loop
+    loop-holds steps-requires same-length same-length-2 returns step-requires add-i loop-less loop-again)

@@ -1,4 +1,4 @@
--- `plain::control0` meets its contract, by the code. Assumes nothing.
+-- `control0` meets its contract, by the code.
 use mathlib.Core.Path.{refl}
 use mathlib.Core.Logic.{inl, inr}
 use native.Mathlib.Omega.{arith}

@@ -1,4 +1,4 @@
--- `plain::graphic` meets its contract. Assumes nothing.
+-- `graphic` meets its contract.
 use borrow.Author.Needs.{needs}
 use Rattle.decode_steps.proofs.graphic.Statement.{statement}
 use Rattle.decode_steps.proofs.graphic.Tie as tie

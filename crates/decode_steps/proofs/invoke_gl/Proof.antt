@@ -1,4 +1,4 @@
--- `plain::invoke_gl` meets its contract. Assumes nothing.
+-- `invoke_gl` meets its contract.
 use Rattle.decode_steps.proofs.Moving.{took-over, took-gl}
 use Rattle.decode_steps.proofs.invoke_gl.Statement.{statement}
 use Rattle.decode_steps.proofs.invoke_gl.Tie as tie

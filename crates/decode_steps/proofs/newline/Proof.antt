@@ -1,4 +1,4 @@
--- `plain::newline` meets its contract, by that of `output::newline`. Assumes nothing.
+-- `newline` meets its contract, by that of `output::newline`.
 use native.Mathlib.Omega.{arith}
 use borrow.Author.Needs.{needs}
 use Rattle.decode_steps.proofs.Moving.{took-over, took-writes}

@@ -1,4 +1,4 @@
--- `plain::offset` meets its contract, by the origin. Assumes nothing.
+-- `offset` meets its contract, by the origin.
 use borrow.Author.Needs.{needs}
 use Rattle.decode_steps.proofs.Branches.{offset-own, offset-caller}
 use Rattle.decode_steps.proofs.offset.Statement.{statement}

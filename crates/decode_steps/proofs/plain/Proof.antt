@@ -1,8 +1,8 @@
--- `plain::plain` meets its contract. Assumes nothing.
+-- `plain` meets its contract.
 use mathlib.Core.Path.{_≡_}
 use mathlib.Core.Logic.{⊎-elim}
 use native.Mathlib.Omega.{arith}
-use Rattle.decode_state.specs.declared.Stop.the-variants.{End}
+use Rattle.decode_steps.specs.declared.Stop.the-variants.{End}
 use Rattle.decode_steps.proofs.Stretches.{stretch-start}
 use Rattle.decode_steps.proofs.Way.{stop-at}
 use borrow.Author.Needs.{needs}
@@ -14,8 +14,8 @@ returns c =
     let a = c .before .before .before .before .before .args in
     record { stretch = stretch-start (a .cells .now) (a .base) (a .origin) (a .b .now) (a .from) (a .core) (a .text .now) (a .issues .now) (c .before .before .before .before .before .pre .0 .0) (c .before .before .before .before .before .pre .1); stop = c .if1 .taken }
 
-stop-requires : tie.Need-stop-requires
-stop-requires c κs = search needs
+stop-at-requires : tie.Need-stop-at-requires
+stop-at-requires c κs = search needs
 
 enum-told : tie.Need-enum-told
 enum-told c = search needs
@@ -23,10 +23,10 @@ enum-told c = search needs
 returns-2 : tie.Need-returns-2
 returns-2 c =
     let a = c .before .before .before .before .before .before .before .args in
-    let n : c .before .stop .result ≡ End → ⊥ = λ e. ⊎-elim (λ z. omega (arith, z)) (⊎-elim (λ z. omega (arith, z)) (λ z. omega (arith, z))) (rw e at (c .match .keys2)) in
+    let n : c .before .stop-at .result ≡ End → ⊥ = λ e. ⊎-elim (λ z. omega (arith, z)) (⊎-elim (λ z. omega (arith, z)) (λ z. omega (arith, z))) (rw e at (c .match .keys2)) in
     record {
       stretch = stretch-start (a .cells .now) (a .base) (a .origin) (a .b .now) (a .from) (a .core) (a .text .now) (a .issues .now) (c .before .before .before .before .before .before .before .pre .0 .0) (c .before .before .before .before .before .before .before .pre .1);
-      stop = stop-at (c .before .stop .result) (a .b .now) (a .from) (a .core) n (c .before .stop .ensures);
+      stop = stop-at (c .before .stop-at .result) (a .b .now) (a .from) (a .core) n (c .before .stop-at .ensures);
     }
 
 steps-requires : tie.Need-steps-requires
@@ -46,7 +46,7 @@ plain-spec =
     tie.close
     (tie.spec
     returns
-    stop-requires
+    stop-at-requires
     enum-told
     returns-2
     steps-requires

@@ -1,4 +1,4 @@
--- `plain::simple` meets its contract, by the byte. Assumes nothing.
+-- `simple` meets its contract, by the byte.
 use mathlib.Core.Path.{_≡_}
 use mathlib.Core.Bool.{false}
 use mathlib.Core.Logic.{⊎-elim}

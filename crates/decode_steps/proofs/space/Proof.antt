@@ -1,4 +1,4 @@
--- `plain::space` meets its contract: the character is the definition's. Assumes nothing.
+-- `space` meets its contract: the character is the definition's.
 use mathlib.Core.Path.{_≡_, ap, _∙_}
 use mathlib.Core.Bool.{Bool, cond}
 use mathlib.Core.Logic.{⊎-elim}

@@ -1,13 +1,13 @@
--- `plain::steps` meets its contract. The loop's invariant: the steps so far are a stretch from `from` to i, and the buffers are as long as they were.
--- The measure is what is left of the body. Assumes nothing.
+-- `steps` meets its contract. The loop's invariant: the steps so far are a stretch from `from` to i, and the buffers are as long as they were.
+-- The measure is what is left of the body.
 use Prim.Native.Nat.{_-_}
 use mathlib.Core.Path.{_≡_, subst}
 use mathlib.Core.Logic.{⊎-elim}
 use native.Mathlib.Omega.{arith}
 use borrow.Author.Needs.{needs}
 use lib.ListN.{length}
-use Rattle.decode_state.specs.declared.Stop.{Stop}
-use Rattle.decode_state.specs.declared.Stop.the-variants.{End}
+use Rattle.decode_steps.specs.declared.Stop.{Stop}
+use Rattle.decode_steps.specs.declared.Stop.the-variants.{End}
 use Rattle.decode_steps.specs.Contracts.{Verdict}
 use Rattle.decode_steps.proofs.Way.{Way, way-start, way-good, way-on, way-step, good-next, stop-at}
 use Rattle.decode_steps.proofs.steps.Statement.{statement}
@@ -44,8 +44,8 @@ returns c =
     let w = way-on (h .loop .inv) (l .letters .ensures (a .args .base) (a .args .origin) (h .loop .issues)) (l .letters .kept .1 .1 .1 .1 .0) in
     record { stretch = w .stretch; stop = c .if1 .taken }
 
-stop-requires : tie.Need-stop-requires Inv-loop μ-loop
-stop-requires c κs =
+stop-at-requires : tie.Need-stop-at-requires Inv-loop μ-loop
+stop-at-requires c κs =
     let l = c .before .before .before .before in
     let h = l .before .before in
     let a = h .before .before .before .before .before in
@@ -68,8 +68,8 @@ returns-2 c =
     let h = l .before .before in
     let a = h .before .before .before .before .before in
     let w = way-on (h .loop .inv) (l .letters .ensures (a .args .base) (a .args .origin) (h .loop .issues)) (l .letters .kept .1 .1 .1 .1 .0) in
-    let n : c .before .stop .result ≡ End → ⊥ = λ e. ⊎-elim (λ z. omega (arith, z)) (⊎-elim (λ z. omega (arith, z)) (λ z. omega (arith, z))) (rw e at (c .match .keys2)) in
-    record { stretch = w .stretch; stop = stop-at (c .before .stop .result) (a .args .b .now) (l .letters .result .at) (l .letters .result .core) n (c .before .stop .ensures) }
+    let n : c .before .stop-at .result ≡ End → ⊥ = λ e. ⊎-elim (λ z. omega (arith, z)) (⊎-elim (λ z. omega (arith, z)) (λ z. omega (arith, z))) (rw e at (c .match .keys2)) in
+    record { stretch = w .stretch; stop = stop-at (c .before .stop-at .result) (a .args .b .now) (l .letters .result .at) (l .letters .result .core) n (c .before .stop-at .ensures) }
 
 offset-requires : tie.Need-offset-requires Inv-loop μ-loop
 offset-requires c κs = omega (arith, c .before .before .before .if1 .left, c .before .before .before .before .before .before .before .before .before .before .before .before .before .before .pre .0 .1)
@@ -87,7 +87,7 @@ simple-requires c κs =
     let h = l .before .before in
     let a = h .before .before .before .before .before in
     let w = way-on (h .loop .inv) (l .letters .ensures (a .args .base) (a .args .origin) (h .loop .issues)) (l .letters .kept .1 .1 .1 .1 .0) in
-    let v = subst (λ (r : Stop). Verdict r (a .args .b .now) (l .letters .result .at) (l .letters .result .core)) (c .before .before .before .enum-told .given .1) (c .before .before .before .before .before .stop .ensures) in
+    let v = subst (λ (r : Stop). Verdict r (a .args .b .now) (l .letters .result .at) (l .letters .result .core)) (c .before .before .before .enum-told .given .1) (c .before .before .before .before .before .stop-at .ensures) in
     ((k .if1 .left, a .pre .0 .1), (good-next (way-good w (a .pre .1)) (omega (arith, k .if1 .left)), v))
 
 add-i : tie.Need-add-i Inv-loop μ-loop
@@ -123,7 +123,7 @@ steps-spec =
     same-length
     same-length-2
     returns
-    stop-requires
+    stop-at-requires
     enum-told
     same-length-3
     same-length-4

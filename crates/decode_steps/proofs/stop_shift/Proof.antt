@@ -1,4 +1,4 @@
--- `plain::stop_shift` meets its contract: what stops the steps, or why they pass. Assumes nothing.
+-- `stop_shift` meets its contract: what stops the steps, or why they pass.
 use mathlib.Core.Path.{sym, _∙_}
 use native.Mathlib.Omega.{arith}
 use Rattle.decode_steps.proofs.Stops.{never, passes-shift}
@@ -33,7 +33,15 @@ is-graphic-requires c κs = search needs
 
 returns-3 : tie.Need-returns-3
 returns-3 c =
-    (c .before .before .before .if2 .left, c .before .before .before .before .before .before .before .pre .2, sym (c .before .is-graphic .ensures) ∙ c .if3 .taken, c .before .before .before .before .if1 .left)
+    let at-test = c .before .before .before in
+    let entry = at-test .before .before .before .before in
+    record {
+      within = at-test .if2 .left;
+      element = entry .args .e;
+      shift = entry .pre .2;
+      behind = sym (c .before .is-graphic .ensures) ∙ c .if3 .taken;
+      macros = at-test .before .if1 .left;
+    }
 
 returns-4 : tie.Need-returns-4
 returns-4 c =

@@ -1,27 +1,16 @@
-use Prim.Native.Nat.{ℕ, _≤_}
-use mathlib.Core.Path.{_≡_, sym, ap, _∙_, subst}
+-- `decode_checked`: all steps, the release of the marks, and the answer.
+use Prim.Native.Nat.{ℕ}
+use mathlib.Core.Path.{sym, ap, _∙_, subst}
 use native.Mathlib.Omega.{arith}
-use lib.ListN.{length, replicate}
+use lib.ListN.{length}
 use lib.Dec.{eqb}
-use mathlib.Core.Bool.{cond}
 use Rattle.questions.proofs.Refusals.{passed}
-use Rattle.decode_output.specs.Contracts as output
-use Rattle.reading.specs.Macros.{limit}
 use Rattle.decode_state.specs.declared.Decoder.{Decoder}
-use Rattle.decode_state.specs.Contracts.{whole}
-use Rattle.decode_bodies.specs.Contracts.{Inside, Ready, Grown}
-use Rattle.decode_outer.proofs.Defining.{inside-start}
-use Rattle.decode.proofs.Calls.{startCore, ready-start, room-end, checked}
+use Rattle.decode_outer.specs.Contracts.{Outside}
+use Rattle.decode.proofs.Calls.{startOf, outside-start, room-end, checked}
 use borrow.Author.Needs.{needs}
 use Rattle.decode.proofs.call.decode_checked.Statement.{statement}
 use Rattle.decode.proofs.call.decode_checked.Tie as tie
-use Rattle.decode.proofs.call.decode_checked.Reads as reads
-use Rattle.decode.proofs.call.decode_checked.Lts as lts
-use Rattle.decode.proofs.call.finish.Reads as finish-reads
-use Rattle.decode.proofs.call.initial_g3.Reads as initial-g3-reads
-use Rattle.decode.proofs.call.start.Reads as start-reads
-use Rattle.decode_outer.proofs.top.Reads as top-reads
-use Rattle.decode_output.proofs.flush_dangling.Reads as flush-dangling-reads
 
 initial-g3-requires : tie.Need-initial-g3-requires
 initial-g3-requires c κs = search needs
@@ -31,26 +20,27 @@ start-requires c κs = search needs
 
 top-requires : tie.Need-top-requires
 top-requires c κs =
-    let a = c .before .before .before .before .before .before .before .before .args in
-    let p : length (a .input .now) ≤ 65535 = passed _ _ _ _ _ (c .before .before .before .before .before .before .before .before .pre) .within in
-    let e = c .before .before .start .ensures in
-    (p, (subst (λ (z : Decoder). Inside (a .input .now) (z .starts) (z .lens)) (sym e) (inside-start (a .input .now)), subst (λ (z : Decoder). Ready (limit (a .input .now)) (length (a .input .now)) (z .core)) (sym e) (ready-start (a .input .now) _ _ p)))
+    let at-start = c .before .before in
+    let entry = at-start .before .before .before .before .before .before in
+    let a = entry .args in
+    let short = passed _ _ _ _ _ (entry .pre) .within in
+    subst (λ (z : Decoder). Outside (a .input .now) (length (a .input .now)) z) (sym (at-start .start .ensures)) (outside-start (a .input .now) _ _ short)
 
 flush-dangling-requires : tie.Need-flush-dangling-requires
 flush-dangling-requires c κs =
-    let a = c .before .before .before .before .before .before .before .before .before .before .before .before .before .before .before .before .args in
-    let p : length (a .input .now) ≤ 65535 = passed _ _ _ _ _ (c .before .before .before .before .before .before .before .before .before .before .before .before .before .before .before .before .pre) .within in
-    let e = c .before .before .before .before .before .before .before .before .before .before .start .ensures in
-    let w : Grown (limit (a .input .now)) (length (a .input .now)) (startCore (c .before .before .before .before .before .before .before .before .before .before .before .initial-g3 .result) (eqb (a .width) 1)) (c .before .before .before .before .before .before .before .top .result .core) = subst (λ (z : Decoder). Grown (limit (a .input .now)) (length (a .input .now)) (z .core) (c .before .before .before .before .before .before .before .top .result .core)) e (c .before .before .before .before .before .before .before .top .ensures .grown) in
-    room-end (a .input .now) _ _ p w
+    let at-top = c .before .before .before .before .before .before .before in
+    let at-start = at-top .before .before .before in
+    let entry = at-start .before .before .before .before .before .before in
+    room-end _ _ (passed _ _ _ _ _ (entry .pre) .within) (at-start .start .ensures) (at-top .top .ensures)
 
 finish-requires : tie.Need-finish-requires
 finish-requires c κs =
-    let a = c .before .before .before .before .before .before .before .before .before .before .before .before .before .before .before .before .before .before .before .before .before .args in
-    let p : length (a .input .now) ≤ 65535 = passed _ _ _ _ _ (c .before .before .before .before .before .before .before .before .before .before .before .before .before .before .before .before .before .before .before .before .before .pre) .within in
-    let e = c .before .before .before .before .before .before .before .before .before .before .before .before .before .before .before .start .ensures in
-    let w : Grown (limit (a .input .now)) (length (a .input .now)) (startCore (c .before .before .before .before .before .before .before .before .before .before .before .before .before .before .before .before .initial-g3 .result) (eqb (a .width) 1)) (c .before .before .before .before .before .before .before .before .before .before .before .before .top .result .core) = subst (λ (z : Decoder). Grown (limit (a .input .now)) (length (a .input .now)) (z .core) (c .before .before .before .before .before .before .before .before .before .before .before .before .top .result .core)) e (c .before .before .before .before .before .before .before .before .before .before .before .before .top .ensures .grown) in
-    omega (arith, c .before .before .before .before .flush-dangling .ensures (a .text .now) .grew .issues, room-end (a .input .now) _ _ p w .issues)
+    let at-flush = c .before .before .before .before in
+    let at-top = at-flush .before .before .before .before .before .before .before .before in
+    let at-start = at-top .before .before .before in
+    let entry = at-start .before .before .before .before .before .before in
+    let room = room-end _ _ (passed _ _ _ _ _ (entry .pre) .within) (at-start .start .ensures) (at-top .top .ensures) in
+    omega (arith, at-flush .flush-dangling .ensures (entry .args .text .now) .grew .issues, room .issues)
 
 same-length : tie.Need-same-length
 same-length c = search needs
@@ -60,9 +50,14 @@ same-length-2 c = search needs
 
 returns : tie.Need-returns
 returns c =
-    let a = c .before .before .before .before .before .before .before .before .before .before .before .before .before .before .before .before .before .before .before .before .before .before .before .before .before .before .args in
-    let e = c .before .before .before .before .before .before .before .before .before .before .before .before .before .before .before .before .before .before .before .before .start .ensures ∙ ap (λ (n : ℕ). whole (startCore n (eqb (a .width) 1)) (replicate 128 0) (replicate 128 0)) (c .before .before .before .before .before .before .before .before .before .before .before .before .before .before .before .before .before .before .before .before .before .initial-g3 .ensures) in
-    checked _ _ _ _ _ _ _ _ _ _ _ _ _ _ _ (c .before .before .before .before .before .before .before .before .before .before .before .before .before .before .before .before .before .before .before .before .before .before .before .before .before .before .pre) e (c .before .before .before .before .before .before .before .before .before .before .before .before .before .before .before .before .before .top .ensures) (c .before .before .before .before .before .before .before .before .before .flush-dangling .ensures _) (c .before .before .before .before .finish .ensures)
+    let at-finish = c .before .before .before .before in
+    let at-flush = at-finish .before .before .before .before .before in
+    let at-top = at-flush .before .before .before .before .before .before .before .before in
+    let at-start = at-top .before .before .before in
+    let at-g3 = at-start .before in
+    let entry = at-g3 .before .before .before .before .before in
+    let start = at-start .start .ensures ∙ ap (λ (n : ℕ). startOf n (eqb (entry .args .width) 1)) (at-g3 .initial-g3 .ensures) in
+    checked _ _ _ _ _ _ _ _ _ _ _ _ _ _ _ (entry .pre) start (at-top .top .ensures) (at-flush .flush-dangling .ensures _) (at-finish .finish .ensures)
 
 pub decode-checked-spec : {M : Type 1} → statement M
 decode-checked-spec =

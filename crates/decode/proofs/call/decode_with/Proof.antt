@@ -1,14 +1,10 @@
+-- `decode_with`: a question that fails refuses; else the decoding answers.
 use mathlib.Core.Path.{refl, sym}
 use native.Mathlib.Omega.{arith}
 use Rattle.decode.proofs.Calls.{refused}
 use borrow.Author.Needs.{needs}
 use Rattle.decode.proofs.call.decode_with.Statement.{statement}
 use Rattle.decode.proofs.call.decode_with.Tie as tie
-use Rattle.decode.proofs.call.decode_with.Reads as reads
-use Rattle.decode.proofs.call.decode_with.Lts as lts
-use Rattle.decode.proofs.call.decode_checked.Reads as decode-checked-reads
-use Rattle.decode.proofs.call.refuse.Reads as refuse-reads
-use Rattle.questions.proofs.first.Reads as first-reads
 
 first-requires : tie.Need-first-requires
 first-requires c κs = search needs
@@ -23,7 +19,12 @@ same-length-2 : tie.Need-same-length-2
 same-length-2 c = search needs
 
 returns : tie.Need-returns
-returns c = refused _ _ _ (c .before .before .before .before .before .before .before .before .before .before .before .before .before .args .text .now) (c .before .before .before .before .before .before .before .before .before .before .before .before .before .args .issues .now) _ _ (sym (c .before .before .before .before .before .before .before .before .first .ensures)) (c .before .before .before .before .before .before .before .if1 .taken) refl refl (c .before .before .before .before .refuse .ensures)
+returns c =
+    let at-refuse = c .before .before .before .before in
+    let at-test = at-refuse .before .before .before in
+    let at-first = at-test .before in
+    let a = at-first .before .before .before .before .before .args in
+    refused _ _ _ (a .text .now) (a .issues .now) _ _ (sym (at-first .first .ensures)) (at-test .if1 .taken) refl refl (at-refuse .refuse .ensures)
 
 decode-checked-requires : tie.Need-decode-checked-requires
 decode-checked-requires c κs = search needs

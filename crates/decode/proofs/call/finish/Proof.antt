@@ -1,13 +1,9 @@
+-- `finish`: 8, 9, or the counts and zeros behind the result.
 use native.Mathlib.Omega.{arith}
 use Rattle.decode.proofs.Calls.{finish-8, finish-9, finish-0}
 use borrow.Author.Needs.{needs}
 use Rattle.decode.proofs.call.finish.Statement.{statement}
 use Rattle.decode.proofs.call.finish.Tie as tie
-use Rattle.decode.proofs.call.finish.Reads as reads
-use Rattle.decode.proofs.call.finish.Lts as lts
-use Rattle.decode.proofs.call.refuse.Reads as refuse-reads
-use Rattle.questions.proofs.clear.Reads as clear-reads
-use Rattle.questions.proofs.clear32.Reads as clear32-reads
 
 refuse-requires : tie.Need-refuse-requires
 refuse-requires c κs = search needs
@@ -19,7 +15,10 @@ same-length-2 : tie.Need-same-length-2
 same-length-2 c = search needs
 
 returns : tie.Need-returns
-returns c = λ t₀ i₀ o m h. finish-8 o _ t₀ i₀ _ _ _ m h _ _ _ (c .before .before .before .before .before .before .before .if1 .taken) (c .before .before .before .before .refuse .ensures)
+returns c =
+    let at-refuse = c .before .before .before .before in
+    let at-text = at-refuse .before .before .before in
+    λ t₀ i₀ o m h. finish-8 o _ t₀ i₀ _ _ _ m h _ _ _ (at-text .if1 .taken) (at-refuse .refuse .ensures)
 
 mul-if2 : tie.Need-mul-if2
 mul-if2 c = search needs
@@ -34,7 +33,11 @@ same-length-4 : tie.Need-same-length-4
 same-length-4 c = search needs
 
 returns-2 : tie.Need-returns-2
-returns-2 c = λ t₀ i₀ o m h. finish-9 o _ t₀ i₀ _ _ _ m h _ _ _ (c .before .before .before .before .before .before .before .before .if1 .left) (c .before .before .before .before .before .before .before .if2 .taken) (c .before .before .before .before .refuse2 .ensures)
+returns-2 c =
+    let at-refuse = c .before .before .before .before in
+    let at-issues = at-refuse .before .before .before in
+    let at-text = at-issues .before in
+    λ t₀ i₀ o m h. finish-9 o _ t₀ i₀ _ _ _ m h _ _ _ (at-text .if1 .left) (at-issues .if2 .taken) (at-refuse .refuse2 .ensures)
 
 clear-requires : tie.Need-clear-requires
 clear-requires c κs = search needs
@@ -52,7 +55,12 @@ same-length-6 : tie.Need-same-length-6
 same-length-6 c = search needs
 
 returns-3 : tie.Need-returns-3
-returns-3 c = λ t₀ i₀ o m h. finish-0 o _ t₀ i₀ _ _ _ m h _ _ (c .before .before .before .before .before .before .before .before .before .if1 .left) (c .before .before .before .before .before .before .before .before .if2 .left) (c .before .before .before .before .before .before .clear .ensures) (c .before .before .clear32 .ensures)
+returns-3 c =
+    let at-clear32 = c .before .before in
+    let at-clear = at-clear32 .before .before .before .before in
+    let at-issues = at-clear .before .before in
+    let at-text = at-issues .before in
+    λ t₀ i₀ o m h. finish-0 o _ t₀ i₀ _ _ _ m h _ _ (at-text .if1 .left) (at-issues .if2 .left) (at-clear .clear .ensures) (at-clear32 .clear32 .ensures)
 
 pub finish-spec : {M : Type 1} → statement M
 finish-spec =

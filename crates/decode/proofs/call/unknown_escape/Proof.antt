@@ -1,3 +1,4 @@
+-- `unknown_escape`: the part, or the empty one at the beginning.
 use Prim.Native.Nat.{_+_, _-_, _≤_, _<_}
 use mathlib.Core.Path.{_≡_}
 use native.Mathlib.Omega.{arith}
@@ -7,8 +8,6 @@ use Rattle.reading.specs.Call.{escapePart}
 use borrow.Author.Needs.{needs}
 use Rattle.decode.proofs.call.unknown_escape.Statement.{statement}
 use Rattle.decode.proofs.call.unknown_escape.Tie as tie
-use Rattle.decode.proofs.call.unknown_escape.Reads as reads
-use Rattle.decode.proofs.call.unknown_escape.Lts as lts
 
 sub-result : tie.Need-sub-result
 sub-result c = search needs
@@ -38,9 +37,11 @@ part-result-end-2 c = search needs
 returns-2 : tie.Need-returns-2
 unfolding escapePart
 returns-2 c =
-    let a = c .before .before .before .args in
-    let p : length (drop (a .start) (a .input .now)) < a .len = omega (arith, length-drop (a .start) (a .input .now), c .before .if2 .taken) in
-    rw (le-leb _ _ (c .before .before .if1 .left), lt-leb _ _ p)
+    let at-len = c .before in
+    let at-start = at-len .before in
+    let a = at-start .before .args in
+    let p : length (drop (a .start) (a .input .now)) < a .len = omega (arith, length-drop (a .start) (a .input .now), at-len .if2 .taken) in
+    rw (le-leb _ _ (at-start .if1 .left), lt-leb _ _ p)
 
 add-end : tie.Need-add-end
 add-end c = search needs
@@ -57,10 +58,13 @@ part-result-end-3 c = search needs
 returns-3 : tie.Need-returns-3
 unfolding escapePart
 returns-3 c =
-    let a = c .before .before .before .args in
-    let p : a .len ≤ length (drop (a .start) (a .input .now)) = omega (arith, length-drop (a .start) (a .input .now), c .before .if2 .left, c .before .before .if1 .left) in
+    let at-len = c .before in
+    let at-start = at-len .before in
+    let a = at-start .before .args in
+    let rest = length-drop (a .start) (a .input .now) in
+    let p : a .len ≤ length (drop (a .start) (a .input .now)) = omega (arith, rest, at-len .if2 .left, at-start .if1 .left) in
     let e : a .start + a .len - a .start ≡ a .len = omega arith in
-    rw (le-leb _ _ (c .before .before .if1 .left), le-leb _ _ p, e)
+    rw (le-leb _ _ (at-start .if1 .left), le-leb _ _ p, e)
 
 pub unknown-escape-spec : {M : Type 1} → statement M
 unknown-escape-spec =

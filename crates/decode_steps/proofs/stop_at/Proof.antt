@@ -1,12 +1,12 @@
--- `plain::stop` meets its contract, by the byte. Assumes nothing.
+-- `stop_at` meets its contract, by the byte.
 use mathlib.Core.Path.{refl}
 use mathlib.Core.Logic.{inl, inr}
 use native.Mathlib.Omega.{arith}
 use borrow.Author.Needs.{needs}
 use Rattle.decode_steps.proofs.Branches.{gl-in, gl-below, gl-above, gr-in, gr-below, gr-above}
 use Rattle.decode_steps.proofs.Stops.{passes-other}
-use Rattle.decode_steps.proofs.stop.Statement.{statement}
-use Rattle.decode_steps.proofs.stop.Tie as tie
+use Rattle.decode_steps.proofs.stop_at.Statement.{statement}
+use Rattle.decode_steps.proofs.stop_at.Tie as tie
 
 shared-slice-read-x : tie.Need-shared-slice-read-x
 shared-slice-read-x c = search needs
@@ -53,8 +53,8 @@ returns-7 c = passes-other (c .before .before .before .before .before .before .a
 returns-8 : tie.Need-returns-8
 returns-8 c = passes-other (c .before .before .before .before .before .before .before .args .b .now) (c .before .before .before .before .before .before .before .args .i) (c .before .before .before .before .before .before .before .args .s) (gl-above _ (omega arith)) (gr-above _ (omega arith)) (c .before .before .before .before .match .rest .0 .0 .1) (c .before .before .before .before .match .rest .0 .1) (c .before .before .before .before .match .rest .1)
 
-pub stop-spec : {M : Type 1} → statement M
-stop-spec =
+pub stop-at-spec : {M : Type 1} → statement M
+stop-at-spec =
     tie.close
     (tie.spec
     shared-slice-read-x

@@ -1,0 +1,113 @@
+-- The loops of `run` and of the steps outside every body: the steps from the start, and what each turn adds.
+use Prim.Native.Nat.{ℕ, zero, suc, _+_, _-_, _≤_, _<_}
+use mathlib.Core.Path.{_≡_, refl, sym, ap, _∙_, subst}
+use mathlib.Core.List.{List}
+use native.Mathlib.Nat.{zero-add}
+use native.Mathlib.Numerals.{add-one}
+use native.Mathlib.Omega.{arith}
+use lib.ListN.{length, drop, getD}
+use Rattle.reading.specs.State.{Given, State, Step}
+use Rattle.reading.specs.Macros.{limit}
+use Rattle.reading.specs.Steps.{step, steps, run, offset}
+use Rattle.decode_state.specs.declared.Core.{Core}
+use Rattle.decode_state.specs.declared.Decoder.{Decoder}
+use Rattle.decode_state.specs.Contracts.{whole, Holds, Goes, Stretch}
+use Rattle.decode_state.proofs.Steps.{goes-none, goes-on, goes-end, steps-one}
+use Rattle.decode_bodies.specs.declared.Place.{Place}
+use Rattle.decode_bodies.specs.Contracts.{below, stepIn, Ready, Grown, Ran, RanStep}
+use Rattle.decode_bodies.proofs.Room.{grown-same, kept-grown, grown-on, grown-more}
+use Rattle.decode_bodies.proofs.Steps.{step-as}
+
+pub below-run : (g : Given) (left : ℕ) → (left ≡ 0 → ⊥) → below g left ≡ run g (left - 1)
+unfolding below
+below-run g zero h = absurd (h refl)
+below-run g (suc left) h = let e : left ≡ suc left - 1 = omega arith in ap (run g) e
+
+run-steps : (g : Given) (left : ℕ) (b : List ℕ) (base origin : ℕ) (s : State) → run g left b base origin s ≡ steps g left (below g left) base origin b 0 0 s
+unfolding below run
+run-steps g zero b base origin s = refl
+run-steps g (suc left) b base origin s = refl
+
+-- the step at the byte j of b, as `steps` takes it
+abbrev pub stepFrom : ℕ → ℕ → ℕ → List ℕ → ℕ → Given → State → Step
+stepFrom left base origin b j g = step g left (below g left) (getD b j 0) (drop (j + 1) b) (base + j) (offset origin j)
+
+-- from the start of b to its byte j₁
+pub record Along (cells input : List ℕ) (left base origin : ℕ) (b : List ℕ) (d : Decoder) (t i : List ℕ) (j₁ : ℕ) (d₁ : Decoder) (t₁ i₁ : List ℕ) : Type 0 where
+  pub within : j₁ ≤ length b
+  pub grown : Grown (limit input) j₁ (d .core) (d₁ .core)
+  pub goes : (g : Given) → g .cells ≡ cells → g .input ≡ input → Goes g left (below g left) base origin b 0 d t i j₁ d₁ t₁ i₁
+  pub as-long : length t₁ ≡ length t
+  pub as-many : length i₁ ≡ length i
+
+module _ {cells input : List ℕ} {left base origin : ℕ} {b : List ℕ} {d : Decoder} {t i : List ℕ} where
+  pub along-start : {e : ℕ} → Ready (limit input) e (d .core) → Along cells input left base origin b d t i 0 d t i
+  along-start h = record {
+    within = omega arith;
+    grown = grown-same h 0;
+    goes = λ g x y. goes-none g left (below g left) base origin b 0 d t i;
+    as-long = refl;
+    as-many = refl;
+  }
+
+  module _ {j₁ : ℕ} {d₁ : Decoder} {t₁ i₁ : List ℕ} where
+    -- plain steps
+    pub along-stretch : {j₂ : ℕ} {c₂ : Core} {t₂ i₂ : List ℕ} → Along cells input left base origin b d t i j₁ d₁ t₁ i₁
+        → Stretch cells base origin b j₁ (d₁ .core) t₁ i₁ j₂ c₂ t₂ i₂ → length t₂ ≡ length t₁ → length i₂ ≡ length i₁
+        → Along cells input left base origin b d t i j₂ (whole c₂ (d₁ .starts) (d₁ .lens)) t₂ i₂
+    along-stretch {j₂ = j₂} {c₂ = c₂} {t₂ = t₂} {i₂ = i₂} w v l m =
+        let e : j₁ + (j₂ - j₁) ≤ j₂ = omega (arith, v .past) in
+        record {
+          within = v .within;
+          grown = grown-more j₂ e (grown-on (w .grown) (kept-grown (w .grown .within) (v .kept)));
+          goes = λ g x y.
+              goes-on g left (below g left) base origin b 0 d t i j₁ d₁ t₁ i₁ j₂ (whole c₂ (d₁ .starts) (d₁ .lens)) t₂ i₂
+              (w .goes g x y) (v .goes g x left (below g left) (d₁ .starts) (d₁ .lens));
+          as-long = l ∙ w .as-long;
+          as-many = m ∙ w .as-many;
+        }
+
+    -- the step at which they stopped
+    pub along-step : {u : ℕ} {d₂ : Decoder} {t₂ i₂ : List ℕ} → Along cells input left base origin b d t i j₁ d₁ t₁ i₁ → j₁ < length b
+        → RanStep cells input b j₁ (stepFrom left base origin b j₁) d₁ t₁ i₁ u d₂ t₂ i₂ → length t₂ ≡ length t₁ → length i₂ ≡ length i₁
+        → Along cells input left base origin b d t i (j₁ + u) d₂ t₂ i₂
+    along-step {u = u} {d₂ = d₂} {t₂ = t₂} {i₂ = i₂} w h v l m = record {
+      within = v .most;
+      grown = grown-more (j₁ + u) (omega (arith, v .some)) (grown-on (w .grown) (v .grown));
+      goes = λ g x y.
+          goes-on g left (below g left) base origin b 0 d t i j₁ d₁ t₁ i₁ (j₁ + u) d₂ t₂ i₂ (w .goes g x y)
+          (λ t₀ i₀ s k. (
+            stepFrom left base origin b j₁ g s .to,
+            (v .does g x y t₀ i₀ s k, sym (steps-one g left (below g left) base origin b j₁ s u h (v .some) (v .used g x y t₀ i₀ s k))),
+          ));
+      as-long = l ∙ w .as-long;
+      as-many = m ∙ w .as-many;
+    }
+
+    pub along-end : Along cells input left base origin b d t i j₁ d₁ t₁ i₁ → length b ≤ j₁ → Ran cells input (length b) (λ g. run g left b base origin) d t i d₁ t₁ i₁
+    along-end w h = record {
+      does = λ g x y t₀ i₀ s k.
+          subst (λ (z : State). Holds g t₀ i₀ z d₁ t₁ i₁) (sym (run-steps g left b base origin s))
+          (goes-end g left (below g left) base origin b 0 d t i j₁ d₁ t₁ i₁ h (w .goes g x y) t₀ i₀ s k);
+      grown = grown-more (length b) (w .within) (w .grown);
+    }
+
+-- ---- the offset
+
+-- inside a body it is the outermost caller's
+inside-offset : (at j : ℕ) → offset (at + 1) j ≡ at
+unfolding offset
+inside-offset at j = rw (add-one at)
+
+pub inside-step : {cells input b : List ℕ} {d : Decoder} {t i : List ℕ} {u : ℕ} {d′ : Decoder} {t′ i′ : List ℕ} (p : Place) (j : ℕ)
+    → RanStep cells input b j (stepIn b j p) d t i u d′ t′ i′ → RanStep cells input b j (stepFrom (p .left) (p .base) (p .at + 1) b j) d t i u d′ t′ i′
+inside-step {b = b} p j v =
+    step-as (λ g s h. ap (λ (at : ℕ). step g (p .left) (below g (p .left)) (getD b j 0) (drop (j + 1) b) (p .base + j) at s) (inside-offset (p .at) j)) v
+
+-- outside every body it is the byte's own
+pub outside-step : {cells input : List ℕ} {d : Decoder} {t i : List ℕ} {u : ℕ} {d′ : Decoder} {t′ i′ : List ℕ} (left j : ℕ)
+    → RanStep cells input input j (λ g. step g left (below g left) (getD input j 0) (drop (j + 1) input) j j) d t i u d′ t′ i′
+    → RanStep cells input input j (stepFrom left 0 0 input j) d t i u d′ t′ i′
+unfolding offset
+outside-step {input = input} left j v =
+    step-as (λ g s h. ap (λ (place : ℕ). step g left (below g left) (getD input j 0) (drop (j + 1) input) place j s) (zero-add j)) v
