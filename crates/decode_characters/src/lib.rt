@@ -161,8 +161,7 @@ fn char1(set: u8, c: u8, at: u32, s: Core, text: &mut [u8], issues: &mut [u32]) 
             issues,
         ),
         _ => {
-            let narrow = decode_codes::is_narrow(s.annex, s.narrow);
-            let x = decode_codes::letter_at(narrow, set, c);
+            let x = decode_codes::letter_at(decode_codes::is_narrow(s.annex, s.narrow), set, c);
             emit_or(
                 x,
                 IssueKind::UndefinedCode {
