@@ -51,8 +51,7 @@ returns-2 c =
     let first = second .before .before .before in
     let pre = first .before .before .before .pre in
     λ f.
-    let w = c .spacing .ensures _ (c .before .cell-at .ensures) f in
-    (
+    let w = c .spacing .ensures _ (c .before .cell-at .ensures) f in (
       first .if1 .left,
       record {
         two = omega (arith, first .if1 .left, pre .1);
