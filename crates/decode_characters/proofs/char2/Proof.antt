@@ -33,7 +33,9 @@ same-length-2 c = search needs
 
 returns : tie.Need-returns
 returns c =
-    let at-issue = c .before .before .before .before .before .before .before in
+    let at-cell-or = c .before .before .before .before in
+    let at-before = at-cell-or .before .before in
+    let at-issue = at-before .before in
     let entry = at-issue .before .before .before .before .before .before .before in
     let a = entry .args in
     let code = a .c in
@@ -42,7 +44,7 @@ returns c =
     did-as
     (λ g q starts lens t₀ i₀ s k.
     ap (λ (kind : IssueKind). cellOr kind x (a .at) s) (at-issue .issue-of .ensures) ∙ char2-as (code .set) (code .a) (code .b) (a .at) s g q)
-    (c .before .before .before .before .cell-or .ensures (a .cells .now) x found)
+    (at-cell-or .cell-or .ensures (a .cells .now) x found)
 
 pub char2-spec : {M : Type 1} → statement M
 char2-spec =

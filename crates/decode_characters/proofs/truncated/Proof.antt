@@ -16,7 +16,8 @@ same-length c = search needs
 returns : tie.Need-returns
 unfolding truncated
 returns c =
-    let a = c .before .before .before .before .before .args in
+    let entry = c .before .before .before .before .before in
+    let a = entry .args in
     let report = c .before .before .report in
     λ cells b t i h. took-did (λ g. truncated 1 (a .at)) 1 (omega arith) (omega arith) (λ g x. refl) (report .ensures cells t)
 

@@ -1,5 +1,5 @@
 -- `letters_from` meets its contract. The invariant: what is spelt so far. Assumes nothing.
-use Prim.Native.Nat.{_+_, _-_, _%_, _<_}
+use Prim.Native.Nat.{_-_, _%_, _<_}
 use mathlib.Core.Path.{_≡_, sym, _∙_}
 use native.Mathlib.Omega.{arith}
 use lib.ListN.{getD}
