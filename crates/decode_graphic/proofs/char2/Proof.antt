@@ -6,9 +6,9 @@ use Rattle.issues.specs.declared.IssueKind.{IssueKind}
 use Rattle.reading.specs.Characters.{cellOr}
 use Rattle.decode_codes.specs.Codes.{cellAt}
 use Rattle.decode_codes.proofs.Laws.{char2-as}
 use Rattle.decode_characters.proofs.Did.{did-as}
-use Rattle.decode_characters.proofs.char2.Statement.{statement}
-use Rattle.decode_characters.proofs.char2.Tie as tie
+use Rattle.decode_graphic.proofs.char2.Statement.{statement}
+use Rattle.decode_graphic.proofs.char2.Tie as tie
 
 sub-cell-at : tie.Need-sub-cell-at
 sub-cell-at c = search needs

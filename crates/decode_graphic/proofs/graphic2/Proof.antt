@@ -4,11 +4,11 @@ use mathlib.Core.Path.{sym, _∙_}
 use native.Mathlib.Omega.{arith}
 use borrow.Author.Needs.{needs}
 use lib.ListN.{getD}
 use Rattle.decode_characters.proofs.Did.{took-as, took-did}
 use Rattle.decode_codes.proofs.Laws.{and-left, in-area, graphic2-pair}
-use Rattle.decode_characters.proofs.Laws.{graphic2-end, graphic2-other}
-use Rattle.decode_characters.proofs.graphic2.Tie as tie
-use Rattle.decode_characters.proofs.graphic2.Statement.{statement}
+use Rattle.decode_graphic.proofs.Laws.{graphic2-end, graphic2-other}
+use Rattle.decode_graphic.proofs.graphic2.Tie as tie
+use Rattle.decode_graphic.proofs.graphic2.Statement.{statement}
 
 add-if1 : tie.Need-add-if1
 add-if1 c = search needs

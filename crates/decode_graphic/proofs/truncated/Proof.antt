@@ -3,9 +3,9 @@ use mathlib.Core.Path.{refl}
 use native.Mathlib.Omega.{arith}
 use borrow.Author.Needs.{needs}
 use Rattle.reading.specs.State.{truncated}
 use Rattle.decode_characters.proofs.Did.{took-did}
-use Rattle.decode_characters.proofs.truncated.Tie as tie
-use Rattle.decode_characters.proofs.truncated.Statement.{statement}
+use Rattle.decode_graphic.proofs.truncated.Tie as tie
+use Rattle.decode_graphic.proofs.truncated.Statement.{statement}
 
 report-requires : tie.Need-report-requires
 report-requires c κs = search needs

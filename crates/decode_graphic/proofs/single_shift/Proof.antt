@@ -6,10 +6,10 @@ use native.Mathlib.Omega.{arith}
 use borrow.Author.Needs.{needs}
 use lib.ListN.{length, drop, getD}
 use Rattle.reading.specs.Characters.{graphicOf}
 use Rattle.decode_characters.proofs.Did.{took-as, took-did, took-shifted}
-use Rattle.decode_characters.proofs.Laws.{shift-end, shift-lone, shift-character}
-use Rattle.decode_characters.proofs.single_shift.Tie as tie
-use Rattle.decode_characters.proofs.single_shift.Statement.{statement}
+use Rattle.decode_graphic.proofs.Laws.{shift-end, shift-lone, shift-character}
+use Rattle.decode_graphic.proofs.single_shift.Tie as tie
+use Rattle.decode_graphic.proofs.single_shift.Statement.{statement}
 
 add-if1 : tie.Need-add-if1
 add-if1 c = search needs

@@ -4,11 +4,11 @@ use mathlib.Core.Logic.{⊎-elim}
 use mathlib.Core.Path.{_∙_}
 use native.Mathlib.Omega.{arith}
 use borrow.Author.Needs.{needs}
 use Rattle.decode_characters.proofs.Did.{did-as}
 use Rattle.decode_codes.proofs.Laws.{char1-letter}
-use Rattle.decode_characters.proofs.Laws.{char1-mosaic, char1-drcs, letter-narrows}
-use Rattle.decode_characters.proofs.char1.Tie as tie
-use Rattle.decode_characters.proofs.char1.Statement.{statement}
+use Rattle.decode_graphic.proofs.Laws.{char1-mosaic, char1-drcs, letter-narrows}
+use Rattle.decode_graphic.proofs.char1.Tie as tie
+use Rattle.decode_graphic.proofs.char1.Statement.{statement}
 
 report-mosaic-requires : tie.Need-report-mosaic-requires
 report-mosaic-requires c κs = search needs

@@ -2,10 +2,10 @@
 use mathlib.Core.Path.{sym, _∙_}
 use native.Mathlib.Omega.{arith}
 use borrow.Author.Needs.{needs}
 use Rattle.decode_characters.proofs.Did.{took-as, took-did}
 use Rattle.decode_codes.proofs.Laws.{graphic-two, graphic-one}
-use Rattle.decode_characters.proofs.graphic.Tie as tie
-use Rattle.decode_characters.proofs.graphic.Statement.{statement}
+use Rattle.decode_graphic.proofs.graphic.Tie as tie
+use Rattle.decode_graphic.proofs.graphic.Statement.{statement}
 
 two-bytes-requires : tie.Need-two-bytes-requires
 two-bytes-requires c κs = search needs
