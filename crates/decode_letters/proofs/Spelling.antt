@@ -170,6 +170,10 @@ put-one t n c h = rw (row1 c h)
 
 -- ---- a character at a place
 
+pub kanji-two : eqb (bytesPerChar 0) 2 ≡ true
+unfolding bytesPerChar
+kanji-two = refl
+
 module _ (cells b : List ℕ) (j : ℕ) (v : Invoked) {z : ℕ} (byte : getD b j 0 < 256) (e : z ≡ cond (ltb (getD b j 0) 128) (v .gl) (v .gr)) where
   set-seen : (g : Given) (s : State) → Sees v g s → z ≡ setIn s (getD b j 0)
   set-seen g s h = e ∙ (λ k. cond (ltb (getD b j 0) 128) (h .gl k) (h .gr k))

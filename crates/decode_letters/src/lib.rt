@@ -28,13 +28,13 @@ pub struct Taken {
 }
 
 /// The set in the area of the byte `x`.
-pub fn set_of(x: u8, sets: Invoked) -> u8
-    ensures { λ r. ⌜ r ≡ cond (ltb x 128) (sets .gl) (sets .gr) ⌝ }
+pub fn set_of(x: u8, gl: u8, gr: u8) -> u8
+    ensures { λ r. ⌜ r ≡ cond (ltb x 128) gl gr ⌝ }
 {
     if x < 128 {
-        return sets.gl;
+        return gl;
     }
-    sets.gr
+    gr
 }
 
 /// The character of the Kanji set at the bytes `i` and `i + 1`, of rows 3 to 84, which the lent table alone decides, and
@@ -133,7 +133,7 @@ fn graphic(cells: &[u16], b: &[u8], i: usize, to: usize, sets: Invoked) -> Taken
     ensures { λ r. ⌜ ((r .scalar ≡ 0 → ⊥) → Reads (now (cells .entry)) (now (b .entry)) i to sets (r .used) (r .scalar)) ⌝ }
 {
     let x = b[i];
-    let set = set_of(x, sets);
+    let set = set_of(x, sets.gl, sets.gr);
     if decode_codes::two_bytes(set) {
         return Taken {
             scalar: pair_at(cells, b, i, to, set),

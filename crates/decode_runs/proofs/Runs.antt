@@ -1,7 +1,7 @@
 -- Runs of characters and controls, one after the other. Assumes nothing.
 use Prim.Native.Nat.{ℕ, _+_, _-_, _*_, _≤_}
 use mathlib.Core.Path.{_≡_, refl, sym, ap, subst, _∙_}
-use mathlib.Core.Bool.{Bool, _||_}
+use mathlib.Core.Bool.{Bool, true, false, _||_}
 use lib.Dec.{eqb}
 use mathlib.Core.List.{List, [], _∷_}
 use native.Mathlib.Omega.{arith}
@@ -229,6 +229,9 @@ stretch-runs {cells} {b} {j} {l} {n} {c} {t} {j₁} {l₁} {n₁} {t₁} i base 
     })
 
 -- ---- the settings, from the struct and back
+
+pub not-true : {A : Type 0} → false ≡ true → A
+not-true e = let z : _≡_ {A = ℕ} 0 1 = cc in absurd (omega arith)
 
 four-of : (l : List ℕ) → length l ≡ 4 → l ≡ getD l 0 0 ∷ getD l 1 0 ∷ getD l 2 0 ∷ getD l 3 0 ∷ []
 four-of [] q = absurd (omega arith)

@@ -36,6 +36,9 @@ fn letters_from(
     ensures run { λ r. ⌜ Letters (now (cells .entry)) (now (b .entry)) (from .at) sets (from .len) (now (text .entry)) (r .at) (r .len) (now (text .exit)) ⌝ }
     ensures room { λ r. ⌜ r .len + 3 * (to - r .at) ≤ length (now (text .exit)) ⌝ }
 {
+    let gl = sets.gl;
+    let gr = sets.gr;
+    let narrow = sets.narrow;
     let mut i = from.at;
     let mut m = from.len;
     loop {
@@ -43,7 +46,7 @@ fn letters_from(
             return Reached { at: i, len: m };
         }
         let x = b[i];
-        let set = decode_letters::set_of(x, sets);
+        let set = decode_letters::set_of(x, gl, gr);
         if set == 0 {
             let c = decode_letters::kanji_at(cells, b, i);
             if c == 0 {
@@ -54,7 +57,7 @@ fn letters_from(
             i += 2;
             continue;
         }
-        let c = decode_letters::initial_at(sets.narrow, set, x % 128);
+        let c = decode_letters::initial_at(narrow, set, x % 128);
         if c >= 0x800 {
             decode_letters::put3(text, m, c);
             m += 3;
@@ -87,6 +90,7 @@ fn other(
     ensures room { λ r. ⌜ r .len + 3 * (to - r .at) ≤ length (now (text .exit)) ⌝ }
 {
     let i = from.at;
+    let n = from.len;
     if i >= to {
         return from;
     }
@@ -95,11 +99,10 @@ fn other(
     if scalar == 0 {
         return from;
     }
-    let width = utf8::put(text, from.len, scalar);
-    Reached {
-        at: i + c.used,
-        len: from.len + width,
-    }
+    let width = utf8::put(text, n, scalar);
+    let at = i + c.used;
+    let len = n + width;
+    Reached { at, len }
 }
 
 /// How many characters fit: at most three bytes each in `room`, and no more than `left`.
@@ -131,11 +134,10 @@ fn runs_from(
     loop {
         let left = settings[GL] as usize;
         let right = settings[GR] as usize;
-        let sets = Invoked {
-            gl: settings[left],
-            gr: settings[right],
-            narrow: decode_codes::is_narrow(annex, settings[NARROW] == 1),
-        };
+        let gl = settings[left];
+        let gr = settings[right];
+        let narrow = decode_codes::is_narrow(annex, settings[NARROW] == 1);
+        let sets = Invoked { gl, gr, narrow };
         let w = letters_from(cells, b, Reached { at: i, len: m }, to, sets, text);
         let stop = w.at;
         let o = other(cells, b, w, to, sets, text);
@@ -163,7 +165,10 @@ fn may_begin(out: Out, cells: usize, text: usize) -> bool
     if cells < 8836 {
         return false;
     }
-    out.len <= text
+    if text < out.len {
+        return false;
+    }
+    true
 }
 
 /// The settings that controls change.

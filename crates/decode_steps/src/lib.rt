@@ -160,8 +160,8 @@ fn control0(
         SP => space(s, text),
         LS0 => invoke_gl(s, 0),
         LS1 => invoke_gl(s, 1),
-        SS2 => decode_characters::single_shift(cells, b, i, 2, at, s, text, issues),
-        SS3 => decode_characters::single_shift(cells, b, i, 3, at, s, text, issues),
+        SS2 => decode_graphic::single_shift(cells, b, i, 2, at, s, text, issues),
+        SS3 => decode_graphic::single_shift(cells, b, i, 3, at, s, text, issues),
         ESC => decode_controls::escape(b, i, place, at, s, issues),
         APR => newline(s, text, issues),
         _ => decode_controls::fixed(b, i, at, s, issues),
@@ -184,7 +184,7 @@ fn graphic(
     ensures { λ r. ⌜ ((left : ℕ) (R : Run) → TookOver (now (cells .entry)) (now (b .entry)) i (λ g. graphicOf g left R (getD (s .sets) e 0) (getD (now (b .entry)) i 0) (drop (i + 1) (now (b .entry))) at) s (now (text .entry)) (now (issues .entry)) r (now (text .exit)) (now (issues .exit))) ⌝ }
 {
     let sets = s.sets;
-    decode_characters::graphic(cells, b, i, sets[e], at, s, text, issues)
+    decode_graphic::graphic(cells, b, i, sets[e], at, s, text, issues)
 }
 
 /// One step that concerns no macro.

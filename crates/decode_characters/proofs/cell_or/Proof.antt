@@ -20,9 +20,12 @@ same-length c = search needs
 
 returns : tie.Need-returns
 returns c =
-    let cell = c .before .before .before .before .before .before .before .cell in
-    let is-non-spacing = c .before .before .before .before .before .is-non-spacing in
-    let if1 = c .before .before .before .before .if1 in
+    let at-if1 = c .before .before .before .before in
+    let at-is-non-spacing = at-if1 .before in
+    let at-cell = at-is-non-spacing .before .before in
+    let cell = at-cell .cell in
+    let is-non-spacing = at-is-non-spacing .is-non-spacing in
+    let if1 = at-if1 .if1 in
     let wait = c .before .before .wait in
     λ cells x e. did-as (λ g q starts lens t₀ i₀ s k. cell-mark _ _ s x _ (sym (cell .given .1) ∙ e) (sym (is-non-spacing .ensures) ∙ if1 .taken)) (wait .ensures cells _)
 
@@ -40,9 +43,12 @@ same-length-2 c = search needs
 
 returns-2 : tie.Need-returns-2
 returns-2 c =
-    let cell = c .before .before .before .before .before .before .before .cell in
-    let is-non-spacing = c .before .before .before .before .before .is-non-spacing in
-    let if1 = c .before .before .before .before .if1 in
+    let at-if1 = c .before .before .before .before in
+    let at-is-non-spacing = at-if1 .before in
+    let at-cell = at-is-non-spacing .before .before in
+    let cell = at-cell .cell in
+    let is-non-spacing = at-is-non-spacing .is-non-spacing in
+    let if1 = at-if1 .if1 in
     let show = c .before .before .show in
     λ cells x e. did-as (λ g q starts lens t₀ i₀ s k. cell-char _ _ s x _ (sym (cell .given .1) ∙ e) (sym (is-non-spacing .ensures) ∙ if1 .left)) (show .ensures cells _)
 
@@ -54,9 +60,9 @@ same-length-4 c = search needs
 
 returns-3 : tie.Need-returns-3
 returns-3 c =
-    let enum-told = c .before .before .before .before .before .before .before .enum-told in
-    let report-placeholder = c .before .before .before .before .report-placeholder in
-    λ cells x e. did-as (λ g q starts lens t₀ i₀ s k. cell-undefined _ _ s x (sym (enum-told .given .1) ∙ e)) (report-placeholder .ensures cells)
+    let at-report-placeholder = c .before .before .before .before in
+    let at-enum-told = at-report-placeholder .before .before .before in
+    λ cells x e. did-as (λ g q starts lens t₀ i₀ s k. cell-undefined _ _ s x (sym (at-enum-told .enum-told .given .1) ∙ e)) (at-report-placeholder .report-placeholder .ensures cells)
 
 pub cell-or-spec : {M : Type 1} → statement M
 cell-or-spec =

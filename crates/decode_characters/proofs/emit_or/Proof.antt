@@ -17,9 +17,9 @@ same-length-2 c = search needs
 
 returns : tie.Need-returns
 returns c =
-    let if1 = c .before .before .before .before .before .before .before .if1 in
-    let report-placeholder = c .before .before .before .before .report-placeholder in
-    λ cells. did-as (λ g e starts lens t₀ i₀ x k. emit-none _ _ x _ (if1 .taken)) (report-placeholder .ensures cells)
+    let at-report-placeholder = c .before .before .before .before in
+    let at-if1 = at-report-placeholder .before .before .before in
+    λ cells. did-as (λ g e starts lens t₀ i₀ x k. emit-none _ _ x _ (at-if1 .if1 .taken)) (at-report-placeholder .report-placeholder .ensures cells)
 
 show-requires : tie.Need-show-requires
 show-requires c κs = search needs
@@ -29,9 +29,9 @@ same-length-3 c = search needs
 
 returns-2 : tie.Need-returns-2
 returns-2 c =
-    let if1 = c .before .before .before .before .if1 in
+    let at-if1 = c .before .before .before .before in
     let show = c .before .before .show in
-    λ cells. did-as (λ g e starts lens t₀ i₀ x k. emit-some _ _ x _ (if1 .left)) (show .ensures cells _)
+    λ cells. did-as (λ g e starts lens t₀ i₀ x k. emit-some _ _ x _ (at-if1 .if1 .left)) (show .ensures cells _)
 
 pub emit-or-spec : {M : Type 1} → statement M
 emit-or-spec =

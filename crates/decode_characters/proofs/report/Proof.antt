@@ -15,7 +15,8 @@ same-length c = search needs
 returns : tie.Need-returns
 unfolding issue
 returns c =
-    let pre = c .before .before .before .before .before .before .pre in
+    let entry = c .before .before .before .before .before .before in
+    let pre = entry .pre in
     let issue = c .before .before .issue in
     λ cells t. did-writes cells (omega arith) (omega arith) (pre) (issue .ensures t)
 

@@ -16,8 +16,9 @@ same-length c = search needs
 returns : tie.Need-returns
 unfolding mosaic
 returns c =
+    let entry = c .before .before .before .before .before .before in
     let issue = c .before .before .issue in
-    let pre = c .before .before .before .before .before .before .pre in
+    let pre = entry .pre in
     λ cells t. let w = issue .ensures t in did-writes cells (omega arith) (omega arith) (pre) (wrote-then w (wrote-repeat {n = 1} {k = 0} 0 t _ (room-left (pre .room) (w .grew)) (omega arith)))
 
 pub report-mosaic-spec : {M : Type 1} → statement M

@@ -12,10 +12,11 @@ issue-requires c κs = search needs
 
 emit-requires : tie.Need-emit-requires
 emit-requires c κs =
-    let pre = c .before .before .before .before .before .before .before .before .pre in
-    let issue = c .before .before .before .issue in
-    let a = c .before .before .before .before .before .before .before .before .args in
-    room-left (pre .room) (issue .ensures (a .text .now) .grew)
+    let at-issue = c .before .before .before in
+    let entry = at-issue .before .before .before .before .before in
+    let pre = entry .pre in
+    let a = entry .args in
+    room-left (pre .room) (at-issue .issue .ensures (a .text .now) .grew)
 
 same-length : tie.Need-same-length
 same-length c = search needs
@@ -26,11 +27,12 @@ same-length-2 c = search needs
 returns : tie.Need-returns
 unfolding placeholder
 returns c =
-    let pre = c .before .before .before .before .before .before .before .before .before .before .before .pre in
-    let issue = c .before .before .before .before .before .before .issue in
-    let a = c .before .before .before .before .before .before .before .before .before .before .before .args in
+    let at-issue = c .before .before .before .before .before .before in
+    let entry = at-issue .before .before .before .before .before in
+    let pre = entry .pre in
+    let a = entry .args in
     let emit = c .before .before .emit in
-    λ cells. did-writes cells (omega arith) (omega arith) (pre) (wrote-then (issue .ensures (a .text .now)) (emit .ensures _))
+    λ cells. did-writes cells (omega arith) (omega arith) (pre) (wrote-then (at-issue .issue .ensures (a .text .now)) (emit .ensures _))
 
 pub report-placeholder-spec : {M : Type 1} → statement M
 report-placeholder-spec =

@@ -13,7 +13,8 @@ same-length c = search needs
 
 returns : tie.Need-returns
 returns c =
-    let pre = c .before .before .before .before .before .before .pre in
+    let entry = c .before .before .before .before .before .before in
+    let pre = entry .pre in
     let emit = c .before .before .emit in
     λ cells i. did-writes cells (omega arith) (omega arith) (pre) (emit .ensures i)
 

@@ -13,7 +13,8 @@ same-length c = search needs
 
 returns : tie.Need-returns
 returns c =
-    let pre = c .before .before .before .before .before .before .pre in
+    let entry = c .before .before .before .before .before .before in
+    let pre = entry .pre in
     let mark = c .before .before .mark in
     λ cells i. did-writes cells (omega arith) (omega arith) (pre) (mark .ensures i)
 

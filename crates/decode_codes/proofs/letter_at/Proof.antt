@@ -90,7 +90,10 @@ returns-7 c =
     c .scalar5 .ensures _ (c .before .jis-x0201-katakana .ensures) ∙ ap (λ (z : ℕ). letter (a .narrow) z (a .c)) (sym (m .keys7))
 
 returns-8 : tie.Need-returns-8
-returns-8 c = let n = c .match .rest in letter-none (c .before .args .narrow) (c .before .args .c) (n .0 .0 .0 .0 .0 .0 .1) (n .0 .0 .0 .0 .0 .1) (n .0 .0 .0 .0 .1) (n .0 .0 .0 .1) (n .0 .0 .1) (n .0 .1) (n .1)
+returns-8 c =
+    let a = c .before .args in
+    let n = c .match .rest in
+    letter-none (a .narrow) (a .c) (n .0 .0 .0 .0 .0 .0 .1) (n .0 .0 .0 .0 .0 .1) (n .0 .0 .0 .0 .1) (n .0 .0 .0 .1) (n .0 .0 .1) (n .0 .1) (n .1)
 
 pub letter-at-spec : {M : Type 1} → statement M
 letter-at-spec =

@@ -1,5 +1,5 @@
 -- `other` meets its contract. Assumes nothing.
-use Prim.Native.Nat.{_+_, _-_, _*_, _≤_}
+use Prim.Native.Nat.{_+_, _-_, _*_, _^_, _≤_, _<_}
 use native.Mathlib.Omega.{arith}
 use lib.ListN.{length}
 use Rattle.decode_runs.proofs.Runs.{Spelt, spelt-start, spelt-more}
@@ -8,42 +8,65 @@ use Rattle.decode_runs.proofs.other.Statement.{statement}
 use Rattle.decode_runs.proofs.other.Tie as tie
 
 returns : tie.Need-returns
-returns c = (spelt-start (c .before .before .before .before .pre .0) (c .before .before .before .before .pre .2) .letters, c .before .before .before .before .pre .2)
+returns c =
+    let entry = c .before .before .before .before in
+    (spelt-start (entry .pre .0) (entry .pre .2) .letters, entry .pre .2)
 
 character-requires : tie.Need-character-requires
 character-requires c κs = search needs
 
 returns-2 : tie.Need-returns-2
-returns-2 c = (spelt-start (c .before .before .before .before .before .before .pre .0) (c .before .before .before .before .before .before .pre .2) .letters, c .before .before .before .before .before .before .pre .2)
+returns-2 c =
+    let entry = c .before .before .before .before .before .before in
+    (spelt-start (entry .pre .0) (entry .pre .2) .letters, entry .pre .2)
 
 put-requires : tie.Need-put-requires
 put-requires c κs = search needs
 
-add-t16 : tie.Need-add-t16
-add-t16 c =
-    let r = c .before .before .before .before .before .before .character .ensures (c .before .before .before .before .before .if2 .left) in
-    omega (arith, r .within, c .before .before .before .before .before .before .before .before .before .before .before .pre .1)
+add-at : tie.Need-add-at
+add-at c =
+    let at-if2 = c .before .before .before .before .before in
+    let at-character = at-if2 .before in
+    let entry = at-character .before .before .before .before .before in
+    let r = at-character .character .ensures (at-if2 .if2 .left) in
+    omega (arith, r .within, entry .pre .1)
 
-add-t17 : tie.Need-add-t17
-add-t17 c =
-    let r = c .before .before .before .before .before .before .character .ensures (c .before .before .before .before .before .if2 .left) in
-    omega (arith, r .within, r .most, c .before .before .before .put .ensures .count, c .before .before .before .before .before .before .before .before .before .before .before .pre .2)
+add-len : tie.Need-add-len
+add-len c =
+    let at-put = c .before .before .before in
+    let at-if2 = at-put .before .before in
+    let at-character = at-if2 .before in
+    let entry = at-character .before .before .before .before .before in
+    let a = entry .args in
+    let n = at-put .put .result in
+    let r = at-character .character .ensures (at-if2 .if2 .left) in
+    let within : a .from .at + at-character .character .result .used ≤ a .to = r .within in
+    let most : n ≤ 3 * at-character .character .result .used = omega (arith, r .most, at-put .put .ensures .count) in
+    let room : a .from .len + 3 * (a .to - a .from .at) ≤ length (a .text .now) = entry .pre .2 in
+    let sum : a .from .len + n ≤ length (a .text .now) = omega (arith, within, most, room) in
+    let fits : a .from .len + n < 2 ^ 64 = omega (arith, sum, entry .good) in
+    record { fits = fits }
 
 same-length : tie.Need-same-length
 same-length c = search needs
 
 returns-3 : tie.Need-returns-3
 returns-3 c =
-    let a = c .before .before .before .before .before .before .before .before .before .before .before .args in
-    let u = c .before .before .before .before .before .before .character .result .used in
-    let l = c .before .before .before .before .before .before .character .result .scalar in
-    let n = c .before .before .before .put .result in
-    let r = c .before .before .before .before .before .before .character .ensures (c .before .before .before .before .before .if2 .left) in
-    let start : Spelt (a .cells .now) (a .b .now) (a .i) (a .to) (a .gl) (a .gr) (a .narrow) (a .n) (a .text .now) (a .i) (a .n) (a .text .now) = spelt-start (c .before .before .before .before .before .before .before .before .before .before .before .pre .0) (c .before .before .before .before .before .before .before .before .before .before .before .pre .2) in
-    let inside : a .i + u ≤ length (a .b .now) = omega (arith, r .within, c .before .before .before .before .before .before .before .before .before .before .before .pre .1) in
-    let most : n ≤ 3 * u = omega (arith, r .most, c .before .before .before .put .ensures .count) in
-    let room : n + 3 * (a .to - (a .i + u)) ≤ 3 * (a .to - a .i) = omega (arith, r .within) in
-    let w = spelt-more u l start (r .some) inside (r .spells) (c .before .before .before .put .ensures .count) most room (c .before .before .before .put .ensures .bytes) in
+    let at-put = c .before .before .before in
+    let at-if2 = at-put .before .before in
+    let at-character = at-if2 .before in
+    let entry = at-character .before .before .before .before .before in
+    let a = entry .args in
+    let u = at-character .character .result .used in
+    let l = at-character .character .result .scalar in
+    let n = at-put .put .result in
+    let r = at-character .character .ensures (at-if2 .if2 .left) in
+    let start : Spelt (a .cells .now) (a .b .now) (a .from .at) (a .to) (a .sets) (a .from .len) (a .text .now) (a .from .at) (a .from .len) (a .text .now) =
+    spelt-start (entry .pre .0) (entry .pre .2) in
+    let inside : a .from .at + u ≤ length (a .b .now) = omega (arith, r .within, entry .pre .1) in
+    let most : n ≤ 3 * u = omega (arith, r .most, at-put .put .ensures .count) in
+    let room : n + 3 * (a .to - (a .from .at + u)) ≤ 3 * (a .to - a .from .at) = omega (arith, r .within) in
+    let w = spelt-more u l start (r .some) inside (r .spells) (at-put .put .ensures .count) most room (at-put .put .ensures .bytes) in
     (w .letters, omega (arith, w .room, w .as-long))
 
 pub other-spec : {M : Type 1} → statement M
@@ -54,7 +77,7 @@ other-spec =
     character-requires
     returns-2
     put-requires
-    add-t16
-    add-t17
+    add-at
+    add-len
     same-length
     returns-3)

@@ -9,13 +9,28 @@ use Rattle.decode_runs.proofs.runs_from.Statement.{statement}
 use Rattle.decode_runs.proofs.runs_from.Tie as tie
 
 abbrev Inv-loop : tie.InvT-loop
-Inv-loop cells b from to annex settings₀ text₀ n i₀ m₀ settings text i m = Running cells b from to annex settings₀ n text₀ i settings m text
+Inv-loop cells b annex settings₀ text₀ i₀ m₀ to settings text i m = Running cells b i₀ to annex settings₀ m₀ text₀ i settings m text
 
 abbrev μ-loop : tie.MeasureT-loop
-μ-loop cells b from to annex settings₀ text₀ n i₀ m₀ settings text i m = length b - i
+μ-loop cells b annex settings₀ text₀ i₀ m₀ to settings text i m = length b - i
+
+sub-fitting : tie.Need-sub-fitting Inv-loop μ-loop
+sub-fitting c = search needs
+
+sub-fitting-2 : tie.Need-sub-fitting-2 Inv-loop μ-loop
+sub-fitting-2 c = search needs
+
+fitting-requires : tie.Need-fitting-requires Inv-loop μ-loop
+fitting-requires c κs = search needs
+
+add-to : tie.Need-add-to Inv-loop μ-loop
+add-to c = search needs
 
 loop-holds : tie.Need-loop-holds Inv-loop μ-loop
-loop-holds c = running-start (c .before .before .before .before .pre .0) (c .before .before .before .before .pre .3) (c .before .before .before .before .pre .4)
+loop-holds c =
+    let entry = c .before .before .before .before .before in
+    let fits = c .fitting .ensures in
+    running-start (entry .pre .0) (omega (arith, fits .0, entry .pre .2)) (entry .pre .3)
 
 slice-read-left : tie.Need-slice-read-left Inv-loop μ-loop
 slice-read-left c = search needs
@@ -51,22 +66,42 @@ controls-requires : tie.Need-controls-requires Inv-loop μ-loop
 controls-requires c κs = search needs
 
 same-length : tie.Need-same-length Inv-loop μ-loop
-same-length c = c .before .before .before .controls .ensures .fine .seven ∙ sym (c .before .before .before .before .before .before .before .before .before .before .before .before .before .before .before .before .before .before .before .before .before .before .before .before .pre .4 .seven)
+same-length c =
+    let at-controls = c .before .before .before in
+    let turn = at-controls .before .before .before .before .before .before .before .before .before .before .before .before .before .before .before .before in
+    let entry = turn .before .before .before .before .before .before in
+    at-controls .controls .ensures .fine .seven ∙ sym (entry .pre .3 .seven)
 
 same-length-2 : tie.Need-same-length-2 Inv-loop μ-loop
 same-length-2 c = search needs
 
 returns : tie.Need-returns Inv-loop μ-loop
 returns c =
-    running-more (c .before .before .before .before .before .before .before .before .before .before .before .before .before .before .before .before .before .before .before .loop .inv) refl refl (c .before .before .before .before .before .before .before .before .before .before .before .before .before .is-narrow .ensures) (c .before .before .before .before .before .before .before .before .before .before .before .letters-from .ensures .0) (c .before .before .before .before .before .before .before .other .ensures .0) (c .before .before .before .controls .ensures) (c .before .before .before .before .before .before .before .before .before .before .before .letters-from .kept .1 .1 .1 .1 .1 .1 .1 .0) (c .before .before .before .before .before .before .before .other .kept .1 .1 .1 .1 .1 .1 .1 .0) (c .before .before .before .before .before .before .before .other .ensures .1) .runs
+    let at-controls = c .before .before .before in
+    let at-other = at-controls .before .before .before .before in
+    let at-letters-from = at-other .before .before .before .before in
+    let at-is-narrow = at-letters-from .before .before in
+    let turn = at-is-narrow .before .before .before .before .before .before in
+    running-more (turn .loop .inv) refl refl (at-is-narrow .is-narrow .ensures) (at-letters-from .letters-from .ensures .0) (at-other .other .ensures .0)
+    (at-controls .controls .ensures) (at-letters-from .letters-from .kept .1 .1 .1 .1 .1 .0) (at-other .other .kept .1 .1 .1 .1 .1 .0) (at-other .other .ensures .1) .runs
 
 loop-less : tie.Need-loop-less Inv-loop μ-loop
 loop-less c =
-    omega (arith, c .if1 .left, c .before .before .before .before .before .before .before .before .before .before .before .letters-from .ensures .0 .past, c .before .before .before .before .before .before .before .other .ensures .0 .past, c .before .before .before .controls .ensures .past, c .before .before .before .controls .ensures .within)
+    let at-controls = c .before .before .before in
+    let at-other = at-controls .before .before .before .before in
+    let at-letters-from = at-other .before .before .before .before in
+    let past = at-controls .controls .ensures in
+    omega (arith, c .if1 .left, at-letters-from .letters-from .ensures .0 .past, at-other .other .ensures .0 .past, past .past, past .within)
 
 loop-again : tie.Need-loop-again Inv-loop μ-loop
 loop-again c =
-    running-more (c .before .before .before .before .before .before .before .before .before .before .before .before .before .before .before .before .before .before .before .loop .inv) refl refl (c .before .before .before .before .before .before .before .before .before .before .before .before .before .is-narrow .ensures) (c .before .before .before .before .before .before .before .before .before .before .before .letters-from .ensures .0) (c .before .before .before .before .before .before .before .other .ensures .0) (c .before .before .before .controls .ensures) (c .before .before .before .before .before .before .before .before .before .before .before .letters-from .kept .1 .1 .1 .1 .1 .1 .1 .0) (c .before .before .before .before .before .before .before .other .kept .1 .1 .1 .1 .1 .1 .1 .0) (c .before .before .before .before .before .before .before .other .ensures .1)
+    let at-controls = c .before .before .before in
+    let at-other = at-controls .before .before .before .before in
+    let at-letters-from = at-other .before .before .before .before in
+    let at-is-narrow = at-letters-from .before .before in
+    let turn = at-is-narrow .before .before .before .before .before .before in
+    running-more (turn .loop .inv) refl refl (at-is-narrow .is-narrow .ensures) (at-letters-from .letters-from .ensures .0) (at-other .other .ensures .0)
+    (at-controls .controls .ensures) (at-letters-from .letters-from .kept .1 .1 .1 .1 .1 .0) (at-other .other .kept .1 .1 .1 .1 .1 .0) (at-other .other .ensures .1)
 
 pub runs-from-spec : {M : Type 1} → statement M
 runs-from-spec =
@@ -74,6 +109,10 @@ runs-from-spec =
     (tie.spec
     Inv-loop
     μ-loop
+    sub-fitting
+    sub-fitting-2
+    fitting-requires
+    add-to
     loop-holds
     slice-read-left
     cast-left

@@ -4,11 +4,11 @@ use mathlib.Core.Path.{sym, _∙_}
 use native.Mathlib.Omega.{arith}
 use borrow.Author.Needs.{needs}
 use lib.ListN.{getD}
 use Rattle.decode_characters.proofs.Did.{took-as, took-did}
 use Rattle.decode_codes.proofs.Laws.{and-left, in-area, graphic2-pair}
-use Rattle.decode_characters.proofs.Laws.{graphic2-end, graphic2-other}
-use Rattle.decode_characters.proofs.graphic2.Tie as tie
-use Rattle.decode_characters.proofs.graphic2.Statement.{statement}
+use Rattle.decode_graphic.proofs.Laws.{graphic2-end, graphic2-other}
+use Rattle.decode_graphic.proofs.graphic2.Tie as tie
+use Rattle.decode_graphic.proofs.graphic2.Statement.{statement}
 
 add-if1 : tie.Need-add-if1
 add-if1 c = search needs
@@ -21,10 +21,11 @@ same-length c = search needs
 
 returns : tie.Need-returns
 returns c =
-    let if1 = c .before .before .before .before .if1 in
+    let at-if1 = c .before .before .before .before in
+    let entry = at-if1 .before .before .before .before .before in
     let truncated = c .before .before .truncated in
-    let pre = c .before .before .before .before .before .before .before .before .before .pre in
-    took-as (λ g x. sym (graphic2-end g _ _ _ _ _ x (if1 .taken))) (truncated .ensures _ _ _ _ (pre .1 .0))
+    let pre = entry .pre in
+    took-as (λ g x. sym (graphic2-end g _ _ _ _ _ x (at-if1 .if1 .taken))) (truncated .ensures _ _ _ _ (pre .1 .0))
 
 shared-slice-read-x : tie.Need-shared-slice-read-x
 shared-slice-read-x c = search needs
@@ -40,17 +41,18 @@ is-second-requires c κs = search needs
 
 char2-requires : tie.Need-char2-requires
 char2-requires c κs =
-    let a = c .before .before .before .before .before .before .before .before .before .before .before .args in
-    let shared-slice-known2 = c .before .before .before .before .before .before .before .before .before .shared-slice-known2 in
-    let pre = c .before .before .before .before .before .before .before .before .before .before .before .pre in
-    let is-second = c .before .before .before .is-second in
+    let at-is-second = c .before .before .before in
+    let at-shared-slice-known2 = at-is-second .before .before .before .before .before .before in
+    let entry = at-shared-slice-known2 .before .before in
+    let a = entry .args in
+    let pre = entry .pre in
     let if2 = c .before .before .if2 in
     let i = a .i in
     let b = a .b .now in
-    let hx : getD b i 0 < 256 = omega (arith, shared-slice-known2 .given i) in
-    let hy : getD b (i + 1) 0 < 256 = omega (arith, shared-slice-known2 .given (i + 1)) in
+    let hx : getD b i 0 < 256 = omega (arith, at-shared-slice-known2 .shared-slice-known2 .given i) in
+    let hy : getD b (i + 1) 0 < 256 = omega (arith, at-shared-slice-known2 .shared-slice-known2 .given (i + 1)) in
     let x = in-area _ hx (pre .1 .1) in
-    let y = in-area _ hy (and-left _ _ (sym (is-second .ensures) ∙ if2 .taken)) in
+    let y = in-area _ hy (and-left _ _ (sym (at-is-second .is-second .ensures) ∙ if2 .taken)) in
     (pre .0, (x .low, x .high, y .low, y .high))
 
 same-length-2 : tie.Need-same-length-2
@@ -61,10 +63,14 @@ same-length-3 c = search needs
 
 returns-2 : tie.Need-returns-2
 returns-2 c =
-    let if1 = c .before .before .before .before .before .before .before .before .before .before .before .if1 in
-    let is-second = c .before .before .before .before .before .before .before .before .is-second in
-    let if2 = c .before .before .before .before .before .before .before .if2 in
-    let char2 = c .before .before .before .before .char2 in
+    let at-char2 = c .before .before .before .before in
+    let at-if2 = at-char2 .before .before .before in
+    let at-is-second = at-if2 .before in
+    let at-if1 = at-is-second .before .before .before in
+    let if1 = at-if1 .if1 in
+    let is-second = at-is-second .is-second in
+    let if2 = at-if2 .if2 in
+    let char2 = at-char2 .char2 in
     took-did _ 2 (omega arith) (omega arith) (λ g x. graphic2-pair g _ _ _ _ _ x (if1 .left) (sym (is-second .ensures) ∙ if2 .taken)) (char2 .ensures)
 
 truncated-requires-2 : tie.Need-truncated-requires-2
@@ -75,11 +81,15 @@ same-length-4 c = search needs
 
 returns-3 : tie.Need-returns-3
 returns-3 c =
-    let if1 = c .before .before .before .before .before .before .before .before .if1 in
-    let is-second = c .before .before .before .before .before .is-second in
-    let if2 = c .before .before .before .before .if2 in
+    let at-if2 = c .before .before .before .before in
+    let at-is-second = at-if2 .before in
+    let at-if1 = at-is-second .before .before .before in
+    let entry = at-if1 .before .before .before .before .before in
+    let if1 = at-if1 .if1 in
+    let is-second = at-is-second .is-second in
+    let if2 = at-if2 .if2 in
     let truncated2 = c .before .before .truncated2 in
-    let pre = c .before .before .before .before .before .before .before .before .before .before .before .before .before .pre in
+    let pre = entry .pre in
     took-as (λ g x. sym (graphic2-other g _ _ _ _ _ x (if1 .left) (sym (is-second .ensures) ∙ if2 .left))) (truncated2 .ensures _ _ _ _ (pre .1 .0))
 
 pub graphic2-spec : {M : Type 1} → statement M

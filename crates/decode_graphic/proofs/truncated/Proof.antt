@@ -3,9 +3,9 @@ use mathlib.Core.Path.{refl}
 use native.Mathlib.Omega.{arith}
 use borrow.Author.Needs.{needs}
 use Rattle.reading.specs.State.{truncated}
 use Rattle.decode_characters.proofs.Did.{took-did}
-use Rattle.decode_characters.proofs.truncated.Tie as tie
-use Rattle.decode_characters.proofs.truncated.Statement.{statement}
+use Rattle.decode_graphic.proofs.truncated.Tie as tie
+use Rattle.decode_graphic.proofs.truncated.Statement.{statement}
 
 report-requires : tie.Need-report-requires
 report-requires c κs = search needs
@@ -16,7 +16,8 @@ same-length c = search needs
 returns : tie.Need-returns
 unfolding truncated
 returns c =
-    let a = c .before .before .before .before .before .args in
+    let entry = c .before .before .before .before .before in
+    let a = entry .args in
     let report = c .before .before .report in
     λ cells b t i h. took-did (λ g. truncated 1 (a .at)) 1 (omega arith) (omega arith) (λ g x. refl) (report .ensures cells t)
 

@@ -4,11 +4,11 @@ use mathlib.Core.Logic.{⊎-elim}
 use mathlib.Core.Path.{_∙_}
 use native.Mathlib.Omega.{arith}
 use borrow.Author.Needs.{needs}
 use Rattle.decode_characters.proofs.Did.{did-as}
 use Rattle.decode_codes.proofs.Laws.{char1-letter}
-use Rattle.decode_characters.proofs.Laws.{char1-mosaic, char1-drcs, letter-narrows}
-use Rattle.decode_characters.proofs.char1.Tie as tie
-use Rattle.decode_characters.proofs.char1.Statement.{statement}
+use Rattle.decode_graphic.proofs.Laws.{char1-mosaic, char1-drcs, letter-narrows}
+use Rattle.decode_graphic.proofs.char1.Tie as tie
+use Rattle.decode_graphic.proofs.char1.Statement.{statement}
 
 report-mosaic-requires : tie.Need-report-mosaic-requires
 report-mosaic-requires c κs = search needs
@@ -33,10 +33,11 @@ same-length c = search needs
 
 returns : tie.Need-returns
 returns c =
-    let pre = c .before .before .before .before .before .before .before .before .pre in
-    let if1 = c .before .before .before .before .before .if1 in
+    let at-if1 = c .before .before .before .before .before in
+    let entry = at-if1 .before .before .before in
+    let pre = entry .pre in
     let report-mosaic = c .before .before .report-mosaic in
-    λ cells left R. did-as (λ g q starts lens t₀ i₀ x k. char1-mosaic g left R _ _ _ x (pre .1 .1) (if1 .left) (omega arith)) (report-mosaic .ensures cells _)
+    λ cells left R. did-as (λ g q starts lens t₀ i₀ x k. char1-mosaic g left R _ _ _ x (pre .1 .1) (at-if1 .if1 .left) (omega arith)) (report-mosaic .ensures cells _)
 
 same-length-2 : tie.Need-same-length-2
 same-length-2 c = search needs
@@ -46,9 +47,10 @@ same-length-3 c = search needs
 
 returns-2 : tie.Need-returns-2
 returns-2 c =
-    let pre = c .before .before .before .before .before .before .before .before .before .before .before .before .pre in
-    let report-placeholder = c .before .before .before .before .report-placeholder in
-    λ cells left R. did-as (λ g q starts lens t₀ i₀ x k. char1-drcs g left R _ _ _ x (pre .1 .1) (omega arith)) (report-placeholder .ensures cells)
+    let at-report-placeholder = c .before .before .before .before in
+    let entry = at-report-placeholder .before .before .before .before .before .before .before .before in
+    let pre = entry .pre in
+    λ cells left R. did-as (λ g q starts lens t₀ i₀ x k. char1-drcs g left R _ _ _ x (pre .1 .1) (omega arith)) (at-report-placeholder .report-placeholder .ensures cells)
 
 same-length-4 : tie.Need-same-length-4
 same-length-4 c = search needs
@@ -58,12 +60,17 @@ same-length-5 c = search needs
 
 returns-3 : tie.Need-returns-3
 returns-3 c =
-    let a = c .before .before .before .before .before .before .before .before .before .before .before .before .args in
-    let if1 = c .before .before .before .before .before .before .before .before .before .if1 in
-    let letter-at = c .before .before .before .before .before .before .before .letter-at in
-    let is-narrow = c .before .before .before .before .before .before .before .before .is-narrow in
-    let pre = c .before .before .before .before .before .before .before .before .before .before .before .before .pre in
-    let emit-or = c .before .before .before .before .emit-or in
+    let at-emit-or = c .before .before .before .before in
+    let at-letter-at = at-emit-or .before .before .before in
+    let at-is-narrow = at-letter-at .before in
+    let at-if1 = at-is-narrow .before in
+    let entry = at-if1 .before .before .before in
+    let a = entry .args in
+    let if1 = at-if1 .if1 in
+    let letter-at = at-letter-at .letter-at in
+    let is-narrow = at-is-narrow .is-narrow in
+    let pre = entry .pre in
+    let emit-or = at-emit-or .emit-or in
     let z = a .set in
     let far : 4 ≤ z → 7 < z = λ h. ⊎-elim (λ w. omega arith) (λ w. omega arith) (if1 .came) in
     let small : z < 17 = ⊎-elim (λ w. omega arith) (λ w. omega arith) (if1 .came) in

@@ -2,10 +2,10 @@
 use mathlib.Core.Path.{sym, _∙_}
 use native.Mathlib.Omega.{arith}
 use borrow.Author.Needs.{needs}
 use Rattle.decode_characters.proofs.Did.{took-as, took-did}
 use Rattle.decode_codes.proofs.Laws.{graphic-two, graphic-one}
-use Rattle.decode_characters.proofs.graphic.Tie as tie
-use Rattle.decode_characters.proofs.graphic.Statement.{statement}
+use Rattle.decode_graphic.proofs.graphic.Tie as tie
+use Rattle.decode_graphic.proofs.graphic.Statement.{statement}
 
 two-bytes-requires : tie.Need-two-bytes-requires
 two-bytes-requires c κs = search needs
@@ -21,9 +21,12 @@ same-length-2 c = search needs
 
 returns : tie.Need-returns
 returns c =
-    let two-bytes = c .before .before .before .before .before .before .before .before .two-bytes in
-    let if1 = c .before .before .before .before .before .before .before .if1 in
-    let graphic2 = c .before .before .before .before .graphic2 in
+    let at-graphic2 = c .before .before .before .before in
+    let at-if1 = at-graphic2 .before .before .before in
+    let at-two-bytes = at-if1 .before in
+    let two-bytes = at-two-bytes .two-bytes in
+    let if1 = at-if1 .if1 in
+    let graphic2 = at-graphic2 .graphic2 in
     λ left R. took-as (λ g x. graphic-two g left R _ _ _ _ x (sym (two-bytes .ensures) ∙ if1 .taken)) (graphic2 .ensures)
 
 shared-slice-read-char1 : tie.Need-shared-slice-read-char1
@@ -40,10 +43,14 @@ same-length-4 c = search needs
 
 returns-2 : tie.Need-returns-2
 returns-2 c =
-    let pre = c .before .before .before .before .before .before .before .before .before .before .before .before .before .before .pre in
-    let two-bytes = c .before .before .before .before .before .before .before .before .before .two-bytes in
-    let if1 = c .before .before .before .before .before .before .before .before .if1 in
-    let char1 = c .before .before .before .before .char1 in
+    let at-char1 = c .before .before .before .before in
+    let at-if1 = at-char1 .before .before .before .before in
+    let at-two-bytes = at-if1 .before in
+    let entry = at-two-bytes .before .before .before .before .before in
+    let pre = entry .pre in
+    let two-bytes = at-two-bytes .two-bytes in
+    let if1 = at-if1 .if1 in
+    let char1 = at-char1 .char1 in
     λ left R. took-did _ 1 (omega arith) (omega (arith, pre .1 .0)) (λ g x. graphic-one g left R _ _ _ _ x (sym (two-bytes .ensures) ∙ if1 .left)) (char1 .ensures _ left R)
 
 pub graphic-spec : {M : Type 1} → statement M
