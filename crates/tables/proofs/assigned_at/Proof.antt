@@ -16,7 +16,7 @@ abbrev μ-loop : tie.MeasureT-loop
 μ-loop row cell x list i₀ i = 7 - i
 
 loop-holds : tie.Need-loop-holds Inv-loop μ-loop
-loop-holds c = (c .good .0 .1 .0 .1, (omega arith, refl))
+loop-holds c = let seven = c .good .0 .1 .0 .1 in (seven, (omega arith, refl))
 
 mul-a : tie.Need-mul-a Inv-loop μ-loop
 mul-a c = search needs

@@ -1,14 +1,20 @@
 -- `tables_onebyte::one_byte_reverse` meets its contract: each table has its rule. Assumes nothing.
-use mathlib.Core.Path.{sym, ap, _∙_}
+use mathlib.Core.Path.{_≡_, sym, ap, _∙_}
+use Prim.Native.Nat.{ℕ}
 use borrow.Author.Needs.{needs}
 use Rattle.tables_onebyte.specs.Reverse.{oneByteReverse}
 use Rattle.tables_onebyte.specs.Contracts.{runAt, alphanumericAt, kanaAt, hiraganaSet, katakanaSet}
 use Rattle.tables_onebyte.specs.declared.OneByteTable.{OneByteTable}
-use Rattle.tables_onebyte.specs.declared.OneByteTable.the-variants.{Alphanumeric, Hiragana, Katakana, JisX0201Katakana}
+use Rattle.tables_onebyte.specs.declared.OneByteTable.the-variants.{Alphanumeric, Fullwidth, Hiragana, Katakana, JisX0201Katakana}
+use Rattle.tables_onebyte.specs.declared.Code.{Code}
 use Rattle.tables_onebyte.proofs.Rules.{alphanumeric-rule, hiragana-rule, katakana-rule, jis-x0201-katakana-rule}
 use Rattle.tables_onebyte.proofs.CodeLaws.{inverse}
 use Rattle.tables_onebyte.proofs.one_byte_reverse.Statement.{statement}
 use Rattle.tables_onebyte.proofs.one_byte_reverse.Tie as tie
+
+-- an arm answers for the table that it names
+arm : {table : OneByteTable} {r : Code} (known : OneByteTable) (c : ℕ) → table ≡ known → r ≡ oneByteReverse known c → r ≡ oneByteReverse table c
+arm known c told e = e ∙ ap (λ (t : OneByteTable). oneByteReverse t c) (sym told)
 
 enum-told : tie.Need-enum-told
 enum-told c = search needs
@@ -42,26 +48,26 @@ run-reverse-requires c κs = search needs
 
 returns : tie.Need-returns
 returns c =
-    let x = c .before .before .before .args .c in
-    inverse Alphanumeric (alphanumericAt 0x21 0xA5) alphanumeric-rule x (c .alphanumeric-reverse .result) (c .alphanumeric-reverse .ensures) ∙ ap (λ (t : OneByteTable). oneByteReverse t x) (sym (c .before .enum-told .given .1))
+    arm Alphanumeric (c .before .before .before .args .c) (c .before .enum-told .given .1)
+    (inverse Alphanumeric (alphanumericAt 0x21 0xA5) alphanumeric-rule (c .before .before .before .args .c) (c .alphanumeric-reverse .result) (c .alphanumeric-reverse .ensures))
 
 returns-2 : tie.Need-returns-2
-returns-2 c = c .half .ensures ∙ ap (λ (t : OneByteTable). oneByteReverse t (c .before .before .before .args .c)) (sym (c .before .enum-told2 .given .1))
+returns-2 c = arm Fullwidth (c .before .before .before .args .c) (c .before .enum-told2 .given .1) (c .half .ensures)
 
 returns-3 : tie.Need-returns-3
 returns-3 c =
-    let x = c .before .before .before .args .c in
-    inverse Hiragana (kanaAt hiraganaSet) hiragana-rule x (c .kana-reverse .result) (c .kana-reverse .ensures) ∙ ap (λ (t : OneByteTable). oneByteReverse t x) (sym (c .before .enum-told3 .given .1))
+    arm Hiragana (c .before .before .before .args .c) (c .before .enum-told3 .given .1)
+    (inverse Hiragana (kanaAt hiraganaSet) hiragana-rule (c .before .before .before .args .c) (c .kana-reverse .result) (c .kana-reverse .ensures))
 
 returns-4 : tie.Need-returns-4
 returns-4 c =
-    let x = c .before .before .before .args .c in
-    inverse Katakana (kanaAt katakanaSet) katakana-rule x (c .kana-reverse2 .result) (c .kana-reverse2 .ensures) ∙ ap (λ (t : OneByteTable). oneByteReverse t x) (sym (c .before .enum-told4 .given .1))
+    arm Katakana (c .before .before .before .args .c) (c .before .enum-told4 .given .1)
+    (inverse Katakana (kanaAt katakanaSet) katakana-rule (c .before .before .before .args .c) (c .kana-reverse2 .result) (c .kana-reverse2 .ensures))
 
 returns-5 : tie.Need-returns-5
 returns-5 c =
-    let x = c .before .before .before .args .c in
-    inverse JisX0201Katakana (runAt 0xFF61 0x5F) jis-x0201-katakana-rule x (c .run-reverse .result) (c .run-reverse .ensures) ∙ ap (λ (t : OneByteTable). oneByteReverse t x) (sym (c .before .enum-told5 .given .1))
+    arm JisX0201Katakana (c .before .before .before .args .c) (c .before .enum-told5 .given .1)
+    (inverse JisX0201Katakana (runAt 0xFF61 0x5F) jis-x0201-katakana-rule (c .before .before .before .args .c) (c .run-reverse .result) (c .run-reverse .ensures))
 
 pub one-byte-reverse-spec : {M : Type 1} → statement M
 one-byte-reverse-spec =
