@@ -9,11 +9,11 @@ use lib.Seq.{sets}
 use Rattle.coding.specs.State.{State, start}
 use Rattle.coding.specs.Candidates.{Cand}
 use Rattle.coding.specs.Search.{Node, node, begin, run, newest, back}
-use Rattle.encode_candidates.specs.Packed.{candsOf, Stands}
+use Rattle.encode_candidates.specs.Packed.{candsOf, StandsForCandidates}
 use Rattle.encode_candidates.specs.declared.Cands.{Cands}
 use Rattle.encode_states.specs.Written.{written}
 use Rattle.encode_layer.specs.Entries.{nodeOf, entryAt, layerOf}
-use Rattle.encode_layer.specs.Stands.{Sound}
+use Rattle.encode_layer.specs.Layer.{Sound}
 use Rattle.encode_search.specs.Layers.{Layers}
 use Rattle.laws_coding.proofs.Chains.{begins, run-chain, at}
 use Rattle.base.proofs.Every.{all-at}
@@ -134,7 +134,7 @@ module _ {css : List (List Cand)} {s l₀ target : List ℕ} where
   going-before {k} {p} j e g = subst (λ (x : ℕ). beforeOf s x * 4 + 4 ≤ length s) (sym (g .place)) (before-fits css s j (g .from) (g .count) (g .i) (g .layers) (g .state) (behind-of j e (g .stand)) (g .linked) (g .fits) (g .inside))
 
   -- a character more
-  pub going-on : {k p : ℕ} {l l′ : List ℕ} {cells : List ℕ} {annexE : Bool} {chs ks ss : List ℕ} (K : Cands) (j : ℕ) → k ≡ suc j → Chosen cells annexE chs ks ss j (getD css j []) → Stands (getD chs j 0) (getD ks j 0) (getD ss j 0) annexE K
+  pub going-on : {k p : ℕ} {l l′ : List ℕ} {cells : List ℕ} {annexE : Bool} {chs ks ss : List ℕ} (K : Cands) (j : ℕ) → k ≡ suc j → Chosen cells annexE chs ks ss j (getD css j []) → StandsForCandidates (getD chs j 0) (getD ks j 0) (getD ss j 0) annexE K
       → l′ ≡ sets l (costOf s (beforeOf s p)) (written (candsOf K) (howOf s p)) → Going css s k p l₀ l target → Going css s j (beforeOf s p) l₀ l′ target
   going-on {k} {p} {l} {l′} {cells} K j ek q st e g =
       let same : candsOf K ≡ getD css j [] = st .list cells (q .kanji) (q .symbol) ∙ sym (q .list) in

@@ -17,12 +17,12 @@ use Rattle.tables_reverse.proofs.Laws.{kanji-found, additional-found}
 use Rattle.coding.specs.Candidates.{Cand, graphic, ofPlace}
 use Rattle.encode_states.specs.Packed.{setOf}
 use Rattle.encode_candidates.specs.declared.Cands.{Cands}
-use Rattle.encode_candidates.specs.Packed.{packed, codeOf, candOf, candAt, candsFrom, candsOf, Fits, FitsAt, Good, Adds, AddsCell}
+use Rattle.encode_candidates.specs.Packed.{packed, codeOf, candOf, candAt, candsFrom, candsOf, Fits, FitsAt, UnderConstruction, Adds, AddsCell}
 use Rattle.encode_candidates.proofs.Lists.{snoc, alike}
 
 -- ---- one more
 
-module _ (k : Cands) (x b z : ℕ) (h : k .count < 9) (g : Good k) (f : Fits x b z) where
+module _ (k : Cands) (x b z : ℕ) (h : k .count < 9) (g : UnderConstruction k) (f : Fits x b z) where
   -- k and a candidate behind those that count
   abbrev more : Cands
   more = record { count = k .count + 1; sets = set (k .sets) (k .count) x; codes = set (k .codes) (k .count) b; sizes = set (k .sizes) (k .count) z }
@@ -64,7 +64,7 @@ module _ (k : Cands) (x b z : ℕ) (h : k .count < 9) (g : Good k) (f : Fits x b
 
 -- ---- none, and one after the other
 
-pub none-more : (k : Cands) (n : ℕ) → Good k → Adds k [] n k
+pub none-more : (k : Cands) (n : ℕ) → UnderConstruction k → Adds k [] n k
 none-more k n g = record { list = sym (append-nil (candsOf k)); count = omega arith; good = g }
 
 pub then : {k r s : Cands} {l m : List Cand} {n p : ℕ} → Adds k l n r → Adds r m p s → Adds k (l ++ m) (n + p) s
@@ -143,7 +143,7 @@ cell-adds {k = k} x z cell p n d =
       good = d .good;
     }
 
-pub no-cell-adds : (k : Cands) (x z cell : ℕ) → Good k → cell ≡ 0 → AddsCell k x z cell k
+pub no-cell-adds : (k : Cands) (x z cell : ℕ) → UnderConstruction k → cell ≡ 0 → AddsCell k x z cell k
 no-cell-adds k x z cell g e = record { none = λ e. refl; some = λ a b h i j q. absurd (omega arith); count = omega arith; good = g }
 
 -- rows and cells from 1 to 94
@@ -178,7 +178,7 @@ symbol-grid c = go (additionalReverse c) refl
 abbrev pub nothing : Cands
 nothing = record { count = 0; sets = replicate 9 0; codes = replicate 9 0; sizes = replicate 9 0 }
 
-pub empty : Good nothing
+pub empty : UnderConstruction nothing
 empty = record { sets = refl; codes = refl; sizes = refl; fits = λ i h. absurd (omega arith) }
 
 -- what is added to it is all that there is

@@ -54,7 +54,7 @@ abbrev pub FitsAt : Cands → ℕ → Type 0
 FitsAt k i = Fits (getD (k .sets) i 0) (getD (k .codes) i 0) (getD (k .sizes) i 0)
 
 -- a struct under construction: its arrays have nine places, and those that count hold candidates
-pub record Good (k : Cands) : Type 0 where
+pub record UnderConstruction (k : Cands) : Type 0 where
   pub sets : length (k .sets) ≡ 9
   pub codes : length (k .codes) ≡ 9
   pub sizes : length (k .sizes) ≡ 9
@@ -64,14 +64,14 @@ pub record Good (k : Cands) : Type 0 where
 pub record Adds (k : Cands) (l : List Cand) (n : ℕ) (r : Cands) : Type 0 where
   pub list : candsOf r ≡ candsOf k ++ l
   pub count : r .count ≤ k .count + n
-  pub good : Good r
+  pub good : UnderConstruction r
 
 -- one that adds the cell with a number, where there is one, as a candidate of a set and a size
 pub record AddsCell (k : Cands) (set size cell : ℕ) (r : Cands) : Type 0 where
   pub none : cell ≡ 0 → candsOf r ≡ candsOf k
   pub some : (a b : ℕ) → 1 ≤ a → a ≤ 94 → b ≤ 94 → cell ≡ a * 256 + b → candsOf r ≡ candsOf k ++ ofPlace (setOf set) size (At a b)
   pub count : r .count ≤ k .count + 1
-  pub good : Good r
+  pub good : UnderConstruction r
 
 -- k stands for the candidates f of c, over every cell table in which its cell of the Kanji set is `kanji`, where its cell of the additional
 -- symbols is `symbol`
@@ -81,5 +81,5 @@ pub record StandsFor (f : List ℕ → List Cand) (c kanji symbol : ℕ) (k : Ca
   pub list : (cells : List ℕ) → kanji ≡ packed (kanjiReverse cells c) → symbol ≡ packed (additionalReverse c) → candsOf k ≡ f cells
 
 -- what `candidates` promises
-abbrev pub Stands : ℕ → ℕ → ℕ → Bool → Cands → Type 0
-Stands c kanji symbol annexE k = StandsFor (λ cells. candidates cells annexE c) c kanji symbol k
+abbrev pub StandsForCandidates : ℕ → ℕ → ℕ → Bool → Cands → Type 0
+StandsForCandidates c kanji symbol annexE k = StandsFor (λ cells. candidates cells annexE c) c kanji symbol k

@@ -9,7 +9,7 @@ ghost use Rattle.tables_onebyte.specs.Reverse.{oneByteReverse};
 ghost use Rattle.coding.specs.Candidates.{plain, ofCode, fullwidth, letters, shortest};
 ghost use Rattle.base.specs.Lists.{when};
 ghost use Rattle.encode_states.specs.Packed.{setOf};
-ghost use Rattle.encode_candidates.specs.Packed.{packed, candOf, candsOf, Fits, Good, Adds, AddsCell, StandsFor, Stands};
+ghost use Rattle.encode_candidates.specs.Packed.{packed, candOf, candsOf, Fits, UnderConstruction, Adds, AddsCell, StandsFor, StandsForCandidates};
 use tables::Place;
 use tables_onebyte::Code;
 use tables_onebyte::OneByteTable;
@@ -37,7 +37,7 @@ pub fn pack(p: Place) -> u16
 /// One candidate more.
 fn with(k: Cands, set: u8, code: u16, size: u8) -> Cands
     requires { ⌜ k .count < 9 ⌝ }
-    requires { ⌜ Good k ⌝ }
+    requires { ⌜ UnderConstruction k ⌝ }
     requires { ⌜ Fits set code size ⌝ }
     ensures { λ r. ⌜ Adds k (candOf set code size ∷ []) 1 r ⌝ }
 {
@@ -59,7 +59,7 @@ fn with(k: Cands, set: u8, code: u16, size: u8) -> Cands
 /// The code of `c` in a one-byte table, where it has one.
 fn with_code(k: Cands, table: OneByteTable, c: u32, set: u8, size: u8) -> Cands
     requires { ⌜ k .count < 9 ⌝ }
-    requires { ⌜ Good k ⌝ }
+    requires { ⌜ UnderConstruction k ⌝ }
     requires { ⌜ set < 6 ⌝ }
     requires { ⌜ size ≤ 2 ⌝ }
     ensures { λ r. ⌜ Adds k (ofCode (setOf set) size (oneByteReverse table c)) 1 r ⌝ }
@@ -73,7 +73,7 @@ fn with_code(k: Cands, table: OneByteTable, c: u32, set: u8, size: u8) -> Cands
 /// A cell of a two-byte set, where there is one. Whatever its number, both bytes are below 128.
 fn with_cell(k: Cands, cell: u16, set: u8, size: u8) -> Cands
     requires { ⌜ k .count < 9 ⌝ }
-    requires { ⌜ Good k ⌝ }
+    requires { ⌜ UnderConstruction k ⌝ }
     requires { ⌜ set < 6 ⌝ }
     requires { ⌜ size ≤ 2 ⌝ }
     ensures { λ r. ⌜ AddsCell k set size cell r ⌝ }
@@ -89,7 +89,7 @@ fn with_cell(k: Cands, cell: u16, set: u8, size: u8) -> Cands
 /// The alphanumeric whose full-width form is `c`, in CharacterSize alone.
 fn with_half(k: Cands, c: u32, annex: bool) -> Cands
     requires { ⌜ k .count < 9 ⌝ }
-    requires { ⌜ Good k ⌝ }
+    requires { ⌜ UnderConstruction k ⌝ }
     ensures { λ r. ⌜ Adds k (fullwidth annex c) 1 r ⌝ }
 {
     if annex {
@@ -101,7 +101,7 @@ fn with_half(k: Cands, c: u32, annex: bool) -> Cands
 /// SP, for U+0020 and, in CharacterSize, for U+3000.
 fn with_space(k: Cands, c: u32, annex: bool) -> Cands
     requires { ⌜ k .count < 9 ⌝ }
-    requires { ⌜ Good k ⌝ }
+    requires { ⌜ UnderConstruction k ⌝ }
     ensures { λ r. ⌜ Adds k (when (eqb c 0x20) (plain 0x20 1) ++ cond annex [] (when (eqb c 0x3000) (plain 0x20 2))) 1 r ⌝ }
 {
     if c == 0x20 {
@@ -139,7 +139,7 @@ fn letters(c: u32, kanji: u16, symbol: u16, annex: bool) -> Cands
 /// The candidates of `c`, given its cells of the Kanji set and of the additional symbols, row × 256 + cell, 0 for none. A
 /// newline is APR, and a mark is coded by its own cell of the seven.
 pub fn candidates(c: u32, kanji: u16, symbol: u16, annex: bool) -> Cands
-    ensures { λ r. ⌜ Stands c kanji symbol annex r ⌝ }
+    ensures { λ r. ⌜ StandsForCandidates c kanji symbol annex r ⌝ }
 {
     let none = Cands {
         count: 0,

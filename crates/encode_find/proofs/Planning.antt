@@ -15,7 +15,7 @@ use Rattle.coding.specs.Search.{Node, begin, Run, run, newest, least, firstOf, 
 use Rattle.coding.specs.Admissible.{Some, here}
 use Rattle.coding.specs.Tokens.{tokens, inOrder, chars}
 use Rattle.coding.specs.Call.{question7, question8, without, coding, choices, ordering}
-use Rattle.encode_tokens.specs.Contracts.{Holds, Ready, Tokenised, answered}
+use Rattle.encode_tokens.specs.Contracts.{HoldCharacters, Ready, Tokenised, answered}
 use Rattle.encode_tokens.specs.Contracts as tokens-contracts
 use Rattle.encode_tokens.specs.declared.Tokens.{Tokens}
 use Rattle.encode_tokens.specs.declared.Tokens.the-variants as tokens-variants
@@ -56,7 +56,7 @@ module _ (cells : List ℕ) (annexE : Bool) where
   candidates-at (c ∷ cs) zero h = refl
   candidates-at (c ∷ cs) (suc j) h = candidates-at cs j (omega arith)
 
-  chosen-at : (chs ks ss cs : List ℕ) → Holds cells cs chs ks ss → (j : ℕ) → j < length cs → Chosen cells annexE chs ks ss j (getD (candidatesOf cells annexE cs) j [])
+  chosen-at : (chs ks ss cs : List ℕ) → HoldCharacters cells cs chs ks ss → (j : ℕ) → j < length cs → Chosen cells annexE chs ks ss j (getD (candidatesOf cells annexE cs) j [])
   chosen-at chs ks ss cs h j g =
       let e : getD cs j 0 ≡ getD chs j 0 = ap (λ (l : List ℕ). getD l j 0) (sym (h .chars)) ∙ getD-take (length cs) chs j 0 g in
       record { list = candidates-at cs j g ∙ ap (candidates cells annexE) e; kanji = h .kanji j g; symbol = h .symbols j g }

@@ -8,7 +8,7 @@ use lib.ListN.{length}
 use Rattle.base.specs.Lists.{All}
 use Rattle.coding.specs.Candidates.{candidatesOf, restOf}
 use Rattle.coding.specs.Admissible.{Some}
-use Rattle.encode_tokens.specs.Contracts.{Holds}
+use Rattle.encode_tokens.specs.Contracts.{HoldCharacters}
 use Rattle.coding.specs.Search.{begin, run, back, Coded}
 use Rattle.coding.specs.Call.{Lent, coding, Refusal, refuse, question4, question7, question8}
 use Rattle.encode_backtrack.specs.Contracts.{Searched, Held}
@@ -23,7 +23,7 @@ asked cells initial width text store room = record { cells = cells; initial = in
 pub record Characters (annexE : Bool) (chs kanji symbols : List ℕ) (n rest : ℕ) : Type 0 where
   pub cells : List ℕ
   pub chars : List ℕ
-  pub holds : Holds cells chars chs kanji symbols
+  pub holds : HoldCharacters cells chars chs kanji symbols
   pub count : n ≡ length chars
   pub shortest : rest ≡ restOf (candidatesOf cells annexE chars)
   pub each : All (λ cs. Some (λ k. Unit {0}) cs) (candidatesOf cells annexE chars)

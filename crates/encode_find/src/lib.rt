@@ -95,7 +95,7 @@ pub fn find(
     kanji: &mut [u16],
     symbols: &mut [u16],
 ) -> Plan
-    requires { ⌜ (length (now text) ≤ 7281) × tokens.Room (now text) (now chars) (now kanji) (now symbols) ⌝ }
+    requires { ⌜ (length (now text) ≤ 7281) × tokens.ArraysFit (now text) (now chars) (now kanji) (now symbols) ⌝ }
     ensures { λ r. ⌜ ((room : ℕ) → Planned (asked (now (cells .entry)) initial width (now (text .entry)) (now (store .entry)) room) r (now (store .exit)) (now (chars .exit)) (now (kanji .exit)) (now (symbols .exit))) ⌝ }
 {
     let annex = width == 1;

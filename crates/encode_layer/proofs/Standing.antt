@@ -13,7 +13,7 @@ use Rattle.coding.specs.Candidates.{Cand}
 use Rattle.coding.specs.Search.{Node, push, pushAll}
 use Rattle.encode_states.proofs.Dense.{dense, spread, spread-dense, dense-small, below}
 use Rattle.encode_layer.specs.Entries.{Entry, entry, nodeOf, entries, entriesOf, layerOf, entryAt, setEntry}
-use Rattle.encode_layer.specs.Stands.{Sound, Indexed, Room, room, Held, Over, Stands, held, over, Changes, Pushes}
+use Rattle.encode_layer.specs.Layer.{Sound, Indexed, Bounds, bounds, Held, Over, Represents, held, over, Changes, Pushes}
 use Rattle.encode_layer.proofs.Entries.{length-entries, entries-set, length-of, entry-of, before-set}
 use Rattle.encode_layer.proofs.Pigeonhole.{Hit, pigeonhole}
 use Rattle.encode_layer.proofs.Pushing.{blank, push-grows, push-kept, push-replaced, push-new}
@@ -50,21 +50,21 @@ index-snoc ix q e count n l ne h i k = go (decLt i count)
 
 module _ (cs : List Cand) (from cap back most : ℕ) (s ix : List ℕ) (count : ℕ) (e : Entry) (fits : (from + cap) * 4 ≤ length s) (sound : Sound back most e) where
   -- the pushes of one node
-  pushes : (s′ ix′ : List ℕ) (count′ : ℕ) → ((l : List Node) → Stands cs (room from cap back most) s ix count l → Stands cs (room from cap back most) s′ ix′ count′ (push l (nodeOf cs e))) → take (from * 4) s′ ≡ take (from * 4) s → Pushes cs (room from cap back most) s ix count s′ ix′ count′ (nodeOf cs e ∷ [])
+  pushes : (s′ ix′ : List ℕ) (count′ : ℕ) → ((l : List Node) → Represents cs (bounds from cap back most) s ix count l → Represents cs (bounds from cap back most) s′ ix′ count′ (push l (nodeOf cs e))) → take (from * 4) s′ ≡ take (from * 4) s → Pushes cs (bounds from cap back most) s ix count s′ ix′ count′ (nodeOf cs e ∷ [])
   unfolding pushAll
   pushes s′ ix′ count′ f b = record { stands = f; before = b }
 
   -- the layer is full already
-  pub full : cap < count → Pushes cs (room from cap back most) s ix count s ix count (nodeOf cs e ∷ [])
+  pub full : cap < count → Pushes cs (bounds from cap back most) s ix count s ix count (nodeOf cs e ∷ [])
   full h = pushes s ix count go refl
     where
-      go : (l : List Node) → Stands cs (room from cap back most) s ix count l → Stands cs (room from cap back most) s ix count (push l (nodeOf cs e))
+      go : (l : List Node) → Represents cs (bounds from cap back most) s ix count l → Represents cs (bounds from cap back most) s ix count (push l (nodeOf cs e))
       go l (held x) = absurd (omega (arith, x .fits))
       go l (over x) = over (record { full = x .full; more = omega (arith, x .more, push-grows l (nodeOf cs e)); small = x .small })
 
   -- the index tells where the state stands
   module _ (p : ℕ) (le : count ≤ cap) (is : getD ix (e .state) 0 ≡ p) where
-    first : (l : List Node) → Held cs (room from cap back most) s ix count l → (j : ℕ) → j < count → getD (entriesOf s from count) j blank .state ≡ e .state → j ≡ p
+    first : (l : List Node) → Held cs (bounds from cap back most) s ix count l → (j : ℕ) → j < count → getD (entriesOf s from count) j blank .state ≡ e .state → j ≡ p
     first l x j h q =
         let n = length-of s from count (omega arith) in
         sym (x .indexed j (omega arith)) ∙ (ap (λ (k : ℕ). getD ix k 0) q ∙ is)
@@ -73,25 +73,25 @@ module _ (cs : List Cand) (from cap back most : ℕ) (s ix : List ℕ) (count : 
       there : getD (entriesOf s from count) p blank ≡ entryAt s (from + p)
       there = entry-of s from count (omega arith) p blank lt
 
-      pub stays : getD s ((from + p) * 4 + 1) 0 ≤ e .cost → Pushes cs (room from cap back most) s ix count s ix count (nodeOf cs e ∷ [])
+      pub stays : getD s ((from + p) * 4 + 1) 0 ≤ e .cost → Pushes cs (bounds from cap back most) s ix count s ix count (nodeOf cs e ∷ [])
       unfolding layerOf
       stays k = pushes s ix count go refl
         where
-          go : (l : List Node) → Stands cs (room from cap back most) s ix count l → Stands cs (room from cap back most) s ix count (push l (nodeOf cs e))
+          go : (l : List Node) → Represents cs (bounds from cap back most) s ix count l → Represents cs (bounds from cap back most) s ix count (push l (nodeOf cs e))
           go l (over x) = absurd (omega (arith, x .full))
           go l (held x) =
               let n = length-of s from count (omega arith) in
               let q = push-kept cs (entriesOf s from count) e p (omega arith) (ap (λ (y : Entry). y .state) there ∙ same) (λ j i y. omega (arith, first l x j (omega arith) y)) (rw there k) in
               held (record { fits = x .fits; layer = sym q ∙ ap (λ (y : List Node). push y (nodeOf cs e)) (x .layer); indexed = x .indexed; sound = x .sound })
 
-      pub replaces : (s′ : List ℕ) → s′ ≡ setEntry s (from + p) e → e .cost < getD s ((from + p) * 4 + 1) 0 → Pushes cs (room from cap back most) s ix count s′ ix count (nodeOf cs e ∷ [])
+      pub replaces : (s′ : List ℕ) → s′ ≡ setEntry s (from + p) e → e .cost < getD s ((from + p) * 4 + 1) 0 → Pushes cs (bounds from cap back most) s ix count s′ ix count (nodeOf cs e ∷ [])
       unfolding layerOf
       replaces s′ w k = pushes s′ ix count go (ap (take (from * 4)) w ∙ before-set s from (from + p) e (omega arith))
         where
           after : entriesOf s′ from count ≡ set (entriesOf s from count) p e
           after = ap (λ (y : List ℕ). entriesOf y from count) w ∙ of-set s from count e p (omega arith) lt
 
-          index : (l : List Node) → Held cs (room from cap back most) s ix count l → Indexed ix (set (entriesOf s from count) p e)
+          index : (l : List Node) → Held cs (bounds from cap back most) s ix count l → Indexed ix (set (entriesOf s from count) p e)
           index l x i h = at (ℕ-discrete i p)
             where
               n : length (entriesOf s from count) ≡ count
@@ -101,7 +101,7 @@ module _ (cs : List Cand) (from cap back most : ℕ) (s ix : List ℕ) (count : 
               at (yes y) = rw (y, getD-set-same (entriesOf s from count) p e blank (omega (arith, n))) is
               at (no y) = rw (getD-set-other (entriesOf s from count) p i e blank y) (x .indexed i (omega (arith, length-set (entriesOf s from count) p e)))
 
-          go : (l : List Node) → Stands cs (room from cap back most) s ix count l → Stands cs (room from cap back most) s′ ix count (push l (nodeOf cs e))
+          go : (l : List Node) → Represents cs (bounds from cap back most) s ix count l → Represents cs (bounds from cap back most) s′ ix count (push l (nodeOf cs e))
           go l (over x) = absurd (omega (arith, x .full))
           go l (held x) =
               let n = length-of s from count (omega arith) in
@@ -110,37 +110,37 @@ module _ (cs : List Cand) (from cap back most : ℕ) (s ix : List ℕ) (count : 
 
     -- or that it stands nowhere
     module _ (miss : p < count → getD s ((from + p) * 4) 0 ≡ e .state → ⊥) where
-      nowhere : (l : List Node) → Held cs (room from cap back most) s ix count l → (j : ℕ) → j < length (entriesOf s from count) → getD (entriesOf s from count) j blank .state ≡ e .state → ⊥
+      nowhere : (l : List Node) → Held cs (bounds from cap back most) s ix count l → (j : ℕ) → j < length (entriesOf s from count) → getD (entriesOf s from count) j blank .state ≡ e .state → ⊥
       nowhere l x j h q =
           let n = length-of s from count (omega arith) in
           let y = first l x j (omega arith) q in
           miss (omega arith) (ap (λ (k : ℕ). getD s ((from + k) * 4) 0) (sym y) ∙ (sym (ap (λ (y : Entry). y .state) (entry-of s from count (omega arith) j blank (omega arith))) ∙ q))
 
-      grown : (l : List Node) → Held cs (room from cap back most) s ix count l → push l (nodeOf cs e) ≡ map (nodeOf cs) (entriesOf s from count ++ (e ∷ []))
+      grown : (l : List Node) → Held cs (bounds from cap back most) s ix count l → push l (nodeOf cs e) ≡ map (nodeOf cs) (entriesOf s from count ++ (e ∷ []))
       unfolding layerOf
       grown l x = ap (λ (y : List Node). push y (nodeOf cs e)) (sym (x .layer)) ∙ push-new cs (entriesOf s from count) e (nowhere l x)
 
-      pub overflows : count ≡ cap → Pushes cs (room from cap back most) s ix count s ix (count + 1) (nodeOf cs e ∷ [])
+      pub overflows : count ≡ cap → Pushes cs (bounds from cap back most) s ix count s ix (count + 1) (nodeOf cs e ∷ [])
       overflows q = pushes s ix (count + 1) go refl
         where
-          go : (l : List Node) → Stands cs (room from cap back most) s ix count l → Stands cs (room from cap back most) s ix (count + 1) (push l (nodeOf cs e))
+          go : (l : List Node) → Represents cs (bounds from cap back most) s ix count l → Represents cs (bounds from cap back most) s ix (count + 1) (push l (nodeOf cs e))
           go l (over x) = absurd (omega (arith, x .full))
           go l (held x) =
               let n = length-of s from count (omega arith) in
               let y : length (push l (nodeOf cs e)) ≡ count + 1 = ap length (grown l x) ∙ (length-map (entriesOf s from count ++ (e ∷ [])) (nodeOf cs) ∙ (length-append (entriesOf s from count) (e ∷ []) ∙ omega arith)) in
               over (record { full = omega arith; more = omega arith; small = omega (arith, few ix (entriesOf s from count) back most (x .indexed) (x .sound)) })
 
-      pub adds : (s′ ix′ : List ℕ) → count < cap → length ix ≡ 98304 → ix′ ≡ set ix (e .state) count → s′ ≡ setEntry s (from + count) e → Pushes cs (room from cap back most) s ix count s′ ix′ (count + 1) (nodeOf cs e ∷ [])
+      pub adds : (s′ ix′ : List ℕ) → count < cap → length ix ≡ 98304 → ix′ ≡ set ix (e .state) count → s′ ≡ setEntry s (from + count) e → Pushes cs (bounds from cap back most) s ix count s′ ix′ (count + 1) (nodeOf cs e ∷ [])
       unfolding layerOf
       adds s′ ix′ k m v w = pushes s′ ix′ (count + 1) go (ap (take (from * 4)) w ∙ before-set s from (from + count) e (omega arith))
         where
           after : entriesOf s′ from (count + 1) ≡ entriesOf s from count ++ (e ∷ [])
           after = ap (λ (y : List ℕ). entriesOf y from (count + 1)) w ∙ of-new s from count e (omega arith)
 
-          index : (l : List Node) → Held cs (room from cap back most) s ix count l → Indexed (set ix (e .state) count) (entriesOf s from count ++ (e ∷ []))
+          index : (l : List Node) → Held cs (bounds from cap back most) s ix count l → Indexed (set ix (e .state) count) (entriesOf s from count ++ (e ∷ []))
           index l x = index-snoc ix (entriesOf s from count) e count (length-of s from count (omega arith)) (omega (arith, below (e .state) (sound .proper))) (nowhere l x) (x .indexed)
 
-          go : (l : List Node) → Stands cs (room from cap back most) s ix count l → Stands cs (room from cap back most) s′ ix′ (count + 1) (push l (nodeOf cs e))
+          go : (l : List Node) → Represents cs (bounds from cap back most) s ix count l → Represents cs (bounds from cap back most) s′ ix′ (count + 1) (push l (nodeOf cs e))
           go l (over x) = absurd (omega (arith, x .full))
           go l (held x) =
               held (record { fits = omega arith; layer = ap (map (nodeOf cs)) after ∙ sym (grown l x); indexed = rw (v, after) (index l x); sound = rw after (all-append (Sound back most) (entriesOf s from count) (e ∷ []) (x .sound) (sound, tt)) })

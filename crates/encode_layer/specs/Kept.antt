@@ -7,7 +7,7 @@ use Rattle.base.specs.Lists.{All}
 use Rattle.coding.specs.Candidates.{Cand}
 use Rattle.coding.specs.Search.{keep}
 use Rattle.encode_layer.specs.Entries.{entriesOf, layerOf}
-use Rattle.encode_layer.specs.Stands.{Sound}
+use Rattle.encode_layer.specs.Layer.{Sound}
 
 -- the layer is the definition's, the nodes are sound if they were, and the store before the layer is as it was
 pub record Kept (s s′ : List ℕ) (from count most kept : ℕ) : Type 0 where

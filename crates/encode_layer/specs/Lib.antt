@@ -1,3 +1,3 @@
 pub mod Entries
-pub mod Stands
+pub mod Layer
 pub mod Kept

@@ -9,7 +9,7 @@ ghost use Rattle.coding.specs.Candidates.{Cand};
 ghost use Rattle.coding.specs.Search.{least, lower, floorOf};
 ghost use Rattle.encode_states.specs.Packed.{Proper};
 ghost use Rattle.encode_layer.specs.Entries.{entry, setEntry, nodeOf, entriesOf, layerOf};
-ghost use Rattle.encode_layer.specs.Stands.{room, Lent, Pushes};
+ghost use Rattle.encode_layer.specs.Layer.{bounds, HasRoom, Pushes};
 ghost use Rattle.encode_layer.specs.Kept.{Kept};
 
 // Writes a node at a place.
@@ -37,8 +37,8 @@ pub fn push(
     link: u32,
     back: u32,
 ) -> usize
-    requires { ⌜ Lent from cap (now store) (now index) × Proper state ⌝ }
-    ensures { λ r. ⌜ ((cs : List Cand) (most : ℕ) → cost ≤ most → Pushes cs (room from cap back most) (now (store .entry)) (now (index .entry)) count (now (store .exit)) (now (index .exit)) r (nodeOf cs (entry state cost link back) ∷ [])) ⌝ }
+    requires { ⌜ HasRoom from cap (now store) (now index) × Proper state ⌝ }
+    ensures { λ r. ⌜ ((cs : List Cand) (most : ℕ) → cost ≤ most → Pushes cs (bounds from cap back most) (now (store .entry)) (now (index .entry)) count (now (store .exit)) (now (index .exit)) r (nodeOf cs (entry state cost link back) ∷ [])) ⌝ }
 {
     if cap < count {
         return count;

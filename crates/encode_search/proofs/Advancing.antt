@@ -10,7 +10,7 @@ use Rattle.base.proofs.Every.{all-map}
 use Rattle.coding.specs.Candidates.{Cand}
 use Rattle.coding.specs.Search.{Node, reach, least, keep, floorOf}
 use Rattle.encode_layer.specs.Entries.{Entry, nodeOf, entriesOf, layerOf}
-use Rattle.encode_layer.specs.Stands.{Sound, room, Held, Over, Stands, held, over}
+use Rattle.encode_layer.specs.Layer.{Sound, bounds, Held, Over, Represents, held, over}
 use Rattle.encode_layer.specs.Kept.{Kept}
 use Rattle.encode_layer.proofs.Entries.{length-of}
 use Rattle.encode_layer.proofs.Standing.{few}
@@ -33,16 +33,16 @@ module _ (s s₁ ix₁ : List ℕ) (pfrom pcount cap m n : ℕ) (sets codes size
   pub too-many : cap < n → (cs cs₀ : List Cand) → MatchAll cs m sets codes sizes → length s / 4 < pfrom + pcount + length (reach cs (layerOf cs₀ s pfrom pcount) 0 [])
   too-many h cs cs₀ c = go (q .stands cs cs₀ 65526 65535 c a (omega arith))
     where
-      go : Stands cs (room (pfrom + pcount) cap pfrom 65535) s₁ ix₁ n (reach cs (layerOf cs₀ s pfrom pcount) 0 []) → length s / 4 < pfrom + pcount + length (reach cs (layerOf cs₀ s pfrom pcount) 0 [])
+      go : Represents cs (bounds (pfrom + pcount) cap pfrom 65535) s₁ ix₁ n (reach cs (layerOf cs₀ s pfrom pcount) 0 []) → length s / 4 < pfrom + pcount + length (reach cs (layerOf cs₀ s pfrom pcount) 0 [])
       go (held x) = absurd (omega (arith, x .fits))
       go (over x) = omega (arith, x .more, k .exact (x .small))
 
   -- there are not
   module _ (le : n ≤ cap) where
-    holds : (cs cs₀ : List Cand) (b : ℕ) → MatchAll cs m sets codes sizes → All (Able b) (entriesOf s pfrom pcount) → Held cs (room (pfrom + pcount) cap pfrom (b + 9)) s₁ ix₁ n (reach cs (layerOf cs₀ s pfrom pcount) 0 [])
+    holds : (cs cs₀ : List Cand) (b : ℕ) → MatchAll cs m sets codes sizes → All (Able b) (entriesOf s pfrom pcount) → Held cs (bounds (pfrom + pcount) cap pfrom (b + 9)) s₁ ix₁ n (reach cs (layerOf cs₀ s pfrom pcount) 0 [])
     holds cs cs₀ b c x = go (q .stands cs cs₀ b (b + 9) c x (omega arith))
       where
-        go : Stands cs (room (pfrom + pcount) cap pfrom (b + 9)) s₁ ix₁ n (reach cs (layerOf cs₀ s pfrom pcount) 0 []) → Held cs (room (pfrom + pcount) cap pfrom (b + 9)) s₁ ix₁ n (reach cs (layerOf cs₀ s pfrom pcount) 0 [])
+        go : Represents cs (bounds (pfrom + pcount) cap pfrom (b + 9)) s₁ ix₁ n (reach cs (layerOf cs₀ s pfrom pcount) 0 []) → Held cs (bounds (pfrom + pcount) cap pfrom (b + 9)) s₁ ix₁ n (reach cs (layerOf cs₀ s pfrom pcount) 0 [])
         go (held y) = y
         go (over y) = absurd (omega (arith, y .full))
 

@@ -10,7 +10,7 @@ use lib.ListN.{length, getD}
 use borrow.Author.Tests.{eq-eqb, ne-eqb}
 use Rattle.coding.specs.Candidates.{Cand, graphic, plain, candidates, shortest}
 use Rattle.encode_candidates.specs.declared.Cands.{Cands}
-use Rattle.encode_candidates.specs.Packed.{codeOf, candOf, candAt, candsFrom, candsOf, Fits, FitsAt, Stands}
+use Rattle.encode_candidates.specs.Packed.{codeOf, candOf, candAt, candsFrom, candsOf, Fits, FitsAt, StandsForCandidates}
 use Rattle.encode_states.specs.Packed.{setOf}
 use Rattle.encode_layer.specs.Entries.{layerOf}
 use Rattle.encode_ways.specs.Turn.{Matches, MatchAll, lengthOf}
@@ -53,7 +53,7 @@ module _ (k : Cands) where
       }
 
 -- the next layer, for the character
-module _ (s s′ : List ℕ) (pfrom pcount c kanji symbol : ℕ) (annexE : Bool) (rest floor left : ℕ) (k : Cands) (fits : Bool) (count floor′ : ℕ) (p : Stands c kanji symbol annexE k) (e : left ≡ rest - shortest (candsOf k)) (a : Advanced s s′ pfrom pcount (k .count) (k .sets) (k .codes) (k .sizes) left floor fits count floor′) where
+module _ (s s′ : List ℕ) (pfrom pcount c kanji symbol : ℕ) (annexE : Bool) (rest floor left : ℕ) (k : Cands) (fits : Bool) (count floor′ : ℕ) (p : StandsForCandidates c kanji symbol annexE k) (e : left ≡ rest - shortest (candsOf k)) (a : Advanced s s′ pfrom pcount (k .count) (k .sets) (k .codes) (k .sizes) left floor fits count floor′) where
   pub turned : Turned s s′ pfrom pcount c kanji symbol annexE rest floor fits count left floor′
   turned =
       record {

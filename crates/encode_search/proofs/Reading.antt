@@ -13,7 +13,7 @@ use Rattle.coding.specs.Candidates.{Cand}
 use Rattle.coding.specs.Search.{Node, byCands, reach}
 use Rattle.encode_states.specs.Packed.{unpack, Proper}
 use Rattle.encode_layer.specs.Entries.{Entry, entry, nodeOf, entriesOf, layerOf, entryAt}
-use Rattle.encode_layer.specs.Stands.{Sound, Room, room, Held, Stands, held}
+use Rattle.encode_layer.specs.Layer.{Sound, Bounds, bounds, Held, Represents, held}
 use Rattle.encode_layer.proofs.Entries.{length-of, entry-of}
 use Rattle.encode_layer.proofs.Pushing.{blank}
 use Rattle.encode_layer.proofs.Costs.{length-layer}
@@ -63,7 +63,7 @@ reach-more cs ns i z h =
     sym (ap (λ (m : List Node). reach cs m 0 []) e ∙ (reach-snoc cs (take i ns) (getD ns i z) 0 [] ∙ ap (λ (j : ℕ). byCands (getD ns i z) j (reach cs (take i ns) 0 []) cs) k))
 
 -- an empty layer, and the whole one
-pub reach-none : (cs : List Cand) (from cap back most : ℕ) (s ix : List ℕ) (ns : List Node) → Stands cs (room from cap back most) s ix 0 (reach cs (take 0 ns) 0 [])
+pub reach-none : (cs : List Cand) (from cap back most : ℕ) (s ix : List ℕ) (ns : List Node) → Represents cs (bounds from cap back most) s ix 0 (reach cs (take 0 ns) 0 [])
 unfolding reach layerOf entriesOf
 reach-none cs from cap back most s ix ns = held (record { fits = omega arith; layer = refl; indexed = λ i h. absurd (omega arith); sound = tt })
 

@@ -14,11 +14,11 @@ use Rattle.coding.specs.State.{State, start}
 use Rattle.coding.specs.Candidates.{Cand, candidates, candidatesOf, restOf, shortest}
 use Rattle.coding.specs.Search.{Node, node, Run, reach, least, keep, floorOf, newest, layer, run, begin}
 use Rattle.encode_candidates.specs.Packed.{packed}
-use Rattle.encode_tokens.specs.Contracts.{Holds}
+use Rattle.encode_tokens.specs.Contracts.{HoldCharacters}
 use Rattle.encode_states.specs.Packed.{Packs}
 use Rattle.encode_states.specs.Written.{written, writtenAt}
 use Rattle.encode_layer.specs.Entries.{Entry, entry, nodeOf, entriesOf, layerOf, setEntry}
-use Rattle.encode_layer.specs.Stands.{Sound}
+use Rattle.encode_layer.specs.Layer.{Sound}
 use Rattle.encode_layer.proofs.Entries.{same-entries}
 use Rattle.encode_layer.proofs.Standing.{of-new}
 use Rattle.encode_layer.proofs.Costs.{length-layer}
@@ -135,7 +135,7 @@ pub record Going (chs ks ss : List ℕ) (n : ℕ) (annexE : Bool) (rest : ℕ) (
   pub low : from + count ≤ 1 + 48384 * j
   pub left-le : left ≤ 65535
   pub able : All (Able (9 * j)) (entriesOf s from count)
-  pub going : (cells cs : List ℕ) → Holds cells cs chs ks ss → n ≡ length cs → (initial : ℕ) → Begins initial s₀ → At (candidatesOf cells annexE cs) initial rest (length s₀ / 4) s j from count left floor
+  pub going : (cells cs : List ℕ) → HoldCharacters cells cs chs ks ss → n ≡ length cs → (initial : ℕ) → Begins initial s₀ → At (candidatesOf cells annexE cs) initial rest (length s₀ / 4) s j from count left floor
 
 abled : (back most : ℕ) (q : List Entry) → All (Sound back most) q → All (Able most) q
 abled back most q a = all-map (Sound back most) (Able most) q (λ e p. record { proper = p .proper; cheap = p .cheap }) a
@@ -147,7 +147,7 @@ module _ (chs ks ss : List ℕ) (n : ℕ) (annexE : Bool) (rest : ℕ) (s₀ : L
 
   module _ (s ix : List ℕ) (j from count left floor : ℕ) (g : Going chs ks ss n annexE rest s₀ s ix j from count left floor) where
     -- the j-th character's candidates
-    module _ (lt : j < n) (cells cs : List ℕ) (h : Holds cells cs chs ks ss) (k : n ≡ length cs) where
+    module _ (lt : j < n) (cells cs : List ℕ) (h : HoldCharacters cells cs chs ks ss) (k : n ≡ length cs) where
       char-at : getD chs j 0 ≡ getD cs j 0
       char-at = sym (getD-take (length cs) chs j 0 (omega arith)) ∙ ap (λ (l : List ℕ). getD l j 0) (h .chars)
 
@@ -183,14 +183,14 @@ module _ (chs ks ss : List ℕ) (n : ℕ) (annexE : Bool) (rest : ℕ) (s₀ : L
                 rw (add-one, ← g .same) a;
           }
 
-      pub going-full : (e : fits ≡ false) (cells cs : List ℕ) (h : Holds cells cs chs ks ss) (k : n ≡ length cs) (initial : ℕ) → Begins initial s₀ → length s₀ / 4 < found (candidatesOf cells annexE cs) initial .most
+      pub going-full : (e : fits ≡ false) (cells cs : List ℕ) (h : HoldCharacters cells cs chs ks ss) (k : n ≡ length cs) (initial : ℕ) → Begins initial s₀ → length s₀ / 4 < found (candidatesOf cells annexE cs) initial .most
       going-full ef cells cs h k initial b =
           let css = candidatesOf cells annexE cs in
           let fl = t .full cells (h .kanji j (omega arith)) (h .symbols j (omega arith)) ef (lastOf css j) in
           let a = at-full css initial rest s s′ j from count left floor (inside lt cells cs h k) (g .inside) (here lt cells cs h k initial b) (rw (cands-at lt cells cs h k) at fl) in
           rw (g .same) at a
 
-    pub going-end : n ≤ j → (cells cs : List ℕ) → Holds cells cs chs ks ss → n ≡ length cs → rest ≡ restOf (candidatesOf cells annexE cs) → (initial : ℕ) → Begins initial s₀ → Found (candidatesOf cells annexE cs) initial s n from count floor
+    pub going-end : n ≤ j → (cells cs : List ℕ) → HoldCharacters cells cs chs ks ss → n ≡ length cs → rest ≡ restOf (candidatesOf cells annexE cs) → (initial : ℕ) → Begins initial s₀ → Found (candidatesOf cells annexE cs) initial s n from count floor
     unfolding run
     going-end le cells cs h k er initial b =
         let css = candidatesOf cells annexE cs in

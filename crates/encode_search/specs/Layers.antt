@@ -10,10 +10,10 @@ use Rattle.coding.specs.Candidates.{Cand, candidates, candidatesOf, restOf, sho
 use Rattle.coding.specs.Search.{Node, node, Run, reach, least, keep, floorOf, run, begin}
 use Rattle.tables_reverse.specs.Reverse.{kanjiReverse, additionalReverse}
 use Rattle.encode_candidates.specs.Packed.{packed}
-use Rattle.encode_tokens.specs.Contracts.{Holds}
+use Rattle.encode_tokens.specs.Contracts.{HoldCharacters}
 use Rattle.encode_states.specs.Packed.{Proper}
 use Rattle.encode_layer.specs.Entries.{Entry, entriesOf, layerOf}
-use Rattle.encode_layer.specs.Stands.{Sound, room, Stands}
+use Rattle.encode_layer.specs.Layer.{Sound, bounds, Represents}
 use Rattle.encode_ways.specs.Turn.{MatchAll}
 
 -- a node whose successors have room: its state can be reached, and its cost is small
@@ -25,7 +25,7 @@ pub record Able (most : ℕ) (e : Entry) : Type 0 where
 -- m candidates
 pub record Reached (s s′ ix′ : List ℕ) (pfrom pcount cap m : ℕ) (sets codes sizes : List ℕ) (r : ℕ) : Type 0 where
   pub before : take ((pfrom + pcount) * 4) s′ ≡ take ((pfrom + pcount) * 4) s
-  pub stands : (cs cs₀ : List Cand) (b most : ℕ) → MatchAll cs m sets codes sizes → All (Able b) (entriesOf s pfrom pcount) → b + 9 ≤ most → Stands cs (room (pfrom + pcount) cap pfrom most) s′ ix′ r (reach cs (layerOf cs₀ s pfrom pcount) 0 [])
+  pub stands : (cs cs₀ : List Cand) (b most : ℕ) → MatchAll cs m sets codes sizes → All (Able b) (entriesOf s pfrom pcount) → b + 9 ≤ most → Represents cs (bounds (pfrom + pcount) cap pfrom most) s′ ix′ r (reach cs (layerOf cs₀ s pfrom pcount) 0 [])
 
 -- how many nodes have room from the node from on, in a store of len numbers; more than any layer has count as one more than that
 pub record Capped (len from cap : ℕ) : Type 0 where
@@ -79,8 +79,8 @@ pub record Found (css : List (List Cand)) (initial : ℕ) (s : List ℕ) (n from
 -- fit the store, and where they are then.
 pub record Searched (chs ks ss : List ℕ) (n : ℕ) (annexE : Bool) (initial rest : ℕ) (s s′ : List ℕ) (fits : Bool) (from count floor : ℕ) : Type 0 where
   pub inside : fits ≡ true → (from + count) * 4 ≤ length s
-  pub full : (cells cs : List ℕ) → Holds cells cs chs ks ss → n ≡ length cs → fits ≡ false → length s / 4 < found (candidatesOf cells annexE cs) initial .most
-  pub done : (cells cs : List ℕ) → Holds cells cs chs ks ss → n ≡ length cs → rest ≡ restOf (candidatesOf cells annexE cs) → fits ≡ true → Found (candidatesOf cells annexE cs) initial s′ n from count floor
+  pub full : (cells cs : List ℕ) → HoldCharacters cells cs chs ks ss → n ≡ length cs → fits ≡ false → length s / 4 < found (candidatesOf cells annexE cs) initial .most
+  pub done : (cells cs : List ℕ) → HoldCharacters cells cs chs ks ss → n ≡ length cs → rest ≡ restOf (candidatesOf cells annexE cs) → fits ≡ true → Found (candidatesOf cells annexE cs) initial s′ n from count floor
 
 -- the start stands in the store
 abbrev pub Begins : ℕ → List ℕ → Type 0

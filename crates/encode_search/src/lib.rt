@@ -7,7 +7,7 @@ ghost use lib.ListN.{length, take};
 ghost use Rattle.base.specs.Lists.{All};
 ghost use Rattle.coding.specs.Candidates.{Cand};
 ghost use Rattle.encode_layer.specs.Entries.{entriesOf};
-ghost use Rattle.encode_layer.specs.Stands.{Lent};
+ghost use Rattle.encode_layer.specs.Layer.{HasRoom};
 ghost use Rattle.encode_search.specs.Layers.{Able, Reached, Capped, Advanced, Turned, Begins, Arrays, Searched};
 
 // Every state that the pcount nodes from the node pfrom on reach by the m candidates, behind them.
@@ -23,7 +23,7 @@ fn reach<'a>(
     codes: &'a [u16; 9],
     sizes: &'a [u8; 9],
 ) -> usize
-    requires { ⌜ Lent (pfrom + pcount) cap (now store) (now index) × (pfrom < 4294967296) × (pcount ≤ 131072) × (m ≤ 9) × All (Able 65535) (entriesOf (now store) pfrom pcount) ⌝ }
+    requires { ⌜ HasRoom (pfrom + pcount) cap (now store) (now index) × (pfrom < 4294967296) × (pcount ≤ 131072) × (m ≤ 9) × All (Able 65535) (entriesOf (now store) pfrom pcount) ⌝ }
     ensures { λ c. ⌜ Reached (now (store .entry)) (now (store .exit)) (now (index .exit)) pfrom pcount cap m (now (sets .entry)) (now (codes .entry)) (now (sizes .entry)) c ⌝ }
 {
     let from = pfrom + pcount;

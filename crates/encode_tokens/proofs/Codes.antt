@@ -9,7 +9,7 @@ use lib.ListN.{getD, set}
 use Rattle.tables_reverse.specs.Reverse.{kanjiReverse, additionalReverse}
 use Rattle.coding.specs.Candidates.{graphic, plain, candidates, codeLength, shortest}
 use Rattle.encode_candidates.specs.declared.Cands.{Cands}
-use Rattle.encode_candidates.specs.Packed.{packed, codeOf, candOf, candAt, candsFrom, candsOf, Stands}
+use Rattle.encode_candidates.specs.Packed.{packed, codeOf, candOf, candAt, candsFrom, candsOf, StandsForCandidates}
 use Rattle.encode_states.specs.Packed.{setOf}
 use Rattle.encode_tokens.specs.Steps.{Appended}
 
@@ -50,7 +50,7 @@ shortest-none k i (suc n) e = absurd (omega (arith, shortest-length k i n .least
 
 -- a character, its two cells, and the shortest of its candidates
 pub appended : (cells : List ℕ) (annexE : Bool) (c n : ℕ) (chs ks ss : List ℕ) (kanji symbol : ℕ) (k : Cands) (r : ℕ)
-    → kanji ≡ packed (kanjiReverse cells c) → symbol ≡ packed (additionalReverse c) → Stands c kanji symbol annexE k → r ≡ shortest (candsOf k)
+    → kanji ≡ packed (kanjiReverse cells c) → symbol ≡ packed (additionalReverse c) → StandsForCandidates c kanji symbol annexE k → r ≡ shortest (candsOf k)
     → Appended cells annexE c n chs ks ss r (set chs n c) (set ks n kanji) (set ss n symbol)
 unfolding candsOf
 appended cells annexE c n chs ks ss kanji symbol k r p q s e =

@@ -16,7 +16,7 @@ use Rattle.coding.specs.Tokens as coding
 use Rattle.coding.specs.Tokens.{Token, tokens, inOrder, ordered}
 use Rattle.coding.specs.Call as call
 use Rattle.encode_candidates.specs.Packed.{packed}
-use Rattle.encode_tokens.specs.Contracts.{Room, Ready}
+use Rattle.encode_tokens.specs.Contracts.{ArraysFit, Ready}
 use Rattle.encode_tokens.specs.declared.Next.{Next}
 use Rattle.encode_tokens.specs.Steps.{token, Orders, Within, Appended, Missing}
 use Rattle.encode_tokens.proofs.Texts.{from, from-first, Read}
@@ -115,7 +115,7 @@ pub record Loop (cells : List ℕ) (annexE : Bool) (text chs₀ ks₀ ss₀ chs 
   pub kanji : length ks ≡ length ks₀
   pub symbols : length ss ≡ length ss₀
 
-module _ {cells : List ℕ} {annexE : Bool} {text chs₀ ks₀ ss₀ chs ks ss : List ℕ} {b bp at n r : ℕ} (l : Loop cells annexE text chs₀ ks₀ ss₀ chs ks ss b bp at n r) (room : Room text chs₀ ks₀ ss₀) where
+module _ {cells : List ℕ} {annexE : Bool} {text chs₀ ks₀ ss₀ chs ks ss : List ℕ} {b bp at n r : ℕ} (l : Loop cells annexE text chs₀ ks₀ ss₀ chs ks ss b bp at n r) (room : ArraysFit text chs₀ ks₀ ss₀) where
   pub loop-within : Within n chs ks ss
   loop-within =
       record {

@@ -15,20 +15,20 @@ use Rattle.encode_tokens.specs.declared.Tokens.{Tokens}
 use Rattle.encode_tokens.specs.declared.Tokens.the-variants.{Ordered, Refused}
 
 -- the arrays have room for the characters of a text
-pub record Room (text chs ks ss : List ℕ) : Type 0 where
+pub record ArraysFit (text chs ks ss : List ℕ) : Type 0 where
   pub chars : length text ≤ length chs
   pub kanji : length text ≤ length ks
   pub symbols : length text ≤ length ss
 
 -- the arrays hold characters, each with its cell of the Kanji set and of the additional symbols
-pub record Holds (cells cs chs ks ss : List ℕ) : Type 0 where
+pub record HoldCharacters (cells cs chs ks ss : List ℕ) : Type 0 where
   pub chars : take (length cs) chs ≡ cs
   pub kanji : (i : ℕ) → i < length cs → getD ks i 0 ≡ packed (kanjiReverse cells (getD chs i 0))
   pub symbols : (i : ℕ) → i < length cs → getD ss i 0 ≡ packed (additionalReverse (getD chs i 0))
 
 -- They hold the text's characters, n in number, each of which has a candidate; r is the sum of their shortest codes.
 pub record Ready (cells : List ℕ) (annexE : Bool) (text : List ℕ) (n r : ℕ) (chs kanji symbols : List ℕ) : Type 0 where
-  pub holds : Holds cells (chars (inOrder (tokens text))) chs kanji symbols
+  pub holds : HoldCharacters cells (chars (inOrder (tokens text))) chs kanji symbols
   pub count : n ≡ length (chars (inOrder (tokens text)))
   pub few : n ≤ length text
   pub each : without (inOrder (tokens text)) (candidatesOf cells annexE (chars (inOrder (tokens text)))) ≡ none

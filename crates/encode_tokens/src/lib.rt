@@ -4,7 +4,7 @@ use utf8::Text;
 ghost use mathlib.Core.Path.{_≡_};
 ghost use mathlib.Core.Bool.{false};
 ghost use Rattle.coding.specs.Tokens.{tokens, baseless};
-ghost use Rattle.encode_tokens.specs.Contracts.{Room, Tokenised};
+ghost use Rattle.encode_tokens.specs.Contracts.{ArraysFit, Tokenised};
 ghost use Rattle.encode_tokens.specs.Steps.{basesOf, Orders, Within, Appended, Ordering};
 
 /// What questions 4 to 6 say.
@@ -105,7 +105,7 @@ fn in_order(
     kanji: &mut [u16],
     symbols: &mut [u16],
 ) -> Tokens
-    requires { ⌜ Room (now text) (now chars) (now kanji) (now symbols) ⌝ }
+    requires { ⌜ ArraysFit (now text) (now chars) (now kanji) (now symbols) ⌝ }
     ensures { λ r. ⌜ Ordering (now (t .entry)) annex (now (text .entry)) r (now (chars .exit)) (now (kanji .exit)) (now (symbols .exit)) ⌝ }
 {
     let first = utf8::read(text, 0);
@@ -159,7 +159,7 @@ pub fn tokenise(
     kanji: &mut [u16],
     symbols: &mut [u16],
 ) -> Tokens
-    requires { ⌜ Room (now text) (now chars) (now kanji) (now symbols) ⌝ }
+    requires { ⌜ ArraysFit (now text) (now chars) (now kanji) (now symbols) ⌝ }
     ensures { λ r. ⌜ Tokenised (now (t .entry)) annex (now (text .entry)) r (now (chars .exit)) (now (kanji .exit)) (now (symbols .exit)) ⌝ }
 {
     let fault = utf8::first_fault(text);

@@ -14,11 +14,11 @@ use Rattle.encode_states.specs.Packed.{unpack}
 use Rattle.encode_states.specs.Written.{written, invocation, half}
 use Rattle.encode_states.proofs.Elements.{lock-right, single-one}
 use Rattle.encode_layer.specs.Entries.{entry, nodeOf}
-use Rattle.encode_layer.specs.Stands.{Room, Stands, Changes, Pushes}
+use Rattle.encode_layer.specs.Layer.{Bounds, Represents, Changes, Pushes}
 use Rattle.encode_ways.specs.Turn.{Turn, bytesOf, Through}
 
 -- nothing is pushed; more is pushed
-pub none : (cs : List Cand) (r : Room) (s ix : List ℕ) (count : ℕ) → Pushes cs r s ix count s ix count []
+pub none : (cs : List Cand) (r : Bounds) (s ix : List ℕ) (count : ℕ) → Pushes cs r s ix count s ix count []
 unfolding pushAll
 none cs r s ix count = record { stands = λ l x. x; before = refl }
 
@@ -27,11 +27,11 @@ unfolding pushAll
 push-append l [] ms = refl
 push-append l (n ∷ ns) ms = push-append (push l n) ns ms
 
-module _ {cs : List Cand} {r : Room} {s ix s₁ ix₁ s₂ ix₂ : List ℕ} {count count₁ count₂ : ℕ} where
+module _ {cs : List Cand} {r : Bounds} {s ix s₁ ix₁ s₂ ix₂ : List ℕ} {count count₁ count₂ : ℕ} where
   pub and : (ns ms : List Node) → Pushes cs r s ix count s₁ ix₁ count₁ ns → Pushes cs r s₁ ix₁ count₁ s₂ ix₂ count₂ ms → Pushes cs r s ix count s₂ ix₂ count₂ (ns ++ ms)
   and ns ms a b = record { stands = λ l x. rw (push-append l ns ms) (b .stands (pushAll l ns) (a .stands l x)); before = b .before ∙ a .before }
 
-module _ {cs : List Cand} {r : Room} {s ix s′ ix′ : List ℕ} {count count′ : ℕ} where
+module _ {cs : List Cand} {r : Bounds} {s ix s′ ix′ : List ℕ} {count count′ : ℕ} where
   pub pushes-as : (ns ms : List Node) → ns ≡ ms → Pushes cs r s ix count s′ ix′ count′ ns → Pushes cs r s ix count s′ ix′ count′ ms
   pushes-as ns ms e a = subst (λ (x : List Node). Pushes cs r s ix count s′ ix′ count′ x) e a
 

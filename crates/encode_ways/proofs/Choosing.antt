@@ -17,7 +17,7 @@ use Rattle.encode_states.specs.Packed.{setOf, unpack, Proper, Packs}
 use Rattle.encode_states.specs.Written.{sizeControl, invocation, half, writtenBy, writtenAt, written, howOf}
 use Rattle.encode_states.proofs.Bytes.{written-how, written-at}
 use Rattle.encode_layer.specs.Entries.{entry, nodeOf}
-use Rattle.encode_layer.specs.Stands.{Room, Pushes}
+use Rattle.encode_layer.specs.Layer.{Bounds, Pushes}
 use Rattle.encode_ways.specs.Turn.{Turn, By, Control, Matches, MatchAll, Is, lengthOf, prefix, bytesOf}
 use Rattle.encode_ways.proofs.Chain.{pushes-as}
 
@@ -119,7 +119,7 @@ module _ (cs ks : List Cand) (n : Node) (a b x size len cost link z c back : ℕ
       let ec : cost + c + 1 ≡ n .cost + length (sizeBytes (n .state) w ++ (y ∷ [])) = omega (arith, i .costs, ap length eb, length-append (sizeBytes (unpack a) size) (y ∷ [])) in
       λ j. record { state = es j; cost = ec j; prev = ep j; bytes = ew j }
 
-  module _ {r : Room} {s ix s′ ix′ : List ℕ} {count count′ : ℕ} where
+  module _ {r : Bounds} {s ix s′ ix′ : List ℕ} {count count′ : ℕ} where
     pub as-plain : (k : Cand) → drop (link / 131072) cs ≡ k ∷ ks → Matches x size len k → 6 ≤ x → Pushes cs r s ix count s′ ix′ count′ (nodeOf cs (entry b (cost + c + 1) (link + z * 2097152) back) ∷ []) → Pushes cs r s ix count s′ ix′ count′ (byCand n (link % 131072) k)
     unfolding Matches byCand
     as-plain (graphic y code w) at m e p = absurd (omega (arith, m .0))

@@ -15,7 +15,7 @@ use Rattle.coding.specs.Search.{Node, byWays}
 use Rattle.encode_states.specs.Packed.{setOf, unpack, Codes}
 use Rattle.encode_states.specs.Written.{written, invocation, half}
 use Rattle.encode_states.proofs.Same.{one-set}
-use Rattle.encode_layer.specs.Stands.{Room, Pushes}
+use Rattle.encode_layer.specs.Layer.{Bounds, Pushes}
 use Rattle.encode_ways.specs.Turn.{Turn, Through, By, prefix, bytesOf, upTo}
 use Rattle.encode_ways.proofs.Chain.{none, and, pushes-as, reached}
 
@@ -78,7 +78,7 @@ byWays-append t [] vs = refl
 byWays-append t (w ∷ ws) vs = ap (λ (l : List Node). reached t (w .pre) (w .to) (w .hi) ∷ l) (byWays-append t ws vs)
 
 -- the pushes through a code element are those of `byElement`
-module _ {cs : List Cand} {r : Room} {s ix s′ ix′ : List ℕ} {count count′ : ℕ} (t : Turn) (q : State) (n y x b : ℕ) (c : Codes y (setIn q n)) (e : unpack b ≡ designate q n (setOf x)) where
+module _ {cs : List Cand} {r : Bounds} {s ix s′ ix′ : List ℕ} {count count′ : ℕ} (t : Turn) (q : State) (n y x b : ℕ) (c : Codes y (setIn q n)) (e : unpack b ≡ designate q n (setOf x)) where
   pub element-standing : y ≡ x → Pushes cs r s ix count s′ ix′ count′ (byWays (t .base) (t .place) (t .pre) (t .code) (through [] (unpack b) n)) → Pushes cs r s ix count s′ ix′ count′ (byWays (t .base) (t .place) (t .pre) (t .code) (byElement q (setOf x) n))
   element-standing h p = pushes-as _ _ (ap (byWays (t .base) (t .place) (t .pre) (t .code)) (ap (λ (z : State). through [] z n) e ∙ sym (stands-there q n y x c h))) p
 
@@ -86,11 +86,11 @@ module _ {cs : List Cand} {r : Room} {s ix s′ ix′ : List ℕ} {count count�
   element-designated h p = pushes-as _ _ (ap (byWays (t .base) (t .place) (t .pre) (t .code)) (ap (λ (z : State). through (designation (setOf x) n) z n) e ∙ sym (is-designated q n y x c h))) p
 
 -- no code element, and one more
-pub up-none : (cs : List Cand) (r : Room) (s ix : List ℕ) (count : ℕ) (t : Turn) (q : State) (x : ℕ) → Pushes cs r s ix count s ix count (byWays (t .base) (t .place) (t .pre) (t .code) (upTo q x 0))
+pub up-none : (cs : List Cand) (r : Bounds) (s ix : List ℕ) (count : ℕ) (t : Turn) (q : State) (x : ℕ) → Pushes cs r s ix count s ix count (byWays (t .base) (t .place) (t .pre) (t .code) (upTo q x 0))
 unfolding upTo byWays
 up-none cs r s ix count t q x = none cs r s ix count
 
-pub up-one : {cs : List Cand} {r : Room} {s ix s₁ ix₁ s₂ ix₂ : List ℕ} {count count₁ count₂ : ℕ} (t : Turn) (q : State) (x n : ℕ) → Pushes cs r s ix count s₁ ix₁ count₁ (byWays (t .base) (t .place) (t .pre) (t .code) (upTo q x n)) → Pushes cs r s₁ ix₁ count₁ s₂ ix₂ count₂ (byWays (t .base) (t .place) (t .pre) (t .code) (byElement q x n)) → Pushes cs r s ix count s₂ ix₂ count₂ (byWays (t .base) (t .place) (t .pre) (t .code) (upTo q x (n + 1)))
+pub up-one : {cs : List Cand} {r : Bounds} {s ix s₁ ix₁ s₂ ix₂ : List ℕ} {count count₁ count₂ : ℕ} (t : Turn) (q : State) (x n : ℕ) → Pushes cs r s ix count s₁ ix₁ count₁ (byWays (t .base) (t .place) (t .pre) (t .code) (upTo q x n)) → Pushes cs r s₁ ix₁ count₁ s₂ ix₂ count₂ (byWays (t .base) (t .place) (t .pre) (t .code) (byElement q x n)) → Pushes cs r s ix count s₂ ix₂ count₂ (byWays (t .base) (t .place) (t .pre) (t .code) (upTo q x (n + 1)))
 unfolding upTo
 up-one t q x n a b =
     pushes-as _ _ (sym (ap (λ (m : ℕ). byWays (t .base) (t .place) (t .pre) (t .code) (upTo q x m)) (add-one n) ∙ byWays-append t (upTo q x n) (byElement q x n)))

@@ -11,7 +11,7 @@ use lib.Seq.{take-suc, take-all, drop-cons}
 use borrow.Author.Tests.{lt-ltb, le-ltb}
 use Rattle.coding.specs.Candidates.{Cand, plain}
 use Rattle.coding.specs.Search.{Node, pushAll, byCand, byCands}
-use Rattle.encode_layer.specs.Stands.{Room, Stands, Changes, Pushes}
+use Rattle.encode_layer.specs.Layer.{Bounds, Represents, Changes, Pushes}
 use Rattle.encode_ways.specs.Turn.{lengthOf}
 
 pub one-byte-code : (code : ℕ) → code < 256 → 1 ≡ lengthOf code
@@ -31,14 +31,14 @@ few-bytes-code code = go (ltb code 256)
     go false = omega arith
 
 -- a change seen as another function, no change, and pushes after a change
-module _ {cs : List Cand} {r : Room} {s ix s′ ix′ : List ℕ} {count count′ : ℕ} where
+module _ {cs : List Cand} {r : Bounds} {s ix s′ ix′ : List ℕ} {count count′ : ℕ} where
   pub changes-as : (f g : List Node → List Node) → ((l : List Node) → f l ≡ g l) → Changes cs r s ix count s′ ix′ count′ f → Changes cs r s ix count s′ ix′ count′ g
-  changes-as f g e c = record { stands = λ l x. subst (Stands cs r s′ ix′ count′) (e l) (c .stands l x); before = c .before }
+  changes-as f g e c = record { stands = λ l x. subst (Represents cs r s′ ix′ count′) (e l) (c .stands l x); before = c .before }
 
-pub no-change : (cs : List Cand) (r : Room) (s ix : List ℕ) (count : ℕ) → Changes cs r s ix count s ix count (λ l. l)
+pub no-change : (cs : List Cand) (r : Bounds) (s ix : List ℕ) (count : ℕ) → Changes cs r s ix count s ix count (λ l. l)
 no-change cs r s ix count = record { stands = λ l x. x; before = refl }
 
-module _ {cs : List Cand} {r : Room} {s ix s₁ ix₁ s₂ ix₂ : List ℕ} {count count₁ count₂ : ℕ} where
+module _ {cs : List Cand} {r : Bounds} {s ix s₁ ix₁ s₂ ix₂ : List ℕ} {count count₁ count₂ : ℕ} where
   pub then : (f g : List Node → List Node) → Changes cs r s ix count s₁ ix₁ count₁ f → Changes cs r s₁ ix₁ count₁ s₂ ix₂ count₂ g → Changes cs r s ix count s₂ ix₂ count₂ (λ l. g (f l))
   then f g a b = record { stands = λ l x. b .stands (f l) (a .stands l x); before = b .before ∙ a .before }
 

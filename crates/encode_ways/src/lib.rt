@@ -11,7 +11,7 @@ ghost use Rattle.coding.specs.Ways.{through, byElement, ways};
 ghost use Rattle.coding.specs.Search.{Node, sizeBytes, sized, byWays, byCand, byCands};
 ghost use Rattle.encode_states.specs.Packed.{setOf, unpack, Proper, Packs, Codes, Element};
 ghost use Rattle.encode_states.specs.Written.{sizeControl};
-ghost use Rattle.encode_layer.specs.Stands.{room, Lent, Changes, Pushes};
+ghost use Rattle.encode_layer.specs.Layer.{bounds, HasRoom, Changes, Pushes};
 ghost use Rattle.encode_ways.specs.Turn.{Apart, Invoked, Sized, Small, Turn, Through, By, upTo, Control, Is, Matches, lengthOf, MatchAll};
 
 // What the invocations add to a link: as the code element stands in GR, by a locking shift to GL, by
@@ -46,8 +46,8 @@ fn by_shift(
     link: u32,
     back: u32,
 ) -> usize
-    requires { ⌜ Lent from cap (now store) (now index) × Proper a × Apart (unpack a) n × Sized cost link × (n < 4) ⌝ }
-    ensures { λ c. ⌜ ((cs : List Cand) (most : ℕ) (t : Turn) (p : List ℕ) → Through cs t p n cost link → cost + 2 ≤ most → Pushes cs (room from cap back most) (now (store .entry)) (now (index .entry)) count (now (store .exit)) (now (index .exit)) c (byWays (t .base) (t .place) (t .pre) (t .code) (through p (unpack a) n))) ⌝ }
+    requires { ⌜ HasRoom from cap (now store) (now index) × Proper a × Apart (unpack a) n × Sized cost link × (n < 4) ⌝ }
+    ensures { λ c. ⌜ ((cs : List Cand) (most : ℕ) (t : Turn) (p : List ℕ) → Through cs t p n cost link → cost + 2 ≤ most → Pushes cs (bounds from cap back most) (now (store .entry)) (now (index .entry)) count (now (store .exit)) (now (index .exit)) c (byWays (t .base) (t .place) (t .pre) (t .code) (through p (unpack a) n))) ⌝ }
 {
     let left = encode_states::to_gl(a, n);
     let lock = cost + encode_states::lock_length(n);
@@ -108,8 +108,8 @@ fn through(
     link: u32,
     back: u32,
 ) -> usize
-    requires { ⌜ Lent from cap (now store) (now index) × Proper a × Invoked (unpack a) l r × Sized cost link × (n < 4) ⌝ }
-    ensures { λ c. ⌜ ((cs : List Cand) (most : ℕ) (t : Turn) (p : List ℕ) → Through cs t p n cost link → cost + 2 ≤ most → Pushes cs (room from cap back most) (now (store .entry)) (now (index .entry)) count (now (store .exit)) (now (index .exit)) c (byWays (t .base) (t .place) (t .pre) (t .code) (through p (unpack a) n))) ⌝ }
+    requires { ⌜ HasRoom from cap (now store) (now index) × Proper a × Invoked (unpack a) l r × Sized cost link × (n < 4) ⌝ }
+    ensures { λ c. ⌜ ((cs : List Cand) (most : ℕ) (t : Turn) (p : List ℕ) → Through cs t p n cost link → cost + 2 ≤ most → Pushes cs (bounds from cap back most) (now (store .entry)) (now (index .entry)) count (now (store .exit)) (now (index .exit)) c (byWays (t .base) (t .place) (t .pre) (t .code) (through p (unpack a) n))) ⌝ }
 {
     if l == n {
         let c = encode_layer::push(
@@ -182,8 +182,8 @@ fn by_element(
     link: u32,
     back: u32,
 ) -> usize
-    requires { ⌜ Lent from cap (now store) (now index) × Proper a × Invoked (unpack a) l r × Small cost link × (n < 4) × (x < 6) ⌝ }
-    ensures { λ c. ⌜ ((cs : List Cand) (most : ℕ) (t : Turn) → By cs t x cost link → cost + 6 ≤ most → Pushes cs (room from cap back most) (now (store .entry)) (now (index .entry)) count (now (store .exit)) (now (index .exit)) c (byWays (t .base) (t .place) (t .pre) (t .code) (byElement (unpack a) (setOf x) n))) ⌝ }
+    requires { ⌜ HasRoom from cap (now store) (now index) × Proper a × Invoked (unpack a) l r × Small cost link × (n < 4) × (x < 6) ⌝ }
+    ensures { λ c. ⌜ ((cs : List Cand) (most : ℕ) (t : Turn) → By cs t x cost link → cost + 6 ≤ most → Pushes cs (bounds from cap back most) (now (store .entry)) (now (index .entry)) count (now (store .exit)) (now (index .exit)) c (byWays (t .base) (t .place) (t .pre) (t .code) (byElement (unpack a) (setOf x) n))) ⌝ }
 {
     let b = encode_states::designate(a, n, x);
     let mut more = cost;
@@ -221,8 +221,8 @@ fn by_elements(
     link: u32,
     back: u32,
 ) -> usize
-    requires { ⌜ Lent from cap (now store) (now index) × Proper a × Small cost link × (x < 6) ⌝ }
-    ensures { λ c. ⌜ ((cs : List Cand) (most : ℕ) (t : Turn) → By cs t x cost link → cost + 6 ≤ most → Pushes cs (room from cap back most) (now (store .entry)) (now (index .entry)) count (now (store .exit)) (now (index .exit)) c (byWays (t .base) (t .place) (t .pre) (t .code) (upTo (unpack a) (setOf x) 4))) ⌝ }
+    requires { ⌜ HasRoom from cap (now store) (now index) × Proper a × Small cost link × (x < 6) ⌝ }
+    ensures { λ c. ⌜ ((cs : List Cand) (most : ℕ) (t : Turn) → By cs t x cost link → cost + 6 ≤ most → Pushes cs (bounds from cap back most) (now (store .entry)) (now (index .entry)) count (now (store .exit)) (now (index .exit)) c (byWays (t .base) (t .place) (t .pre) (t .code) (upTo (unpack a) (setOf x) 4))) ⌝ }
 {
     let l = encode_states::gl(a);
     let r = encode_states::gr(a);
@@ -262,8 +262,8 @@ fn by_ways(
     link: u32,
     back: u32,
 ) -> usize
-    requires { ⌜ Lent from cap (now store) (now index) × Proper a × Small cost link × (x < 6) ⌝ }
-    ensures { λ c. ⌜ ((cs : List Cand) (most : ℕ) (t : Turn) → By cs t x cost link → cost + 6 ≤ most → Pushes cs (room from cap back most) (now (store .entry)) (now (index .entry)) count (now (store .exit)) (now (index .exit)) c (byWays (t .base) (t .place) (t .pre) (t .code) (ways (unpack a) (setOf x)))) ⌝ }
+    requires { ⌜ HasRoom from cap (now store) (now index) × Proper a × Small cost link × (x < 6) ⌝ }
+    ensures { λ c. ⌜ ((cs : List Cand) (most : ℕ) (t : Turn) → By cs t x cost link → cost + 6 ≤ most → Pushes cs (bounds from cap back most) (now (store .entry)) (now (index .entry)) count (now (store .exit)) (now (index .exit)) c (byWays (t .base) (t .place) (t .pre) (t .code) (ways (unpack a) (setOf x)))) ⌝ }
 {
     let left = encode_states::set_in(a, encode_states::gl(a));
     let right = encode_states::set_in(a, encode_states::gr(a));
@@ -378,8 +378,8 @@ fn by_candidate(
     link: u32,
     back: u32,
 ) -> usize
-    requires { ⌜ Lent from cap (now store) (now index) × Proper a × (cost ≤ 65535) × (len ≤ 2) × (link < 2097152) ⌝ }
-    ensures { λ c. ⌜ ((cs : List Cand) (k : Cand) (ks : List Cand) (most : ℕ) (n : Node) → drop (link / 131072) cs ≡ k ∷ ks → Matches x size len k → Is n a cost → cost + 9 ≤ most → Pushes cs (room from cap back most) (now (store .entry)) (now (index .entry)) count (now (store .exit)) (now (index .exit)) c (byCand n (link % 131072) k)) ⌝ }
+    requires { ⌜ HasRoom from cap (now store) (now index) × Proper a × (cost ≤ 65535) × (len ≤ 2) × (link < 2097152) ⌝ }
+    ensures { λ c. ⌜ ((cs : List Cand) (k : Cand) (ks : List Cand) (most : ℕ) (n : Node) → drop (link / 131072) cs ≡ k ∷ ks → Matches x size len k → Is n a cost → cost + 9 ≤ most → Pushes cs (bounds from cap back most) (now (store .entry)) (now (index .entry)) count (now (store .exit)) (now (index .exit)) c (byCand n (link % 131072) k)) ⌝ }
 {
     let b = sized(a, size);
     let z = size_control(a, size);
@@ -441,9 +441,9 @@ pub fn by_candidates<'a>(
     codes: &'a [u16; 9],
     sizes: &'a [u8; 9],
 ) -> usize
-    requires { ⌜ Lent from cap (now store) (now index) × Proper a × (cost ≤ 65535) × (i < 131072) × (m ≤ 9) ⌝ }
+    requires { ⌜ HasRoom from cap (now store) (now index) × Proper a × (cost ≤ 65535) × (i < 131072) × (m ≤ 9) ⌝ }
     ensures kept { λ _. ⌜ take (from * 4) (now (store .exit)) ≡ take (from * 4) (now (store .entry)) ⌝ }
-    ensures reached { λ c. ⌜ ((cs : List Cand) (most : ℕ) (n : Node) → MatchAll cs m (now (sets .entry)) (now (codes .entry)) (now (sizes .entry)) → Is n a cost → cost + 9 ≤ most → Changes cs (room from cap back most) (now (store .entry)) (now (index .entry)) count (now (store .exit)) (now (index .exit)) c (λ l. byCands n i l cs)) ⌝ }
+    ensures reached { λ c. ⌜ ((cs : List Cand) (most : ℕ) (n : Node) → MatchAll cs m (now (sets .entry)) (now (codes .entry)) (now (sizes .entry)) → Is n a cost → cost + 9 ≤ most → Changes cs (bounds from cap back most) (now (store .entry)) (now (index .entry)) count (now (store .exit)) (now (index .exit)) c (λ l. byCands n i l cs)) ⌝ }
 {
     let mut c = count;
     let mut k: usize = 0;

@@ -16,7 +16,7 @@ use Rattle.coding.specs.Tokens.{tokens, baseless}
 use Rattle.coding.specs.Call as coding
 use Rattle.laws_coding.specs.Coding.{returned}
 use Rattle.laws_coding.proofs.Coding.{accepted}
-use Rattle.laws_readback.specs.ReadBack.{Based, Accepted, AcceptedCall, RoundTrip}
+use Rattle.laws_readback.specs.ReadBack.{Based, PassesQuestions, AcceptedCall, RoundTrip}
 use Rattle.laws_readback.proofs.ReadBack.{call-read-back}
 
 module _ (c : coding.Lent) where
@@ -46,11 +46,11 @@ module _ (c : coding.Lent) where
       go WellFormed p = (p, question-5 (rw (p, coding.question4) at e))
       go (FaultAt n) p = let f = rw (p, coding.question4) at e in absurd (omega arith)
 
-  none-refused : coding.refusal c .number ≡ 0 → Accepted c
+  none-refused : coding.refusal c .number ≡ 0 → PassesQuestions c
   unfolding coding.refusal
   none-refused e = go (firstRefusal (c .cells) (c .initial) (c .width) encodeLimit (length (c .text))) refl
     where
-      go : (x : ℕ) → firstRefusal (c .cells) (c .initial) (c .width) encodeLimit (length (c .text)) ≡ x → Accepted c
+      go : (x : ℕ) → firstRefusal (c .cells) (c .initial) (c .width) encodeLimit (length (c .text)) ≡ x → PassesQuestions c
       go zero p =
           let a = asks (c .cells) (c .initial) (c .width) encodeLimit (length (c .text)) p in
           let b = question-4 (rw (p, coding.refusal) at e) in
@@ -61,7 +61,7 @@ pub accepted-call : AcceptedCall
 unfolding coding.outcome
 accepted-call c e = go (coding.refusal c .number) refl
   where
-    go : (x : ℕ) → coding.refusal c .number ≡ x → Accepted c
+    go : (x : ℕ) → coding.refusal c .number ≡ x → PassesQuestions c
     go zero p = none-refused c p
     go (suc n) p = let f = rw (p, coding.outcomeOf) at e in absurd (omega arith)
 

@@ -31,16 +31,16 @@ Based c = baseless false (tokens (c .text)) ≡ none
 
 -- What questions 1, 2, 4 and 5 ask of a text, its options and its cell table. That each character has a candidate (6) follows where there is an
 -- admissible coding; the other questions ask for room.
-pub record Accepted (c : coding.Lent) : Type 0 where
+pub record PassesQuestions (c : coding.Lent) : Type 0 where
   pub cells : cellsHold (c .cells) ≡ true
   pub initial : c .initial ≤ 1
   pub width : c .width ≤ 1
   pub well-formed : firstFault (c .text) ≡ WellFormed
   pub based : Based c
 
--- a text that the coding call accepts is one
+-- a text that the coding call accepts passes them
 abbrev pub AcceptedCall : Type 0
-AcceptedCall = (c : coding.Lent) → coding.outcome c .refused ≡ 0 → Accepted c
+AcceptedCall = (c : coding.Lent) → coding.outcome c .refused ≡ 0 → PassesQuestions c
 
 -- the reading is the text's characters: nothing waits, nothing was reported, nothing charged
 pub record ReadAs (c : coding.Lent) (s : State) : Type 0 where
@@ -60,7 +60,7 @@ decoding c bs textRoom issueRoom = record { cells = c .cells; initial = c .initi
 -- the same of the decoding call, where the coding is within its 65,535 bytes and the text's buffer holds the text; any buffer holds no issue
 abbrev pub CallReadBack : Type 0
 CallReadBack =
-    (c : coding.Lent) (bs : List ℕ) (textRoom issueRoom : ℕ) → Accepted c → Codes c bs → length bs ≤ 65535 → length (c .text) ≤ textRoom
+    (c : coding.Lent) (bs : List ℕ) (textRoom issueRoom : ℕ) → PassesQuestions c → Codes c bs → length bs ≤ 65535 → length (c .text) ≤ textRoom
     → reading.outcome (decoding c bs textRoom issueRoom)
     ≡ record { refused = 0; text = length (c .text); issues = 0; charged = 0; textBuffer = padded textRoom (c .text); issueBuffer = padded issueRoom [] }
 

@@ -15,51 +15,39 @@ Inv-loop store from count most rest low f₀ i₀ f i = (i ≤ count) × Floored
 abbrev μ-loop : tie.MeasureT-loop
 μ-loop store from count most rest low f₀ i₀ f i = count - i
 
--- src/lib.rt:106:5
 loop-holds : tie.Need-loop-holds Inv-loop μ-loop
 loop-holds c = (omega arith, λ cs. refl)
 
--- src/lib.rt:107:27
 add-cost : tie.Need-add-cost Inv-loop μ-loop
 add-cost c = omega arith
 
--- src/lib.rt:107:26
 mul-cost : tie.Need-mul-cost Inv-loop μ-loop
 mul-cost c = omega arith
 
--- src/lib.rt:107:26
 add-cost-2 : tie.Need-add-cost-2 Inv-loop μ-loop
 add-cost-2 c = omega arith
 
--- src/lib.rt:107:20
 mul-cost-2 : tie.Need-mul-cost-2 Inv-loop μ-loop
 mul-cost-2 c = omega arith
 
--- src/lib.rt:107:20
 shared-slice-read-cost : tie.Need-shared-slice-read-cost Inv-loop μ-loop
 shared-slice-read-cost c = omega arith
 
--- src/lib.rt:109:26
 add-lower : tie.Need-add-lower Inv-loop μ-loop
 add-lower c = omega (arith, cost-bound (c .before .before .before .before .before .args .store .now) (c .before .before .before .before .before .args .from) (c .before .before .before .before .before .args .count) (c .before .before .before .before .before .pre .0) (c .before .before .before .before .before .pre .2) (c .before .before .before .loop .i) (omega arith))
 
--- src/lib.rt:109:13
 lower-requires : tie.Need-lower-requires Inv-loop μ-loop
 lower-requires c κs = omega (arith, cost-bound (c .before .before .before .before .before .args .store .now) (c .before .before .before .before .before .args .from) (c .before .before .before .before .before .args .count) (c .before .before .before .before .before .pre .0) (c .before .before .before .before .before .pre .2) (c .before .before .before .loop .i) (omega arith))
 
--- src/lib.rt:111:9
 add-i : tie.Need-add-i Inv-loop μ-loop
 add-i c = omega arith
 
--- src/lib.rt:106:5
 loop-less : tie.Need-loop-less Inv-loop μ-loop
 loop-less c = omega arith
 
--- src/lib.rt:106:5
 loop-again : tie.Need-loop-again Inv-loop μ-loop
 loop-again c = ⊎-elim (λ w. (omega arith, rw (w .2 ∙ w .1 .ensures) (floored-dropped (c .before .before .before .before .before .args .store .now) (c .before .before .before .before .before .args .from) (c .before .before .before .before .before .args .count) (c .before .before .before .before .before .pre .0) (c .before .before .before .before .before .args .most) (c .before .before .before .before .before .args .rest) (c .before .before .before .before .before .args .low) (c .before .before .before .loop .f) (c .before .before .before .loop .i) (c .before .before .before .loop .inv .1) (omega arith) (w .0 .taken)))) (λ w. (omega arith, rw (w .1) (floored-kept (c .before .before .before .before .before .args .store .now) (c .before .before .before .before .before .args .from) (c .before .before .before .before .before .args .count) (c .before .before .before .before .before .pre .0) (c .before .before .before .before .before .args .most) (c .before .before .before .before .before .args .rest) (c .before .before .before .before .before .args .low) (c .before .before .before .loop .f) (c .before .before .before .loop .i) (c .before .before .before .loop .inv .1) (omega arith) (w .0 .left)))) (c .if1 .came)
 
--- src/lib.rt:100:1
 returns : tie.Need-returns Inv-loop μ-loop
 returns c = floored-end (c .before .before .before .args .store .now) (c .before .before .before .args .from) (c .before .before .before .args .count) (c .before .before .before .pre .0) (c .before .before .before .args .most) (c .before .before .before .args .rest) (c .before .before .before .args .low) (c .before .loop .f) (c .before .loop .i) (c .before .loop .inv .1) (c .loop-test .left)
 

@@ -14,91 +14,69 @@ Inv-loop store₀ from count most i₀ kept₀ store i kept = Going store₀ sto
 abbrev μ-loop : tie.MeasureT-loop
 μ-loop store₀ from count most i₀ kept₀ store i kept = count - i
 
--- src/lib.rt:123:5
 loop-holds : tie.Need-loop-holds Inv-loop μ-loop
 loop-holds c = going-start (c .before .args .store .now) (c .before .args .from) (c .before .args .count) (c .before .args .most) (c .before .pre)
 
--- src/lib.rt:124:19
 add-at : tie.Need-add-at Inv-loop μ-loop
 add-at c = omega arith
 
--- src/lib.rt:124:18
 mul-at : tie.Need-mul-at Inv-loop μ-loop
 mul-at c = omega arith
 
--- src/lib.rt:125:26
 add-cost : tie.Need-add-cost Inv-loop μ-loop
 add-cost c = omega arith
 
--- src/lib.rt:125:20
 mul-cost : tie.Need-mul-cost Inv-loop μ-loop
 mul-cost c = omega arith
 
--- src/lib.rt:125:20
 slice-read-cost : tie.Need-slice-read-cost Inv-loop μ-loop
 slice-read-cost c = omega arith
 
--- src/lib.rt:127:25
 mul-state : tie.Need-mul-state Inv-loop μ-loop
 mul-state c = omega arith
 
--- src/lib.rt:127:25
 slice-read-state : tie.Need-slice-read-state Inv-loop μ-loop
 slice-read-state c = omega arith
 
--- src/lib.rt:128:30
 add-link : tie.Need-add-link Inv-loop μ-loop
 add-link c = omega arith
 
--- src/lib.rt:128:24
 mul-link : tie.Need-mul-link Inv-loop μ-loop
 mul-link c = omega arith
 
--- src/lib.rt:128:24
 slice-read-link : tie.Need-slice-read-link Inv-loop μ-loop
 slice-read-link c = omega arith
 
--- src/lib.rt:129:30
 add-back : tie.Need-add-back Inv-loop μ-loop
 add-back c = omega arith
 
--- src/lib.rt:129:24
 mul-back : tie.Need-mul-back Inv-loop μ-loop
 mul-back c = omega arith
 
--- src/lib.rt:129:24
 slice-read-back : tie.Need-slice-read-back Inv-loop μ-loop
 slice-read-back c = omega arith
 
--- src/lib.rt:130:35
 add-put-node : tie.Need-add-put-node Inv-loop μ-loop
 add-put-node c = omega arith
 
--- src/lib.rt:130:13
 put-node-requires : tie.Need-put-node-requires Inv-loop μ-loop
 put-node-requires c κs = omega arith
 
--- src/lib.rt:131:13
 add-kept : tie.Need-add-kept Inv-loop μ-loop
 add-kept c = omega arith
 
--- src/lib.rt:133:9
 add-i : tie.Need-add-i Inv-loop μ-loop
 add-i c = omega arith
 
--- src/lib.rt:123:5
 loop-less : tie.Need-loop-less Inv-loop μ-loop
 loop-less c = omega arith
 
--- src/lib.rt:123:5
 loop-again : tie.Need-loop-again Inv-loop μ-loop
 loop-again c = ⊎-elim (λ w. rw (w .8, w .9) (going-keep (c .before .before .before .before .before .args .store .now) (c .before .before .before .before .before .args .from) (c .before .before .before .before .before .args .count) (c .before .before .before .before .before .args .most) (c .before .before .before .before .before .pre) (c .before .before .before .loop .store) (c .before .before .before .loop .i) (c .before .before .before .loop .kept) (c .before .before .before .loop .inv) _ (omega arith) (w .0 .taken) (w .5 .ensures))) (λ w. rw (w .1, w .2) (going-drop (c .before .before .before .before .before .args .store .now) (c .before .before .before .before .before .args .from) (c .before .before .before .before .before .args .count) (c .before .before .before .before .before .args .most) (c .before .before .before .before .before .pre) (c .before .before .before .loop .store) (c .before .before .before .loop .i) (c .before .before .before .loop .kept) (c .before .before .before .loop .inv) (omega arith) (w .0 .left))) (c .if1 .came)
 
--- src/lib.rt:117:1
 same-length : tie.Need-same-length Inv-loop μ-loop
 same-length c = c .before .loop .inv .same
 
--- src/lib.rt:117:1
 returns : tie.Need-returns Inv-loop μ-loop
 returns c = going-end (c .before .before .before .args .store .now) (c .before .before .before .args .from) (c .before .before .before .args .count) (c .before .before .before .args .most) (c .before .before .before .pre) (c .before .loop .store) (c .before .loop .i) (c .before .loop .kept) (c .before .loop .inv) (c .loop-test .left)
 

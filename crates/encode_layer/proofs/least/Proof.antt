@@ -18,79 +18,60 @@ Inv-loop store from count i₀ best₀ i best = (i < count) × ((cs : List Cand)
 abbrev μ-loop : tie.MeasureT-loop
 μ-loop store from count i₀ best₀ i best = i
 
--- src/lib.rt:70:9
 returns : tie.Need-returns Inv-loop μ-loop
 returns c = least-none (c .before .args .store .now) (c .before .args .from) (c .before .args .count) (c .before .pre) (c .if1 .taken)
 
--- src/lib.rt:72:17
 sub-i : tie.Need-sub-i Inv-loop μ-loop
 sub-i c = omega arith
 
--- src/lib.rt:73:27
 add-best : tie.Need-add-best Inv-loop μ-loop
 add-best c = omega arith
 
--- src/lib.rt:73:26
 mul-best : tie.Need-mul-best Inv-loop μ-loop
 mul-best c = omega arith
 
--- src/lib.rt:73:26
 add-best-2 : tie.Need-add-best-2 Inv-loop μ-loop
 add-best-2 c = omega arith
 
--- src/lib.rt:73:20
 mul-best-2 : tie.Need-mul-best-2 Inv-loop μ-loop
 mul-best-2 c = omega arith
 
--- src/lib.rt:73:20
 shared-slice-read-best : tie.Need-shared-slice-read-best Inv-loop μ-loop
 shared-slice-read-best c = omega arith
 
--- src/lib.rt:74:5
 loop-holds : tie.Need-loop-holds Inv-loop μ-loop
 loop-holds c = (omega arith, least-first (c .before .before .args .store .now) (c .before .before .args .from) (c .before .before .args .count) (c .before .before .pre) (c .before .before .args .count - 1) (omega arith))
 
--- src/lib.rt:75:9
 sub-i-2 : tie.Need-sub-i-2 Inv-loop μ-loop
 sub-i-2 c = omega arith
 
--- src/lib.rt:76:27
 add-cost : tie.Need-add-cost Inv-loop μ-loop
 add-cost c = omega arith
 
--- src/lib.rt:76:26
 mul-cost : tie.Need-mul-cost Inv-loop μ-loop
 mul-cost c = omega arith
 
--- src/lib.rt:76:26
 add-cost-2 : tie.Need-add-cost-2 Inv-loop μ-loop
 add-cost-2 c = omega arith
 
--- src/lib.rt:76:20
 mul-cost-2 : tie.Need-mul-cost-2 Inv-loop μ-loop
 mul-cost-2 c = omega arith
 
--- src/lib.rt:76:20
 shared-slice-read-cost : tie.Need-shared-slice-read-cost Inv-loop μ-loop
 shared-slice-read-cost c = omega arith
 
--- src/lib.rt:74:5
 loop-less : tie.Need-loop-less Inv-loop μ-loop
 loop-less c = omega arith
 
--- src/lib.rt:74:5
 loop-again : tie.Need-loop-again Inv-loop μ-loop
 loop-again c = (omega arith, least-less (c .before .before .before .before .before .before .args .store .now) (c .before .before .before .before .before .before .args .from) (c .before .before .before .before .before .before .args .count) (c .before .before .before .before .before .before .pre) (c .before .before .before .loop .i) (c .before .before .before .loop .i - 1) (c .before .before .before .loop .best) (omega arith) (c .before .before .before .loop .inv .0) (c .before .before .before .loop .inv .1) (c .if2 .taken))
 
--- src/lib.rt:74:5
 loop-less-2 : tie.Need-loop-less-2 Inv-loop μ-loop
 loop-less-2 c = omega arith
 
--- src/lib.rt:74:5
 loop-again-2 : tie.Need-loop-again-2 Inv-loop μ-loop
 loop-again-2 c = (omega arith, least-same (c .before .before .before .before .before .before .args .store .now) (c .before .before .before .before .before .before .args .from) (c .before .before .before .before .before .before .args .count) (c .before .before .before .before .before .before .pre) (c .before .before .before .loop .i) (c .before .before .before .loop .i - 1) (c .before .before .before .loop .best) (omega arith) (c .before .before .before .loop .inv .0) (c .before .before .before .loop .inv .1) (c .if2 .left))
 
--- src/lib.rt:65:1
 returns-2 : tie.Need-returns-2 Inv-loop μ-loop
 returns-2 c = let z : c .before .loop .i ≡ 0 = omega arith in rw z at (c .before .loop .inv .1)
 

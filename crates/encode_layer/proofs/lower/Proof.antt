@@ -5,23 +5,18 @@ use Rattle.encode_layer.proofs.lower.Tie as tie
 use Rattle.encode_layer.proofs.lower.Reads as reads
 use Rattle.encode_layer.proofs.lower.Lts as lts
 
--- src/lib.rt:90:16
 add-result : tie.Need-add-result
 add-result c = search needs
 
--- src/lib.rt:90:9
 returns : tie.Need-returns
 returns c = lower-none (c .before .args .floor) (c .before .args .b) (c .if1 .taken)
 
--- src/lib.rt:93:16
 add-result-2 : tie.Need-add-result-2
 add-result-2 c = search needs
 
--- src/lib.rt:93:9
 returns-2 : tie.Need-returns-2
 returns-2 c = lower-less (c .before .before .args .floor) (c .before .before .args .b) (c .before .if1 .left) (c .if2 .taken)
 
--- src/lib.rt:85:1
 returns-3 : tie.Need-returns-3
 returns-3 c = lower-same (c .before .before .args .floor) (c .before .before .args .b) (c .before .if1 .left) (c .if2 .left)
 

@@ -10,123 +10,96 @@ use Rattle.encode_layer.proofs.push.Reads as reads
 use Rattle.encode_layer.proofs.push.Lts as lts
 use Rattle.encode_layer.proofs.put_node.Reads as put-node-reads
 
--- src/lib.rt:42:9
 returns : tie.Need-returns
 returns c =
     let a = c .before .before .before .args in
     λ cs most h.
     full cs (a .from) (a .cap) (a .back) most (a .store .now) (a .index .now) (a .count) (entry (a .state) (a .cost) (a .link) (a .back)) (c .before .before .before .pre .0 .store) (record { proper = c .before .before .before .pre .1; cheap = h; linked = refl }) (c .if1 .taken)
 
--- src/lib.rt:45:17
 mul-place : tie.Need-mul-place
 mul-place c = search needs
 
--- src/lib.rt:45:17
 slice-read-place : tie.Need-slice-read-place
 slice-read-place c = search needs
 
--- src/lib.rt:45:17
 cast-place : tie.Need-cast-place
 cast-place c = omega (arith, c .slice-known3 .given (c .before .before .before .before .args .state))
 
--- src/lib.rt:47:19
 add-at : tie.Need-add-at
 add-at c = search needs
 
--- src/lib.rt:47:18
 mul-at : tie.Need-mul-at
 mul-at c = search needs
 
--- src/lib.rt:48:12
 mul-if3 : tie.Need-mul-if3
 mul-if3 c = search needs
 
--- src/lib.rt:48:12
 slice-read-if3 : tie.Need-slice-read-if3
 slice-read-if3 c = search needs
 
--- src/lib.rt:49:29
 add-if4 : tie.Need-add-if4
 add-if4 c = search needs
 
--- src/lib.rt:49:23
 mul-if4 : tie.Need-mul-if4
 mul-if4 c = search needs
 
--- src/lib.rt:49:23
 slice-read-if4 : tie.Need-slice-read-if4
 slice-read-if4 c = search needs
 
--- src/lib.rt:50:39
 add-put-node : tie.Need-add-put-node
 add-put-node c = search needs
 
--- src/lib.rt:50:17
 put-node-requires : tie.Need-put-node-requires
 put-node-requires c κs = search needs
 
--- src/lib.rt:51:17
 same-length : tie.Need-same-length
 same-length c = search needs
 
--- src/lib.rt:51:17
 returns-2 : tie.Need-returns-2
 returns-2 c =
     let a = c .before .before .before .before .before .before .before .before .before .before .before .before .before .args in
     λ cs most h.
     replaces cs (a .from) (a .cap) (a .back) most (a .store .now) (a .index .now) (a .count) (entry (a .state) (a .cost) (a .link) (a .back)) (c .before .before .before .before .before .before .before .before .before .before .before .before .before .pre .0 .store) (record { proper = c .before .before .before .before .before .before .before .before .before .before .before .before .before .pre .1; cheap = h; linked = refl }) _ (c .before .before .before .before .before .before .before .before .before .before .if1 .left) refl (c .before .before .before .before .before .before .before .before .if2 .taken) (c .before .before .before .before .before .before .if3 .taken) _ (c .before .before .put-node .ensures) (c .before .before .before .before .if4 .taken)
 
--- src/lib.rt:53:13
 returns-3 : tie.Need-returns-3
 returns-3 c =
     let a = c .before .before .before .before .before .before .before .before .before .args in
     λ cs most h.
     stays cs (a .from) (a .cap) (a .back) most (a .store .now) (a .index .now) (a .count) (entry (a .state) (a .cost) (a .link) (a .back)) (c .before .before .before .before .before .before .before .before .before .pre .0 .store) (record { proper = c .before .before .before .before .before .before .before .before .before .pre .1; cheap = h; linked = refl }) _ (c .before .before .before .before .before .before .if1 .left) refl (c .before .before .before .before .if2 .taken) (c .before .before .if3 .taken) (c .if4 .left)
 
--- src/lib.rt:57:16
 add-result : tie.Need-add-result
 add-result c = search needs
 
--- src/lib.rt:57:9
 returns-4 : tie.Need-returns-4
 returns-4 c =
     let a = c .before .before .before .before .before .before .args in
     λ cs most h.
     overflows cs (a .from) (a .cap) (a .back) most (a .store .now) (a .index .now) (a .count) (entry (a .state) (a .cost) (a .link) (a .back)) (c .before .before .before .before .before .before .pre .0 .store) (record { proper = c .before .before .before .before .before .before .pre .1; cheap = h; linked = refl }) _ (c .before .before .before .if1 .left) refl (⊎-elim (λ w. λ x. w .2 .left) (λ w. λ x. absurd (omega arith)) (c .before .if2 .came)) (c .if5 .taken)
 
--- src/lib.rt:59:18
 cast-index : tie.Need-cast-index
 cast-index c = search needs
 
--- src/lib.rt:59:5
 mul-index : tie.Need-mul-index
 mul-index c = search needs
 
--- src/lib.rt:59:5
 slice-write-index : tie.Need-slice-write-index
 slice-write-index c = search needs
 
--- src/lib.rt:60:27
 add-put-node-2 : tie.Need-add-put-node-2
 add-put-node-2 c = search needs
 
--- src/lib.rt:60:5
 put-node-requires-2 : tie.Need-put-node-requires-2
 put-node-requires-2 c κs = search needs
 
--- src/lib.rt:61:5
 add-result-2 : tie.Need-add-result-2
 add-result-2 c = search needs
 
--- src/lib.rt:27:1
 same-length-2 : tie.Need-same-length-2
 same-length-2 c = search needs
 
--- src/lib.rt:27:1
 same-length-3 : tie.Need-same-length-3
 same-length-3 c = search needs
 
--- src/lib.rt:27:1
 returns-5 : tie.Need-returns-5
 returns-5 c =
     let a = c .before .before .before .before .before .before .before .before .before .before .args in

@@ -6,59 +6,45 @@ use Rattle.encode_layer.proofs.put_node.Tie as tie
 use Rattle.encode_layer.proofs.put_node.Reads as reads
 use Rattle.encode_layer.proofs.put_node.Lts as lts
 
--- src/lib.rt:18:14
 mul-at : tie.Need-mul-at
 mul-at c = search needs
 
--- src/lib.rt:19:5
 mul-store : tie.Need-mul-store
 mul-store c = search needs
 
--- src/lib.rt:19:5
 slice-write-store : tie.Need-slice-write-store
 slice-write-store c = search needs
 
--- src/lib.rt:20:11
 add-store : tie.Need-add-store
 add-store c = search needs
 
--- src/lib.rt:20:5
 mul-store-2 : tie.Need-mul-store-2
 mul-store-2 c = search needs
 
--- src/lib.rt:20:5
 slice-write-store-2 : tie.Need-slice-write-store-2
 slice-write-store-2 c = simp length-set (omega arith)
 
--- src/lib.rt:21:11
 add-store-2 : tie.Need-add-store-2
 add-store-2 c = search needs
 
--- src/lib.rt:21:5
 mul-store-3 : tie.Need-mul-store-3
 mul-store-3 c = search needs
 
--- src/lib.rt:21:5
 slice-write-store-3 : tie.Need-slice-write-store-3
 slice-write-store-3 c = simp length-set (omega arith)
 
--- src/lib.rt:22:11
 add-store-3 : tie.Need-add-store-3
 add-store-3 c = search needs
 
--- src/lib.rt:22:5
 mul-store-4 : tie.Need-mul-store-4
 mul-store-4 c = search needs
 
--- src/lib.rt:22:5
 slice-write-store-4 : tie.Need-slice-write-store-4
 slice-write-store-4 c = simp length-set (omega arith)
 
--- src/lib.rt:14:1
 same-length : tie.Need-same-length
 same-length c = search needs
 
--- src/lib.rt:14:1
 returns : tie.Need-returns
 returns c = search needs
 

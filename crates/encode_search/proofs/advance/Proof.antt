@@ -12,15 +12,12 @@ use Rattle.encode_layer.proofs.least.Reads as least-reads
 use Rattle.encode_search.proofs.reach.Reads as reach-reads
 use Rattle.encode_search.proofs.room.Reads as room-reads
 
--- src/lib.rt:93:16
 add-from : tie.Need-add-from
 add-from c = search needs
 
--- src/lib.rt:94:9
 room-requires : tie.Need-room-requires
 room-requires c κs = search needs
 
--- src/lib.rt:95:9
 reach-requires : tie.Need-reach-requires
 reach-requires c κs =
     let start = c .before .before .before .before .before in
@@ -28,43 +25,33 @@ reach-requires c κs =
     let layer = entriesOf (start .args .store .now) (start .args .pfrom) (start .args .pcount) in
     (record { store = capped .inside; index = omega arith; few = capped .few }, start .pre .2, start .pre .3, start .pre .4, abled 65526 65535 layer (omega arith) (start .pre .6))
 
--- src/lib.rt:97:9
 same-length : tie.Need-same-length
 same-length c = search needs
 
--- src/lib.rt:97:9
 same-length-2 : tie.Need-same-length-2
 same-length-2 c = search needs
 
--- src/lib.rt:97:9
 returns : tie.Need-returns
 returns c = too-large (c .before .before .before .before .before .before .before .before .before .before .before .args .store .now) _ _ (c .before .before .before .before .before .before .before .before .before .before .before .args .pfrom) (c .before .before .before .before .before .before .before .before .before .before .before .args .pcount) (c .before .before .before .before .before .before .before .before .room .result) (c .before .before .before .before .before .before .before .before .before .before .before .args .m) (c .before .before .before .before .before .reach .result) (c .before .before .before .before .before .before .before .before .before .before .before .args .sets .now) (c .before .before .before .before .before .before .before .before .before .before .before .args .codes .now) (c .before .before .before .before .before .before .before .before .before .before .before .args .sizes .now) (c .before .before .before .before .before .reach .ensures) (c .before .before .before .before .before .before .before .before .room .ensures) (omega arith) (c .before .before .before .before .before .before .before .before .before .before .before .pre .6) (c .if1 .taken) (c .before .before .before .before .before .before .before .before .before .before .before .args .rest) (c .before .before .before .before .before .before .before .before .before .before .before .args .floor) (c .before .before .before .before .before .before .before .before .before .before .before .pre .0)
 
--- src/lib.rt:103:16
 least-requires : tie.Need-least-requires
 least-requires c κs = search needs
 
--- src/lib.rt:103:16
 add-most : tie.Need-add-most
 add-most c = omega (arith, least-small (c .before .before .before .before .before .before .before .before .before .before .before .before .before .args .store .now) _ _ (c .before .before .before .before .before .before .before .before .before .before .before .before .before .args .pfrom) (c .before .before .before .before .before .before .before .before .before .before .before .before .before .args .pcount) (c .before .before .before .before .before .before .before .before .before .before .room .result) (c .before .before .before .before .before .before .before .before .before .before .before .before .before .args .m) (c .before .before .before .before .before .before .before .reach .result) (c .before .before .before .before .before .before .before .before .before .before .before .before .before .args .sets .now) (c .before .before .before .before .before .before .before .before .before .before .before .before .before .args .codes .now) (c .before .before .before .before .before .before .before .before .before .before .before .before .before .args .sizes .now) (c .before .before .before .before .before .before .before .reach .ensures) (c .before .before .before .before .before .before .before .before .before .before .room .ensures) (omega arith) (c .before .before .before .before .before .before .before .before .before .before .before .before .before .pre .6) (c .before .before .if1 .left) (c .least .result) (c .least .ensures))
 
--- src/lib.rt:104:9
 floor-requires : tie.Need-floor-requires
 floor-requires c κs = (omega (arith, c .before .before .before .before .before .before .before .before .before .before .before .room .ensures .inside), c .before .before .before .before .before .before .before .before .before .before .before .before .before .before .pre .5, reached-cheap (c .before .before .before .before .before .before .before .before .before .before .before .before .before .before .args .store .now) _ _ (c .before .before .before .before .before .before .before .before .before .before .before .before .before .before .args .pfrom) (c .before .before .before .before .before .before .before .before .before .before .before .before .before .before .args .pcount) (c .before .before .before .before .before .before .before .before .before .before .before .room .result) (c .before .before .before .before .before .before .before .before .before .before .before .before .before .before .args .m) (c .before .before .before .before .before .before .before .before .reach .result) (c .before .before .before .before .before .before .before .before .before .before .before .before .before .before .args .sets .now) (c .before .before .before .before .before .before .before .before .before .before .before .before .before .before .args .codes .now) (c .before .before .before .before .before .before .before .before .before .before .before .before .before .before .args .sizes .now) (c .before .before .before .before .before .before .before .before .reach .ensures) (c .before .before .before .before .before .before .before .before .before .before .before .room .ensures) (omega arith) (c .before .before .before .before .before .before .before .before .before .before .before .before .before .before .pre .6) (c .before .before .before .if1 .left))
 
--- src/lib.rt:105:9
 keep-requires : tie.Need-keep-requires
 keep-requires c κs = search needs
 
--- src/lib.rt:78:1
 same-length-3 : tie.Need-same-length-3
 same-length-3 c = search needs
 
--- src/lib.rt:78:1
 same-length-4 : tie.Need-same-length-4
 same-length-4 c = search needs
 
--- src/lib.rt:78:1
 returns-2 : tie.Need-returns-2
 returns-2 c = advanced (c .before .before .before .before .before .before .before .before .before .before .before .before .before .before .before .before .before .before .before .args .store .now) _ _ (c .before .before .before .before .before .before .before .before .before .before .before .before .before .before .before .before .before .before .before .args .pfrom) (c .before .before .before .before .before .before .before .before .before .before .before .before .before .before .before .before .before .before .before .args .pcount) (c .before .before .before .before .before .before .before .before .before .before .before .before .before .before .before .before .room .result) (c .before .before .before .before .before .before .before .before .before .before .before .before .before .before .before .before .before .before .before .args .m) (c .before .before .before .before .before .before .before .before .before .before .before .before .before .reach .result) (c .before .before .before .before .before .before .before .before .before .before .before .before .before .before .before .before .before .before .before .args .sets .now) (c .before .before .before .before .before .before .before .before .before .before .before .before .before .before .before .before .before .before .before .args .codes .now) (c .before .before .before .before .before .before .before .before .before .before .before .before .before .before .before .before .before .before .before .args .sizes .now) (c .before .before .before .before .before .before .before .before .before .before .before .before .before .reach .ensures) (c .before .before .before .before .before .before .before .before .before .before .before .before .before .before .before .before .room .ensures) (omega arith) (c .before .before .before .before .before .before .before .before .before .before .before .before .before .before .before .before .before .before .before .pre .6) (c .before .before .before .before .before .before .before .before .if1 .left) _ (c .before .before .before .before .before .before .least .result) (c .before .before .before .before .before .before .before .before .before .before .before .before .before .before .before .before .before .before .before .args .rest) (c .before .before .before .before .before .before .before .before .before .before .before .before .before .before .before .before .before .before .before .args .floor) (c .before .before .before .before .floor .result) (c .before .before .keep .result) (c .before .before .before .before .before .before .least .ensures) (c .before .before .before .before .floor .ensures) (c .before .before .keep .ensures)
 

@@ -7,7 +7,7 @@ use Rattle.base.specs.Lists.{All}
 use Rattle.coding.specs.Candidates.{Cand}
 use Rattle.coding.specs.Search.{Node, reach}
 use Rattle.encode_layer.specs.Entries.{nodeOf, entriesOf, layerOf}
-use Rattle.encode_layer.specs.Stands.{room, Stands}
+use Rattle.encode_layer.specs.Layer.{bounds, Represents}
 use Rattle.encode_layer.proofs.Pushing.{blank}
 use Rattle.encode_layer.proofs.Costs.{length-layer}
 use Rattle.encode_ways.specs.Turn.{MatchAll}
@@ -21,68 +21,53 @@ use Rattle.encode_ways.proofs.by_candidates.Reads as by-candidates-reads
 
 abbrev Inv-loop : tie.InvT-loop
 Inv-loop store₀ index₀ pfrom pcount cap m sets codes sizes from back count₀ i₀ store index count i =
-    (i ≤ pcount) × (length store ≡ length store₀) × (length index ≡ length index₀) × (take ((pfrom + pcount) * 4) store ≡ take ((pfrom + pcount) * 4) store₀) × ((cs cs₀ : List Cand) (b most : ℕ) → MatchAll cs m sets codes sizes → All (Able b) (entriesOf store₀ pfrom pcount) → b + 9 ≤ most → Stands cs (room (pfrom + pcount) cap pfrom most) store index count (reach cs (take i (layerOf cs₀ store₀ pfrom pcount)) 0 []))
+    (i ≤ pcount) × (length store ≡ length store₀) × (length index ≡ length index₀) × (take ((pfrom + pcount) * 4) store ≡ take ((pfrom + pcount) * 4) store₀) × ((cs cs₀ : List Cand) (b most : ℕ) → MatchAll cs m sets codes sizes → All (Able b) (entriesOf store₀ pfrom pcount) → b + 9 ≤ most → Represents cs (bounds (pfrom + pcount) cap pfrom most) store index count (reach cs (take i (layerOf cs₀ store₀ pfrom pcount)) 0 []))
 
 abbrev μ-loop : tie.MeasureT-loop
 μ-loop store₀ index₀ pfrom pcount cap m sets codes sizes from back count₀ i₀ store index count i = pcount - i
 
--- src/lib.rt:28:16
 add-from : tie.Need-add-from Inv-loop μ-loop
 add-from c = omega arith
 
--- src/lib.rt:29:16
 cast-back : tie.Need-cast-back Inv-loop μ-loop
 cast-back c = omega arith
 
--- src/lib.rt:32:5
 loop-holds : tie.Need-loop-holds Inv-loop μ-loop
 loop-holds c = (omega arith, refl, refl, refl, λ cs cs₀ b most m a h. reach-none cs (c .before .before .args .pfrom + c .before .before .args .pcount) (c .before .before .args .cap) (c .before .before .args .pfrom) most (c .before .before .args .store .now) (c .before .before .args .index .now) (layerOf cs₀ (c .before .before .args .store .now) (c .before .before .args .pfrom) (c .before .before .args .pcount)))
 
--- src/lib.rt:33:19
 add-at : tie.Need-add-at Inv-loop μ-loop
 add-at c = omega arith
 
--- src/lib.rt:33:18
 mul-at : tie.Need-mul-at Inv-loop μ-loop
 mul-at c = omega arith
 
--- src/lib.rt:34:17
 mul-a : tie.Need-mul-a Inv-loop μ-loop
 mul-a c = omega arith
 
--- src/lib.rt:34:17
 slice-read-a : tie.Need-slice-read-a Inv-loop μ-loop
 slice-read-a c = omega arith
 
--- src/lib.rt:35:26
 add-cost : tie.Need-add-cost Inv-loop μ-loop
 add-cost c = omega arith
 
--- src/lib.rt:35:20
 mul-cost : tie.Need-mul-cost Inv-loop μ-loop
 mul-cost c = omega arith
 
--- src/lib.rt:35:20
 slice-read-cost : tie.Need-slice-read-cost Inv-loop μ-loop
 slice-read-cost c = omega arith
 
--- src/lib.rt:44:13
 cast-by-candidates : tie.Need-cast-by-candidates Inv-loop μ-loop
 cast-by-candidates c = omega arith
 
--- src/lib.rt:36:9
 by-candidates-requires : tie.Need-by-candidates-requires Inv-loop μ-loop
 by-candidates-requires c κs = (record { store = omega arith; index = omega arith; few = c .before .before .before .before .before .before .before .before .pre .0 .few }, proper (c .before .before .before .before .before .before .before .before .args .store .now) (c .before .before .before .before .before .loop .store) (c .before .before .before .before .before .before .before .before .args .pfrom) (c .before .before .before .before .before .before .before .before .args .pcount) (c .before .before .before .before .before .loop .i) (omega arith) (c .before .before .before .before .before .loop .inv .3) (omega arith) 65535 (c .before .before .before .before .before .before .before .before .pre .4), cheap (c .before .before .before .before .before .before .before .before .args .store .now) (c .before .before .before .before .before .loop .store) (c .before .before .before .before .before .before .before .before .args .pfrom) (c .before .before .before .before .before .before .before .before .args .pcount) (c .before .before .before .before .before .loop .i) (omega arith) (c .before .before .before .before .before .loop .inv .3) (omega arith) 65535 (c .before .before .before .before .before .before .before .before .pre .4), omega arith, c .before .before .before .before .before .before .before .before .pre .3)
 
--- src/lib.rt:51:9
 add-i : tie.Need-add-i Inv-loop μ-loop
 add-i c = omega arith
 
--- src/lib.rt:32:5
 loop-less : tie.Need-loop-less Inv-loop μ-loop
 loop-less c = omega arith
 
--- src/lib.rt:32:5
 loop-again : tie.Need-loop-again Inv-loop μ-loop
 loop-again c =
     let a = c .before .before .before .before .before .before .before .before .before .before .before .before .before .args in
@@ -94,19 +79,16 @@ loop-again c =
       q .0 ∙ c .before .before .before .before .before .before .before .before .before .before .loop .inv .3,
       λ cs cs₀ b most m x h.
           let l = length-layer cs₀ (a .store .now) (a .pfrom) (a .pcount) (omega arith) in
-          subst (Stands cs (room (a .pfrom + a .pcount) (a .cap) (a .pfrom) most) _ _ _) (reach-more cs (layerOf cs₀ (a .store .now) (a .pfrom) (a .pcount)) i (nodeOf cs₀ blank) (omega arith))
+          subst (Represents cs (bounds (a .pfrom + a .pcount) (a .cap) (a .pfrom) most) _ _ _) (reach-more cs (layerOf cs₀ (a .store .now) (a .pfrom) (a .pcount)) i (nodeOf cs₀ blank) (omega arith))
           (q .1 cs most (nodeAt (c .before .before .before .before .before .before .before .before .before .before .before .before .before .args .store .now) (c .before .before .before .before .before .before .before .before .before .before .loop .store) (c .before .before .before .before .before .before .before .before .before .before .before .before .before .args .pfrom) (c .before .before .before .before .before .before .before .before .before .before .before .before .before .args .pcount) (c .before .before .before .before .before .before .before .before .before .before .loop .i) (omega arith) (c .before .before .before .before .before .before .before .before .before .before .loop .inv .3) (omega arith) cs₀) m (is-node (c .before .before .before .before .before .before .before .before .before .before .before .before .before .args .store .now) (c .before .before .before .before .before .before .before .before .before .before .loop .store) (c .before .before .before .before .before .before .before .before .before .before .before .before .before .args .pfrom) (c .before .before .before .before .before .before .before .before .before .before .before .before .before .args .pcount) (c .before .before .before .before .before .before .before .before .before .before .loop .i) (omega arith) (c .before .before .before .before .before .before .before .before .before .before .loop .inv .3) (omega arith) cs₀) (omega (arith, cheap (c .before .before .before .before .before .before .before .before .before .before .before .before .before .args .store .now) (c .before .before .before .before .before .before .before .before .before .before .loop .store) (c .before .before .before .before .before .before .before .before .before .before .before .before .before .args .pfrom) (c .before .before .before .before .before .before .before .before .before .before .before .before .before .args .pcount) (c .before .before .before .before .before .before .before .before .before .before .loop .i) (omega arith) (c .before .before .before .before .before .before .before .before .before .before .loop .inv .3) (omega arith) b x)) .stands _ (c .before .before .before .before .before .before .before .before .before .before .loop .inv .4 cs cs₀ b most m x h)),
     )
 
--- src/lib.rt:14:1
 same-length : tie.Need-same-length Inv-loop μ-loop
 same-length c = c .before .loop .inv .1
 
--- src/lib.rt:14:1
 same-length-2 : tie.Need-same-length-2 Inv-loop μ-loop
 same-length-2 c = c .before .loop .inv .2
 
--- src/lib.rt:14:1
 returns : tie.Need-returns Inv-loop μ-loop
 returns c =
     let a = c .before .before .before .before .args in
@@ -114,7 +96,7 @@ returns c =
       before = c .before .loop .inv .3;
       stands = λ cs cs₀ b most m x h.
           let l = length-layer cs₀ (a .store .now) (a .pfrom) (a .pcount) (omega arith) in
-          subst (Stands cs (room (a .pfrom + a .pcount) (a .cap) (a .pfrom) most) _ _ _) (reach-all cs (layerOf cs₀ (a .store .now) (a .pfrom) (a .pcount)) (c .before .loop .i) (omega arith)) (c .before .loop .inv .4 cs cs₀ b most m x h);
+          subst (Represents cs (bounds (a .pfrom + a .pcount) (a .cap) (a .pfrom) most) _ _ _) (reach-all cs (layerOf cs₀ (a .store .now) (a .pfrom) (a .pcount)) (c .before .loop .i) (omega arith)) (c .before .loop .inv .4 cs cs₀ b most m x h);
     }
 
 pub reach-spec : {M : Type 1} → statement M

@@ -21,35 +21,27 @@ abbrev μ-loop : tie.MeasureT-loop
 μ-loop store₀ index₀ chars kanji symbols n annex rest from₀ count₀ left₀ floor₀ j₀ store index from count left floor j =
     n - j
 
--- src/lib.rt:198:5
 loop-holds : tie.Need-loop-holds Inv-loop μ-loop
 loop-holds c = going-start (c .before .before .before .before .before .args .chars .now) (c .before .before .before .before .before .args .kanji .now) (c .before .before .before .before .before .args .symbols .now) (c .before .before .before .before .before .args .n) (c .before .before .before .before .before .args .annex) (c .before .before .before .before .before .args .rest) (c .before .before .before .before .before .args .store .now) _ (c .before .before .before .before .before .pre .2) (c .before .before .before .before .before .pre .1) (c .before .before .before .before .before .pre .0 .rest-small) (c .before .before .before .before .before .pre .3)
 
--- src/lib.rt:199:17
 mul-c : tie.Need-mul-c Inv-loop μ-loop
 mul-c c = omega arith
 
--- src/lib.rt:199:17
 shared-slice-read-c : tie.Need-shared-slice-read-c Inv-loop μ-loop
 shared-slice-read-c c = omega arith
 
--- src/lib.rt:200:17
 mul-k : tie.Need-mul-k Inv-loop μ-loop
 mul-k c = omega arith
 
--- src/lib.rt:200:17
 shared-slice-read-k : tie.Need-shared-slice-read-k Inv-loop μ-loop
 shared-slice-read-k c = omega arith
 
--- src/lib.rt:201:17
 mul-s : tie.Need-mul-s Inv-loop μ-loop
 mul-s c = omega arith
 
--- src/lib.rt:201:17
 shared-slice-read-s : tie.Need-shared-slice-read-s Inv-loop μ-loop
 shared-slice-read-s c = omega arith
 
--- src/lib.rt:202:13
 turn-requires : tie.Need-turn-requires Inv-loop μ-loop
 turn-requires c κs =
     let start = c .before .before .before .before .before .before .before .before .before .before .before .before in
@@ -58,43 +50,33 @@ turn-requires c κs =
     let able = abled (9 * at .j) 65526 layer (omega (arith, start .pre .0 .few)) (at .inv .able) in
     (omega (arith, at .inv .inside), omega (arith, at .inv .index), omega (arith, at .inv .low, start .pre .0 .few), omega (arith, at .inv .few), at .inv .left-le, able)
 
--- src/lib.rt:205:13
 same-length : tie.Need-same-length Inv-loop μ-loop
 same-length c = omega arith
 
--- src/lib.rt:205:13
 same-length-2 : tie.Need-same-length-2 Inv-loop μ-loop
 same-length-2 c = omega arith
 
--- src/lib.rt:205:13
 returns : tie.Need-returns Inv-loop μ-loop
 returns c = λ initial b. record { inside = λ e. absurd (false≢true e); full = λ cells cs h k e. going-full (c .before .before .before .before .before .before .before .before .before .before .before .before .before .before .before .before .before .before .args .chars .now) (c .before .before .before .before .before .before .before .before .before .before .before .before .before .before .before .before .before .before .args .kanji .now) (c .before .before .before .before .before .before .before .before .before .before .before .before .before .before .before .before .before .before .args .symbols .now) (c .before .before .before .before .before .before .before .before .before .before .before .before .before .before .before .before .before .before .args .n) (c .before .before .before .before .before .before .before .before .before .before .before .before .before .before .before .before .before .before .args .annex) (c .before .before .before .before .before .before .before .before .before .before .before .before .before .before .before .before .before .before .args .rest) (c .before .before .before .before .before .before .before .before .before .before .before .before .before .before .before .before .before .before .args .store .now) (c .before .before .before .before .before .before .before .before .before .before .before .before .loop .store) (c .before .before .before .before .before .before .before .before .before .before .before .before .loop .index) (c .before .before .before .before .before .before .before .before .before .before .before .before .loop .j) (c .before .before .before .before .before .before .before .before .before .before .before .before .loop .from) (c .before .before .before .before .before .before .before .before .before .before .before .before .loop .count) (c .before .before .before .before .before .before .before .before .before .before .before .before .loop .left) (c .before .before .before .before .before .before .before .before .before .before .before .before .loop .floor) (c .before .before .before .before .before .before .before .before .before .before .before .before .loop .inv) (omega arith) _ (c .before .before .before .before .before .before .before .before .before .before .before .before .loop .index) _ _ _ _ (c .before .before .before .before .store .given) (c .before .before .before .before .before .turn .ensures) (not-true _ (c .if1 .taken)) cells cs h k initial b; done = λ cells cs h k r e. absurd (false≢true e) }
 
--- src/lib.rt:212:16
 add-from : tie.Need-add-from Inv-loop μ-loop
 add-from c = omega arith
 
--- src/lib.rt:216:9
 add-j : tie.Need-add-j Inv-loop μ-loop
 add-j c = omega arith
 
--- src/lib.rt:198:5
 loop-less : tie.Need-loop-less Inv-loop μ-loop
 loop-less c = omega arith
 
--- src/lib.rt:198:5
 loop-again : tie.Need-loop-again Inv-loop μ-loop
 loop-again c = going-on (c .before .before .before .before .before .before .before .before .before .before .before .before .before .before .before .before .before .before .args .chars .now) (c .before .before .before .before .before .before .before .before .before .before .before .before .before .before .before .before .before .before .args .kanji .now) (c .before .before .before .before .before .before .before .before .before .before .before .before .before .before .before .before .before .before .args .symbols .now) (c .before .before .before .before .before .before .before .before .before .before .before .before .before .before .before .before .before .before .args .n) (c .before .before .before .before .before .before .before .before .before .before .before .before .before .before .before .before .before .before .args .annex) (c .before .before .before .before .before .before .before .before .before .before .before .before .before .before .before .before .before .before .args .rest) (c .before .before .before .before .before .before .before .before .before .before .before .before .before .before .before .before .before .before .args .store .now) (c .before .before .before .before .before .before .before .before .before .before .before .before .loop .store) (c .before .before .before .before .before .before .before .before .before .before .before .before .loop .index) (c .before .before .before .before .before .before .before .before .before .before .before .before .loop .j) (c .before .before .before .before .before .before .before .before .before .before .before .before .loop .from) (c .before .before .before .before .before .before .before .before .before .before .before .before .loop .count) (c .before .before .before .before .before .before .before .before .before .before .before .before .loop .left) (c .before .before .before .before .before .before .before .before .before .before .before .before .loop .floor) (c .before .before .before .before .before .before .before .before .before .before .before .before .loop .inv) (omega arith) _ _ _ _ _ _ (c .before .before .before .before .store .given) (c .before .before .before .before .before .turn .ensures) (c .before .before .index .given) (not-false _ (c .if1 .left))
 
--- src/lib.rt:180:1
 same-length-3 : tie.Need-same-length-3 Inv-loop μ-loop
 same-length-3 c = omega arith
 
--- src/lib.rt:180:1
 same-length-4 : tie.Need-same-length-4 Inv-loop μ-loop
 same-length-4 c = omega arith
 
--- src/lib.rt:180:1
 returns-2 : tie.Need-returns-2 Inv-loop μ-loop
 returns-2 c = λ initial b. record { inside = λ e. omega (arith, c .before .loop .inv .inside, c .before .loop .inv .same); full = λ cells cs h k e. absurd (true≢false e); done = λ cells cs h k r e. going-end (c .before .before .before .before .before .before .before .args .chars .now) (c .before .before .before .before .before .before .before .args .kanji .now) (c .before .before .before .before .before .before .before .args .symbols .now) (c .before .before .before .before .before .before .before .args .n) (c .before .before .before .before .before .before .before .args .annex) (c .before .before .before .before .before .before .before .args .rest) (c .before .before .before .before .before .before .before .args .store .now) (c .before .loop .store) (c .before .loop .index) (c .before .loop .j) (c .before .loop .from) (c .before .loop .count) (c .before .loop .left) (c .before .loop .floor) (c .before .loop .inv) (c .loop-test .left) cells cs h k r initial b }
 

@@ -15,31 +15,24 @@ use Rattle.encode_layer.proofs.put_node.Reads as put-node-reads
 use Rattle.encode_search.proofs.run.Reads as run-reads
 use Rattle.encode_states.proofs.start.Reads as start-reads
 
--- src/lib.rt:242:9
 returns : tie.Need-returns
 returns c = no-room (c .before .before .before .before .before .args .chars .now) (c .before .before .before .before .before .args .kanji .now) (c .before .before .before .before .before .args .symbols .now) (c .before .before .before .before .before .args .n) (c .before .before .before .before .before .args .annex) (c .before .before .before .before .before .args .initial) (c .before .before .before .before .before .args .rest) (c .before .before .before .before .before .args .store .now) _ (c .before .before .before .before .before .pre .1) (c .if1 .taken)
 
--- src/lib.rt:250:9
 start-requires : tie.Need-start-requires
 start-requires c κs = search needs
 
--- src/lib.rt:251:5
 put-node-requires : tie.Need-put-node-requires
 put-node-requires c κs = search needs
 
--- src/lib.rt:252:22
 slice-aggregate-run : tie.Need-slice-aggregate-run
 slice-aggregate-run c = search needs
 
--- src/lib.rt:252:5
 run-requires : tie.Need-run-requires
 run-requires c κs = (c .before .before .before .before .before .before .before .before .before .before .before .before .pre .0, omega arith, (search needs), subst (λ (x : List ℕ). All (Able 0) (entriesOf x 0 1)) (sym (c .before .before .before .before .put-node .ensures)) (able-start (c .before .before .before .before .before .before .before .before .before .before .before .before .args .store .now) (c .before .before .before .before .before .before .start .result) (c .before .before .before .before .before .before .before .before .before .before .before .before .args .initial) (c .before .before .before .before .before .before .before .if1 .left) (c .before .before .before .before .before .before .start .ensures)))
 
--- src/lib.rt:228:1
 same-length : tie.Need-same-length
 same-length c = search needs
 
--- src/lib.rt:228:1
 returns-2 : tie.Need-returns-2
 returns-2 c = searched-as (c .before .before .before .before .before .before .before .before .before .before .before .before .before .before .before .before .args .chars .now) (c .before .before .before .before .before .before .before .before .before .before .before .before .before .before .before .before .args .kanji .now) (c .before .before .before .before .before .before .before .before .before .before .before .before .before .before .before .before .args .symbols .now) (c .before .before .before .before .before .before .before .before .before .before .before .before .before .before .before .before .args .n) (c .before .before .before .before .before .before .before .before .before .before .before .before .before .before .before .before .args .annex) (c .before .before .before .before .before .before .before .before .before .before .before .before .before .before .before .before .args .initial) (c .before .before .before .before .before .before .before .before .before .before .before .before .before .before .before .before .args .rest) (c .before .before .before .before .before .before .before .before .before .before .before .before .before .before .before .before .args .store .now) _ _ _ _ _ _ (c .before .before .before .before .before .before .before .store .given) (c .before .before .before .run .ensures (c .before .before .before .before .before .before .before .before .before .before .before .before .before .before .before .before .args .initial) (subst (λ (x : List ℕ). Begins (c .before .before .before .before .before .before .before .before .before .before .before .before .before .before .before .before .args .initial) x) (sym (c .before .before .before .before .before .before .before .before .put-node .ensures)) (begins (c .before .before .before .before .before .before .before .before .before .before .before .before .before .before .before .before .args .store .now) (c .before .before .before .before .before .before .before .before .before .before .start .result) (c .before .before .before .before .before .before .before .before .before .before .before .before .before .before .before .before .args .initial) (c .before .before .before .before .before .before .before .before .before .before .before .if1 .left) (c .before .before .before .before .before .before .before .before .before .before .start .ensures))))
 

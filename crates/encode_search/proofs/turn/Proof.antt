@@ -11,35 +11,27 @@ use Rattle.encode_candidates.proofs.shortest.Reads as shortest-reads
 use Rattle.encode_search.proofs.advance.Reads as advance-reads
 use Rattle.encode_search.proofs.less.Reads as less-reads
 
--- src/lib.rt:148:13
 candidates-requires : tie.Need-candidates-requires
 candidates-requires c κs = search needs
 
--- src/lib.rt:149:27
 shortest-requires : tie.Need-shortest-requires
 shortest-requires c κs = search needs
 
--- src/lib.rt:149:9
 less-requires : tie.Need-less-requires
 less-requires c κs = search needs
 
--- src/lib.rt:159:9
 cast-advance : tie.Need-cast-advance
 cast-advance c = search needs
 
--- src/lib.rt:150:9
 advance-requires : tie.Need-advance-requires
 advance-requires c κs = search needs
 
--- src/lib.rt:133:1
 same-length : tie.Need-same-length
 same-length c = search needs
 
--- src/lib.rt:133:1
 same-length-2 : tie.Need-same-length-2
 same-length-2 c = search needs
 
--- src/lib.rt:133:1
 returns : tie.Need-returns
 returns c =
     let a = c .before .before .before .before .before .before .before .before .before .before .before .before .before .before .before .before .args in

@@ -4,19 +4,15 @@ use Rattle.encode_states.proofs.designation_length.Tie as tie
 use Rattle.encode_states.proofs.designation_length.Reads as reads
 use Rattle.encode_states.proofs.designation_length.Lts as lts
 
--- src/lib.rt:98:9
 returns : tie.Need-returns
 returns c = to-first (c .before .args .x) (c .before .args .n) (c .before .pre) (c .if1 .taken)
 
--- src/lib.rt:101:9
 returns-2 : tie.Need-returns-2
 returns-2 c = kanji (c .before .before .args .x) (c .before .before .args .n) (c .before .if1 .left) (c .if2 .taken)
 
--- src/lib.rt:104:9
 returns-3 : tie.Need-returns-3
 returns-3 c = symbols (c .before .before .before .args .x) (c .before .before .before .args .n) (c .before .before .if1 .left) (c .if3 .taken)
 
--- src/lib.rt:93:1
 returns-4 : tie.Need-returns-4
 returns-4 c = one-byte (c .before .before .before .args .x) (c .before .before .before .args .n) (c .before .before .before .pre) (c .before .if2 .left) (c .if3 .left)
 

@@ -6,7 +6,6 @@ use Rattle.encode_states.proofs.gl.Tie as tie
 use Rattle.encode_states.proofs.gl.Reads as reads
 use Rattle.encode_states.proofs.gl.Lts as lts
 
--- src/lib.rt:32:1
 returns : tie.Need-returns
 unfolding unpack
 returns c = record { small = omega arith; is = refl }

@@ -6,7 +6,6 @@ use Rattle.encode_states.proofs.gr.Tie as tie
 use Rattle.encode_states.proofs.gr.Reads as reads
 use Rattle.encode_states.proofs.gr.Lts as lts
 
--- src/lib.rt:39:1
 returns : tie.Need-returns
 unfolding unpack
 returns c = record { small = omega arith; is = refl }

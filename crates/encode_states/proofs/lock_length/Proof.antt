@@ -4,11 +4,9 @@ use Rattle.encode_states.proofs.lock_length.Tie as tie
 use Rattle.encode_states.proofs.lock_length.Reads as reads
 use Rattle.encode_states.proofs.lock_length.Lts as lts
 
--- src/lib.rt:110:1
 returns : tie.Need-returns
 returns c = lock-short (c .before .args .n) (c .if1 .taken)
 
--- src/lib.rt:110:1
 returns-2 : tie.Need-returns-2
 returns-2 c = lock-long (c .before .args .n) (c .if1 .left)
 

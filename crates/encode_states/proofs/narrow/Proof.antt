@@ -5,7 +5,6 @@ use Rattle.encode_states.proofs.narrow.Tie as tie
 use Rattle.encode_states.proofs.narrow.Reads as reads
 use Rattle.encode_states.proofs.narrow.Lts as lts
 
--- src/lib.rt:49:1
 returns : tie.Need-returns
 unfolding unpack
 returns c = refl

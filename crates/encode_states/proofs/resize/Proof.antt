@@ -5,15 +5,12 @@ use Rattle.encode_states.proofs.resize.Tie as tie
 use Rattle.encode_states.proofs.resize.Reads as reads
 use Rattle.encode_states.proofs.resize.Lts as lts
 
--- src/lib.rt:83:5
 mul-result : tie.Need-mul-result
 mul-result c = search needs
 
--- src/lib.rt:83:5
 add-result : tie.Need-add-result
 add-result c = search needs
 
--- src/lib.rt:79:1
 returns : tie.Need-returns
 returns c = to-narrow (c .args .a) (c .args .n) (c .pre .1) (c .pre .0)
 

@@ -5,19 +5,15 @@ use Rattle.encode_states.proofs.set_in.Tie as tie
 use Rattle.encode_states.proofs.set_in.Reads as reads
 use Rattle.encode_states.proofs.set_in.Lts as lts
 
--- src/lib.rt:28:17
 mul-result : tie.Need-mul-result
 mul-result c = search needs
 
--- src/lib.rt:28:12
 sub-result : tie.Need-sub-result
 sub-result c = search needs
 
--- src/lib.rt:28:6
 shr-result : tie.Need-shr-result
 shr-result c = search needs
 
--- src/lib.rt:24:1
 returns : tie.Need-returns
 returns c = in-element (c .args .a) (c .pre .0) (c .args .n) (c .pre .1)
 

@@ -8,12 +8,10 @@ use Rattle.encode_states.proofs.start.Tie as tie
 use Rattle.encode_states.proofs.start.Reads as reads
 use Rattle.encode_states.proofs.start.Lts as lts
 
--- src/lib.rt:12:1
 returns : tie.Need-returns
 unfolding start unpack
 returns c = record { proper = record { g0 = omega arith; g1 = omega arith; g2 = omega arith; g3 = omega arith }; is = rw (eq-eqb _ _ (c .if1 .taken)) }
 
--- src/lib.rt:12:1
 returns-2 : tie.Need-returns-2
 unfolding start unpack
 returns-2 c = record { proper = record { g0 = omega arith; g1 = omega arith; g2 = omega arith; g3 = omega arith }; is = rw (ne-eqb _ _ (c .if1 .left)) }

@@ -5,23 +5,18 @@ use Rattle.encode_states.proofs.to_gl.Tie as tie
 use Rattle.encode_states.proofs.to_gl.Reads as reads
 use Rattle.encode_states.proofs.to_gl.Lts as lts
 
--- src/lib.rt:73:5
 mul-result : tie.Need-mul-result
 mul-result c = search needs
 
--- src/lib.rt:73:26
 mul-result-2 : tie.Need-mul-result-2
 mul-result-2 c = search needs
 
--- src/lib.rt:73:26
 add-result : tie.Need-add-result
 add-result c = search needs
 
--- src/lib.rt:73:5
 add-result-2 : tie.Need-add-result-2
 add-result-2 c = search needs
 
--- src/lib.rt:69:1
 returns : tie.Need-returns
 returns c = to-gl (c .args .a) (c .args .n) (c .pre .1) (c .pre .0)
 

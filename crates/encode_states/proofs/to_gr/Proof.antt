@@ -5,23 +5,18 @@ use Rattle.encode_states.proofs.to_gr.Tie as tie
 use Rattle.encode_states.proofs.to_gr.Reads as reads
 use Rattle.encode_states.proofs.to_gr.Lts as lts
 
--- src/lib.rt:81:5
 mul-result : tie.Need-mul-result
 mul-result c = search needs
 
--- src/lib.rt:81:26
 mul-result-2 : tie.Need-mul-result-2
 mul-result-2 c = search needs
 
--- src/lib.rt:81:26
 add-result : tie.Need-add-result
 add-result c = search needs
 
--- src/lib.rt:81:5
 add-result-2 : tie.Need-add-result-2
 add-result-2 c = search needs
 
--- src/lib.rt:77:1
 returns : tie.Need-returns
 returns c = to-gr (c .args .a) (c .args .n) (c .pre .1) (c .pre .0)
 

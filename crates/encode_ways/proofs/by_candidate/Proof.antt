@@ -11,70 +11,54 @@ use Rattle.encode_ways.proofs.control_length.Reads as control-length-re
 use Rattle.encode_ways.proofs.size_control.Reads as size-control-reads
 use Rattle.encode_ways.proofs.sized.Reads as sized-reads
 
--- src/lib.rt:243:9
 sized-requires : tie.Need-sized-requires
 sized-requires c κs = search needs
 
--- src/lib.rt:244:9
 size-control-requires : tie.Need-size-control-requires
 size-control-requires c κs = search needs
 
--- src/lib.rt:245:26
 control-length-requires : tie.Need-control-length-requires
 control-length-requires c κs = search needs
 
--- src/lib.rt:245:19
 add-control : tie.Need-add-control
 add-control c = omega (arith, c .control-length .ensures, few-bytes (c .before .size-control .result))
 
--- src/lib.rt:246:20
 mul-k : tie.Need-mul-k
 mul-k c = search needs
 
--- src/lib.rt:246:13
 add-k : tie.Need-add-k
 add-k c = search needs
 
--- src/lib.rt:248:74
 add-by-ways : tie.Need-add-by-ways
 add-by-ways c = omega (arith, c .before .before .before .control-length .ensures, few-bytes (c .before .before .before .before .size-control .result))
 
--- src/lib.rt:248:9
 by-ways-requires : tie.Need-by-ways-requires
 by-ways-requires c κs = (record { store = omega arith; index = omega arith; few = c .before .before .before .before .before .before .before .before .pre .0 .few }, c .before .before .before .before .before .sized .ensures .proper, record { cost-small = omega (arith, c .before .before .before .control-length .ensures, few-bytes (c .before .before .before .before .size-control .result)); link-small = omega (arith, c .before .before .before .before .size-control .ensures .small) }, c .before .before .if1 .taken)
 
--- src/lib.rt:248:9
 same-length : tie.Need-same-length
 same-length c = search needs
 
--- src/lib.rt:248:9
 same-length-2 : tie.Need-same-length-2
 same-length-2 c = search needs
 
--- src/lib.rt:248:9
 returns : tie.Need-returns
 returns c =
     let a = c .before .before .before .before .before .before .before .before .before .before .before .before .before .args in
     λ cs k ks most n at m i h.
     as-graphic cs ks n (a .a) (c .before .before .before .before .before .before .before .before .before .before .sized .result) (a .x) (a .size) (a .len) (a .cost) (a .link) (c .before .before .before .before .before .before .before .before .before .size-control .result) (c .before .before .before .before .before .before .before .before .control-length .result) (a .back) (c .before .before .before .before .before .before .before .before .before .before .before .before .before .pre .4) i (c .before .before .before .before .before .before .before .before .before .size-control .ensures) (c .before .before .before .before .before .before .before .before .control-length .ensures) (c .before .before .before .before .before .before .before .before .before .before .sized .ensures .is) k at m (c .before .before .before .before .before .before .before .if1 .taken) (λ t w. c .before .before .before .before .by-ways .ensures cs most t w (omega (arith, c .before .before .before .before .before .before .before .before .control-length .ensures, few-bytes (c .before .before .before .before .before .before .before .before .before .size-control .result))))
 
--- src/lib.rt:250:64
 add-push : tie.Need-add-push
 add-push c = omega (arith, c .before .before .before .control-length .ensures, few-bytes (c .before .before .before .before .size-control .result))
 
--- src/lib.rt:250:5
 push-requires : tie.Need-push-requires
 push-requires c κs = search needs
 
--- src/lib.rt:226:1
 same-length-3 : tie.Need-same-length-3
 same-length-3 c = search needs
 
--- src/lib.rt:226:1
 same-length-4 : tie.Need-same-length-4
 same-length-4 c = search needs
 
--- src/lib.rt:226:1
 returns-2 : tie.Need-returns-2
 returns-2 c =
     let a = c .before .before .before .before .before .before .before .before .before .before .before .before .before .args in

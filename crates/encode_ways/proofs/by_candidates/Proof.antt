@@ -8,7 +8,7 @@ use lib.ListN.{length, getD, take, drop, replicate}
 use Rattle.coding.specs.Candidates.{Cand, plain}
 use Rattle.coding.specs.Search.{Node, node, pushAll, byCand, byCands}
 use Rattle.encode_states.specs.Packed.{unpack}
-use Rattle.encode_layer.specs.Stands.{room, Changes}
+use Rattle.encode_layer.specs.Layer.{bounds, Changes}
 use Rattle.encode_ways.specs.Turn.{MatchAll, Is}
 use Rattle.encode_ways.proofs.Choosing.{any, any-matches, any-at}
 use Rattle.encode_ways.proofs.Trying.{few-bytes-code, changes-as, no-change, then, one-more, none-yet, all-of, at-link, place-link}
@@ -21,68 +21,53 @@ use Rattle.encode_ways.proofs.code_length.Reads as code-length-reads
 use Rattle.encode_ways.proofs.wide.Reads as wide-reads
 
 abbrev Inv-loop : tie.InvT-loop
-Inv-loop store₀ index₀ from cap count a cost i back m sets codes sizes c₀ k₀ store index c k = (k ≤ m) × (length store ≡ length store₀) × (length index ≡ length index₀) × (take (from * 4) store ≡ take (from * 4) store₀) × ((cs : List Cand) (most : ℕ) (n : Node) → MatchAll cs m sets codes sizes → Is n a cost → cost + 9 ≤ most → Changes cs (room from cap back most) store₀ index₀ count store index c (λ l. byCands n i l (take k cs)))
+Inv-loop store₀ index₀ from cap count a cost i back m sets codes sizes c₀ k₀ store index c k = (k ≤ m) × (length store ≡ length store₀) × (length index ≡ length index₀) × (take (from * 4) store ≡ take (from * 4) store₀) × ((cs : List Cand) (most : ℕ) (n : Node) → MatchAll cs m sets codes sizes → Is n a cost → cost + 9 ≤ most → Changes cs (bounds from cap back most) store₀ index₀ count store index c (λ l. byCands n i l (take k cs)))
 
 abbrev μ-loop : tie.MeasureT-loop
 μ-loop store₀ index₀ from cap count a cost i back m sets codes sizes c₀ k₀ store index c k = m - k
 
--- src/lib.rt:292:5
 loop-holds : tie.Need-loop-holds Inv-loop μ-loop
-loop-holds c = (omega arith, refl, refl, refl, λ cs most n m i h. changes-as (λ l. l) _ (none-yet n (c .before .before .args .i) cs) (no-change cs (room (c .before .before .args .from) (c .before .before .args .cap) (c .before .before .args .back) most) (c .before .before .args .store .now) (c .before .before .args .index .now) (c .before .before .args .count)))
+loop-holds c = (omega arith, refl, refl, refl, λ cs most n m i h. changes-as (λ l. l) _ (none-yet n (c .before .before .args .i) cs) (no-change cs (bounds (c .before .before .args .from) (c .before .before .args .cap) (c .before .before .args .back) most) (c .before .before .args .store .now) (c .before .before .args .index .now) (c .before .before .args .count)))
 
--- src/lib.rt:293:22
 element-copy-out-wide : tie.Need-element-copy-out-wide Inv-loop μ-loop
 element-copy-out-wide c = search needs
 
--- src/lib.rt:293:13
 wide-requires : tie.Need-wide-requires Inv-loop μ-loop
 wide-requires c κs = search needs
 
--- src/lib.rt:294:25
 element-copy-out-wide-2 : tie.Need-element-copy-out-wide-2 Inv-loop μ-loop
 element-copy-out-wide-2 c = search needs
 
--- src/lib.rt:294:13
 wide-requires-2 : tie.Need-wide-requires-2 Inv-loop μ-loop
 wide-requires-2 c κs = search needs
 
--- src/lib.rt:295:31
 mul-code-length : tie.Need-mul-code-length Inv-loop μ-loop
 mul-code-length c = search needs
 
--- src/lib.rt:295:31
 element-copy-out-code-length : tie.Need-element-copy-out-code-length Inv-loop μ-loop
 element-copy-out-code-length c = search needs
 
--- src/lib.rt:295:13
 code-length-requires : tie.Need-code-length-requires Inv-loop μ-loop
 code-length-requires c κs = search needs
 
--- src/lib.rt:296:25
 cast-link : tie.Need-cast-link Inv-loop μ-loop
 cast-link c = omega arith
 
--- src/lib.rt:296:24
 mul-link : tie.Need-mul-link Inv-loop μ-loop
 mul-link c = omega arith
 
--- src/lib.rt:296:20
 add-link : tie.Need-add-link Inv-loop μ-loop
 add-link c = omega arith
 
--- src/lib.rt:297:9
 by-candidate-requires : tie.Need-by-candidate-requires Inv-loop μ-loop
 by-candidate-requires c κs = (record { store = omega arith; index = omega arith; few = c .before .before .before .before .before .before .before .before .before .before .before .before .pre .0 .few }, c .before .before .before .before .before .before .before .before .before .before .before .before .pre .1, c .before .before .before .before .before .before .before .before .before .before .before .before .pre .2, omega (arith, c .before .before .code-length .ensures, few-bytes-code (getD (c .before .before .before .before .before .before .before .before .before .before .before .before .args .codes .now) (c .before .before .before .before .before .before .before .before .before .loop .k) 0)), omega arith)
 
--- src/lib.rt:298:9
 add-k : tie.Need-add-k Inv-loop μ-loop
 add-k c = omega arith
 
--- src/lib.rt:292:5
 loop-less : tie.Need-loop-less Inv-loop μ-loop
 loop-less c = omega arith
 
--- src/lib.rt:292:5
 loop-again : tie.Need-loop-again Inv-loop μ-loop
 loop-again c =
     let a = c .before .before .before .before .before .before .before .before .before .before .before .before .before .before .before .before .before .args in
@@ -101,15 +86,12 @@ loop-again c =
           (then _ _ (c .before .before .before .before .before .before .before .before .before .before .before .before .before .before .loop .inv .4 cs most n m i h) (c .before .before .before .before .by-candidate .ensures cs (getD cs k (plain 0 0)) (drop (suc k) cs) most n (at-link cs (a .i) k (c .before .before .before .before .before .before .before .before .before .before .before .before .before .before .before .before .before .pre .3) lt) (rw (c .before .before .before .before .before .before .before .before .before .before .before .wide .ensures, c .before .before .before .before .before .before .before .before .before .wide2 .ensures, c .before .before .before .before .before .before .before .code-length .ensures) (m .each k (omega arith))) i h)),
     )
 
--- src/lib.rt:271:1
 same-length : tie.Need-same-length Inv-loop μ-loop
 same-length c = c .before .loop .inv .1
 
--- src/lib.rt:271:1
 same-length-2 : tie.Need-same-length-2 Inv-loop μ-loop
 same-length-2 c = c .before .loop .inv .2
 
--- src/lib.rt:271:1
 returns : tie.Need-returns Inv-loop μ-loop
 returns c = (c .before .loop .inv .3, λ cs most n m i h. changes-as _ _ (all-of n (c .before .before .before .before .args .i) cs (c .before .loop .k) (omega (arith, m .many))) (c .before .loop .inv .4 cs most n m i h))
 

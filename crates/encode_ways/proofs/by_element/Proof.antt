@@ -19,35 +19,27 @@ use Rattle.encode_states.proofs.designation_length.Reads as designation-length-
 use Rattle.encode_states.proofs.set_in.Reads as set-in-reads
 use Rattle.encode_ways.proofs.through.Reads as through-reads
 
--- src/lib.rt:109:9
 designate-requires : tie.Need-designate-requires
 designate-requires c κs = search needs
 
--- src/lib.rt:111:24
 mul-k : tie.Need-mul-k
 mul-k c = search needs
 
--- src/lib.rt:111:17
 add-k : tie.Need-add-k
 add-k c = search needs
 
--- src/lib.rt:112:8
 set-in-requires : tie.Need-set-in-requires
 set-in-requires c κs = search needs
 
--- src/lib.rt:113:23
 designation-length-requires : tie.Need-designation-length-requires
 designation-length-requires c κs = search needs
 
--- src/lib.rt:113:16
 add-more : tie.Need-add-more
 add-more c = omega (arith, c .designation-length .ensures, designation-most (c .before .before .before .before .before .before .args .x) (c .before .before .before .before .before .before .args .n) (c .before .before .before .before .before .before .pre .5))
 
--- src/lib.rt:114:13
 add-k-2 : tie.Need-add-k-2
 add-k-2 c = search needs
 
--- src/lib.rt:116:5
 through-requires : tie.Need-through-requires
 through-requires c κs =
     let a = c .before .before .before .before .before .before .before .args in
@@ -64,15 +56,12 @@ through-requires c κs =
       c .before .before .before .before .before .before .before .pre .4,
     )
 
--- src/lib.rt:91:1
 same-length : tie.Need-same-length
 same-length c = search needs
 
--- src/lib.rt:91:1
 same-length-2 : tie.Need-same-length-2
 same-length-2 c = search needs
 
--- src/lib.rt:91:1
 returns : tie.Need-returns
 returns c =
     let a = c .before .before .before .before .before .before .before .before .before .before .before .before .args in

@@ -7,7 +7,7 @@ use lib.ListN.{length}
 use Rattle.coding.specs.Candidates.{Cand}
 use Rattle.coding.specs.Search.{byWays}
 use Rattle.encode_states.specs.Packed.{setOf, unpack}
-use Rattle.encode_layer.specs.Stands.{room, Pushes}
+use Rattle.encode_layer.specs.Layer.{bounds, Pushes}
 use Rattle.encode_ways.specs.Turn.{Turn, By, upTo}
 use Rattle.encode_ways.proofs.Chain.{none}
 use Rattle.encode_ways.proofs.Reaching.{up-one, up-none}
@@ -20,48 +20,38 @@ use Rattle.encode_states.proofs.gr.Reads as gr-reads
 use Rattle.encode_ways.proofs.by_element.Reads as by-element-reads
 
 abbrev Inv-loop : tie.InvT-loop
-Inv-loop store₀ index₀ from cap count a x cost link back l r c₀ n₀ store index c n = (n ≤ 4) × (length store ≡ length store₀) × (length index ≡ length index₀) × ((cs : List Cand) (most : ℕ) (t : Turn) → By cs t x cost link → cost + 6 ≤ most → Pushes cs (room from cap back most) store₀ index₀ count store index c (byWays (t .base) (t .place) (t .pre) (t .code) (upTo (unpack a) (setOf x) n)))
+Inv-loop store₀ index₀ from cap count a x cost link back l r c₀ n₀ store index c n = (n ≤ 4) × (length store ≡ length store₀) × (length index ≡ length index₀) × ((cs : List Cand) (most : ℕ) (t : Turn) → By cs t x cost link → cost + 6 ≤ most → Pushes cs (bounds from cap back most) store₀ index₀ count store index c (byWays (t .base) (t .place) (t .pre) (t .code) (upTo (unpack a) (setOf x) n)))
 
 abbrev μ-loop : tie.MeasureT-loop
 μ-loop store₀ index₀ from cap count a x cost link back l r c₀ n₀ store index c n = 4 - n
 
--- src/lib.rt:135:9
 gl-requires : tie.Need-gl-requires Inv-loop μ-loop
 gl-requires c κs = search needs
 
--- src/lib.rt:136:9
 gr-requires : tie.Need-gr-requires Inv-loop μ-loop
 gr-requires c κs = search needs
 
--- src/lib.rt:139:5
 loop-holds : tie.Need-loop-holds Inv-loop μ-loop
-loop-holds c = (omega arith, refl, refl, λ cs most t w h. up-none cs (room (c .before .before .before .before .args .from) (c .before .before .before .before .args .cap) (c .before .before .before .before .args .back) most) (c .before .before .before .before .args .store .now) (c .before .before .before .before .args .index .now) (c .before .before .before .before .args .count) t (unpack (c .before .before .before .before .args .a)) (setOf (c .before .before .before .before .args .x)))
+loop-holds c = (omega arith, refl, refl, λ cs most t w h. up-none cs (bounds (c .before .before .before .before .args .from) (c .before .before .before .before .args .cap) (c .before .before .before .before .args .back) most) (c .before .before .before .before .args .store .now) (c .before .before .before .before .args .index .now) (c .before .before .before .before .args .count) t (unpack (c .before .before .before .before .args .a)) (setOf (c .before .before .before .before .args .x)))
 
--- src/lib.rt:140:9
 by-element-requires : tie.Need-by-element-requires Inv-loop μ-loop
 by-element-requires c κs = (record { store = omega arith; index = omega arith; few = c .before .before .before .before .before .before .before .before .pre .0 .few }, c .before .before .before .before .before .before .before .before .pre .1, record { left = c .before .before .before .before .before .gl .ensures .is; right = c .before .before .before .before .gr .ensures .is }, c .before .before .before .before .before .before .before .before .pre .2, c .before .before .loop-test .taken, c .before .before .before .before .before .before .before .before .pre .3)
 
--- src/lib.rt:141:9
 add-n : tie.Need-add-n Inv-loop μ-loop
 add-n c = omega arith
 
--- src/lib.rt:139:5
 loop-less : tie.Need-loop-less Inv-loop μ-loop
 loop-less c = omega arith
 
--- src/lib.rt:139:5
 loop-again : tie.Need-loop-again Inv-loop μ-loop
 loop-again c = (omega arith, omega arith, omega arith, λ cs most t w h. up-one t (unpack (c .before .before .before .before .before .before .before .before .before .before .before .before .before .args .a)) (setOf (c .before .before .before .before .before .before .before .before .before .before .before .before .before .args .x)) (c .before .before .before .before .before .before .before .before .loop .n) (c .before .before .before .before .before .before .before .before .loop .inv .3 cs most t w h) (c .before .before .before .before .by-element .ensures cs most t w h))
 
--- src/lib.rt:120:1
 same-length : tie.Need-same-length Inv-loop μ-loop
 same-length c = c .before .loop .inv .1
 
--- src/lib.rt:120:1
 same-length-2 : tie.Need-same-length-2 Inv-loop μ-loop
 same-length-2 c = c .before .loop .inv .2
 
--- src/lib.rt:120:1
 returns : tie.Need-returns Inv-loop μ-loop
 returns c = let e : c .before .loop .n ≡ 4 = omega arith in rw e at (c .before .loop .inv .3)
 

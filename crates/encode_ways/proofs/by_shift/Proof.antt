@@ -15,35 +15,27 @@ use Rattle.encode_states.proofs.lock_length.Reads as lock-length-reads
 use Rattle.encode_states.proofs.to_gl.Reads as to-gl-reads
 use Rattle.encode_states.proofs.to_gr.Reads as to-gr-reads
 
--- src/lib.rt:40:9
 to-gl-requires : tie.Need-to-gl-requires
 to-gl-requires c κs = search needs
 
--- src/lib.rt:41:23
 lock-length-requires : tie.Need-lock-length-requires
 lock-length-requires c κs = search needs
 
--- src/lib.rt:41:16
 add-lock : tie.Need-add-lock
 add-lock c = omega (arith, c .lock-length .ensures, lock-most (c .before .before .before .before .args .n))
 
--- src/lib.rt:42:81
 add-push : tie.Need-add-push
 add-push c = search needs
 
--- src/lib.rt:42:9
 push-requires : tie.Need-push-requires
 push-requires c κs = search needs
 
--- src/lib.rt:44:9
 same-length : tie.Need-same-length
 same-length c = search needs
 
--- src/lib.rt:44:9
 same-length-2 : tie.Need-same-length-2
 same-length-2 c = search needs
 
--- src/lib.rt:44:9
 returns : tie.Need-returns
 returns c =
     let a = c .before .before .before .before .before .before .before .before .before .before .before .before .args in
@@ -52,31 +44,24 @@ returns c =
     let p1 = renamed _ (reached t (p ++ lockGL (a .n)) (invokeGL b (a .n)) 0) (locks cs t p (a .n) (a .cost) (a .link) w (c .before .before .before .before .before .before .before .before .before .to-gl .result) (c .before .before .before .before .before .before .before .before .lock-length .result) (a .back) (invokeGL b (a .n)) (c .before .before .before .before .before .before .before .before .before .to-gl .ensures .is) (c .before .before .before .before .before .before .before .before .lock-length .ensures)) (c .before .before .before .before .before .push .ensures cs most (omega (arith, c .before .before .before .before .before .before .before .before .lock-length .ensures, lock-most (a .n)))) in
     pushes-as _ _ (sym (by-one t p b (a .n) (c .before .before .before .before .before .before .before .before .before .before .before .before .pre .2 .left) (c .before .before .before .before .before .before .before .before .before .before .before .before .pre .2 .right) (c .if1 .taken))) p1
 
--- src/lib.rt:46:9
 to-gr-requires : tie.Need-to-gr-requires
 to-gr-requires c κs = search needs
 
--- src/lib.rt:47:72
 add-push-2 : tie.Need-add-push-2
 add-push-2 c = search needs
 
--- src/lib.rt:47:82
 add-push-3 : tie.Need-add-push-3
 add-push-3 c = search needs
 
--- src/lib.rt:47:9
 push-requires-2 : tie.Need-push-requires-2
 push-requires-2 c κs = search needs
 
--- src/lib.rt:49:9
 same-length-3 : tie.Need-same-length-3
 same-length-3 c = search needs
 
--- src/lib.rt:49:9
 same-length-4 : tie.Need-same-length-4
 same-length-4 c = search needs
 
--- src/lib.rt:49:9
 returns-2 : tie.Need-returns-2
 returns-2 c =
     let a = c .before .before .before .before .before .before .before .before .before .before .before .before .before .before .before .before .before .before .before .before .before .args in
@@ -86,27 +71,21 @@ returns-2 c =
     let p2 = renamed _ (reached t (p ++ lockGR (a .n)) (invokeGR b (a .n)) 128) (locks-right cs t p (a .n) (a .cost) (a .link) w (c .before .before .before .before .before .before .before .before .to-gr .result) (a .back) (invokeGR b (a .n)) (c .before .before .before .before .before .before .before .before .to-gr .ensures .is)) (c .before .before .before .before .before .push2 .ensures cs most (omega arith)) in
     pushes-as _ _ (sym (by-two t p b (a .n) (c .before .before .before .before .before .before .before .before .before .before .before .before .before .before .before .before .before .before .before .before .before .pre .2 .left) (c .before .before .before .before .before .before .before .before .before .before .before .before .before .before .before .before .before .before .before .before .before .pre .2 .right) (c .before .before .before .before .before .before .before .before .before .if1 .left) (c .if2 .taken))) (and (_ ∷ []) (_ ∷ []) p1 p2)
 
--- src/lib.rt:51:60
 add-push-4 : tie.Need-add-push-4
 add-push-4 c = search needs
 
--- src/lib.rt:51:70
 add-push-5 : tie.Need-add-push-5
 add-push-5 c = search needs
 
--- src/lib.rt:51:5
 push-requires-3 : tie.Need-push-requires-3
 push-requires-3 c κs = search needs
 
--- src/lib.rt:25:1
 same-length-5 : tie.Need-same-length-5
 same-length-5 c = search needs
 
--- src/lib.rt:25:1
 same-length-6 : tie.Need-same-length-6
 same-length-6 c = search needs
 
--- src/lib.rt:25:1
 returns-3 : tie.Need-returns-3
 returns-3 c =
     let a = c .before .before .before .before .before .before .before .before .before .before .before .before .before .before .before .before .before .before .before .before .before .before .before .before .before .before .before .before .args in

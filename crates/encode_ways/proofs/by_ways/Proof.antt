@@ -15,43 +15,33 @@ use Rattle.encode_states.proofs.gr.Reads as gr-reads
 use Rattle.encode_states.proofs.set_in.Reads as set-in-reads
 use Rattle.encode_ways.proofs.by_elements.Reads as by-elements-reads
 
--- src/lib.rt:163:34
 gl-requires : tie.Need-gl-requires
 gl-requires c κs = search needs
 
--- src/lib.rt:163:9
 set-in-requires : tie.Need-set-in-requires
 set-in-requires c κs = search needs
 
--- src/lib.rt:164:35
 gr-requires : tie.Need-gr-requires
 gr-requires c κs = search needs
 
--- src/lib.rt:164:9
 set-in-requires-2 : tie.Need-set-in-requires-2
 set-in-requires-2 c κs = search needs
 
--- src/lib.rt:166:13
 push-requires : tie.Need-push-requires
 push-requires c κs = search needs
 
--- src/lib.rt:168:81
 add-push : tie.Need-add-push
 add-push c = search needs
 
--- src/lib.rt:168:13
 push-requires-2 : tie.Need-push-requires-2
 push-requires-2 c κs = search needs
 
--- src/lib.rt:168:13
 same-length : tie.Need-same-length
 same-length c = search needs
 
--- src/lib.rt:168:13
 same-length-2 : tie.Need-same-length-2
 same-length-2 c = search needs
 
--- src/lib.rt:168:13
 returns : tie.Need-returns
 returns c =
     let a = c .before .before .before .before .before .before .before .before .before .before .before .before .before .before .before .before .before .before .before .before .before .before .args in
@@ -64,15 +54,12 @@ returns c =
     let p2 = renamed _ (reached t [] b 128) (stands-right cs t [] 0 (a .cost) (a .link) v (a .a) (a .back)) (c .before .before .before .before .push2 .ensures cs most (omega arith)) in
     pushes-as _ _ (sym (set-both t b (a .x) (c .before .before .before .before .before .before .before .before .before .before .before .before .before .before .before .before .before .before .set-in .result) (c .before .before .before .before .before .before .before .before .before .before .before .before .before .before .before .before .set-in2 .result) cl cr (c .before .before .before .before .before .before .before .before .before .before .before .before .before .before .before .if1 .taken) (c .before .before .before .before .before .before .before .if2 .taken))) (and (_ ∷ []) (_ ∷ []) p1 p2)
 
--- src/lib.rt:170:9
 same-length-3 : tie.Need-same-length-3
 same-length-3 c = search needs
 
--- src/lib.rt:170:9
 same-length-4 : tie.Need-same-length-4
 same-length-4 c = search needs
 
--- src/lib.rt:170:9
 returns-2 : tie.Need-returns-2
 returns-2 c =
     let a = c .before .before .before .before .before .before .before .before .before .before .before .before .before .before .before .args in
@@ -84,23 +71,18 @@ returns-2 c =
     let p1 = renamed _ (reached t [] b 0) (stands cs t [] 0 (a .cost) (a .link) v (a .a) (a .back)) (c .before .before .before .before .before .push .ensures cs most (omega arith)) in
     pushes-as _ _ (sym (set-left t b (a .x) (c .before .before .before .before .before .before .before .before .before .before .before .set-in .result) (c .before .before .before .before .before .before .before .before .before .set-in2 .result) cl cr (c .before .before .before .before .before .before .before .before .if1 .taken) (c .if2 .left))) p1
 
--- src/lib.rt:173:81
 add-push-2 : tie.Need-add-push-2
 add-push-2 c = search needs
 
--- src/lib.rt:173:9
 push-requires-3 : tie.Need-push-requires-3
 push-requires-3 c κs = search needs
 
--- src/lib.rt:173:9
 same-length-5 : tie.Need-same-length-5
 same-length-5 c = search needs
 
--- src/lib.rt:173:9
 same-length-6 : tie.Need-same-length-6
 same-length-6 c = search needs
 
--- src/lib.rt:173:9
 returns-3 : tie.Need-returns-3
 returns-3 c =
     let a = c .before .before .before .before .before .before .before .before .before .before .before .before .before .before .before .args in
@@ -112,19 +94,15 @@ returns-3 c =
     let p2 = renamed _ (reached t [] b 128) (stands-right cs t [] 0 (a .cost) (a .link) v (a .a) (a .back)) (c .before .before .before .before .push3 .ensures cs most (omega arith)) in
     pushes-as _ _ (sym (set-right t b (a .x) (c .before .before .before .before .before .before .before .before .before .before .before .set-in .result) (c .before .before .before .before .before .before .before .before .before .set-in2 .result) cl cr (c .before .before .before .before .before .before .before .before .if1 .left) (c .before .before .before .before .before .before .before .if3 .taken))) p2
 
--- src/lib.rt:175:5
 by-elements-requires : tie.Need-by-elements-requires
 by-elements-requires c κs = search needs
 
--- src/lib.rt:148:1
 same-length-7 : tie.Need-same-length-7
 same-length-7 c = search needs
 
--- src/lib.rt:148:1
 same-length-8 : tie.Need-same-length-8
 same-length-8 c = search needs
 
--- src/lib.rt:148:1
 returns-4 : tie.Need-returns-4
 returns-4 c =
     let a = c .before .before .before .before .before .before .before .before .before .before .before .before .before .before .before .args in

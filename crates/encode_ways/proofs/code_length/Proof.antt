@@ -4,11 +4,9 @@ use Rattle.encode_ways.proofs.code_length.Tie as tie
 use Rattle.encode_ways.proofs.code_length.Reads as reads
 use Rattle.encode_ways.proofs.code_length.Lts as lts
 
--- src/lib.rt:254:1
 returns : tie.Need-returns
 returns c = one-byte-code (c .before .args .code) (c .if1 .taken)
 
--- src/lib.rt:254:1
 returns-2 : tie.Need-returns-2
 returns-2 c = two-byte-code (c .before .args .code) (c .if1 .left)
 

@@ -4,11 +4,9 @@ use Rattle.encode_ways.proofs.control_length.Tie as tie
 use Rattle.encode_ways.proofs.control_length.Reads as reads
 use Rattle.encode_ways.proofs.control_length.Lts as lts
 
--- src/lib.rt:199:1
 returns : tie.Need-returns
 returns c = no-bytes (c .before .args .z) (c .if1 .taken)
 
--- src/lib.rt:199:1
 returns-2 : tie.Need-returns-2
 returns-2 c = one-byte (c .before .args .z) (c .if1 .left)
 

@@ -8,27 +8,21 @@ use Rattle.encode_ways.proofs.size_control.Reads as reads
 use Rattle.encode_ways.proofs.size_control.Lts as lts
 use Rattle.encode_states.proofs.narrow.Reads as narrow-reads
 
--- src/lib.rt:182:9
 narrow-requires : tie.Need-narrow-requires
 narrow-requires c κs = search needs
 
--- src/lib.rt:185:13
 returns : tie.Need-returns
 returns c = msz (unpack (c .before .before .before .args .a)) (c .before .before .before .args .size) (c .before .if1 .taken) (sym (c .before .before .narrow .ensures) ∙ c .if2 .taken)
 
--- src/lib.rt:187:9
 returns-2 : tie.Need-returns-2
 returns-2 c = narrow-already (unpack (c .before .before .before .args .a)) (c .before .before .before .args .size) (c .before .if1 .taken) (λ e. c .if2 .left ((c .before .before .narrow .ensures) ∙ e))
 
--- src/lib.rt:191:13
 returns-3 : tie.Need-returns-3
 returns-3 c = nsz (unpack (c .before .before .before .before .args .a)) (c .before .before .before .before .args .size) (c .before .if3 .taken) (sym (c .before .before .before .narrow .ensures) ∙ c .if4 .taken)
 
--- src/lib.rt:193:9
 returns-4 : tie.Need-returns-4
 returns-4 c = wide-already (unpack (c .before .before .before .before .args .a)) (c .before .before .before .before .args .size) (c .before .if3 .taken) (λ e. c .if4 .left ((c .before .before .before .narrow .ensures) ∙ e))
 
--- src/lib.rt:179:1
 returns-5 : tie.Need-returns-5
 returns-5 c = no-size (unpack (c .before .before .before .args .a)) (c .before .before .before .args .size) (c .before .if1 .left) (c .if3 .left)
 

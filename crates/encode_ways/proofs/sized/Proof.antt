@@ -6,23 +6,18 @@ use Rattle.encode_ways.proofs.sized.Reads as reads
 use Rattle.encode_ways.proofs.sized.Lts as lts
 use Rattle.encode_states.proofs.resize.Reads as resize-reads
 
--- src/lib.rt:215:9
 returns : tie.Need-returns
 returns c = any-size (c .before .args .a) (c .before .args .size) (c .before .pre) (c .if1 .taken)
 
--- src/lib.rt:218:9
 resize-requires : tie.Need-resize-requires
 resize-requires c κs = search needs
 
--- src/lib.rt:218:9
 returns-2 : tie.Need-returns-2
 returns-2 c = to-narrow (c .before .before .before .args .a) (c .resize .result) (c .before .before .before .args .size) (c .before .if2 .taken) (c .resize .ensures)
 
--- src/lib.rt:220:5
 resize-requires-2 : tie.Need-resize-requires-2
 resize-requires-2 c κs = search needs
 
--- src/lib.rt:210:1
 returns-3 : tie.Need-returns-3
 returns-3 c = to-wide (c .before .before .before .args .a) (c .resize2 .result) (c .before .before .before .args .size) (c .before .before .if1 .left) (c .before .if2 .left) (c .resize2 .ensures)
 

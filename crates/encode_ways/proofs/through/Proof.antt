@@ -12,27 +12,21 @@ use Rattle.encode_ways.proofs.through.Lts as lts
 use Rattle.encode_layer.proofs.push.Reads as push-reads
 use Rattle.encode_ways.proofs.by_shift.Reads as by-shift-reads
 
--- src/lib.rt:73:13
 push-requires : tie.Need-push-requires
 push-requires c κs = search needs
 
--- src/lib.rt:75:81
 add-push : tie.Need-add-push
 add-push c = search needs
 
--- src/lib.rt:75:13
 push-requires-2 : tie.Need-push-requires-2
 push-requires-2 c κs = search needs
 
--- src/lib.rt:75:13
 same-length : tie.Need-same-length
 same-length c = search needs
 
--- src/lib.rt:75:13
 same-length-2 : tie.Need-same-length-2
 same-length-2 c = search needs
 
--- src/lib.rt:75:13
 returns : tie.Need-returns
 returns c =
     let a = c .before .before .before .before .before .before .before .before .before .before .before .before .before .before .before .before .before .before .args in
@@ -42,15 +36,12 @@ returns c =
     let p2 = renamed _ (reached t p b 128) (stands-right cs t p (a .n) (a .cost) (a .link) w (a .a) (a .back)) (c .before .before .before .before .push2 .ensures cs most (omega arith)) in
     pushes-as _ _ (sym (in-both t p b (a .n) (sym (c .before .before .before .before .before .before .before .before .before .before .before .before .before .before .before .before .before .before .pre .2 .left) ∙ c .before .before .before .before .before .before .before .before .before .before .before .before .before .before .before .if1 .taken) (sym (c .before .before .before .before .before .before .before .before .before .before .before .before .before .before .before .before .before .before .pre .2 .right) ∙ c .before .before .before .before .before .before .before .if2 .taken))) (and (_ ∷ []) (_ ∷ []) p1 p2)
 
--- src/lib.rt:77:9
 same-length-3 : tie.Need-same-length-3
 same-length-3 c = search needs
 
--- src/lib.rt:77:9
 same-length-4 : tie.Need-same-length-4
 same-length-4 c = search needs
 
--- src/lib.rt:77:9
 returns-2 : tie.Need-returns-2
 returns-2 c =
     let a = c .before .before .before .before .before .before .before .before .before .before .before .args in
@@ -59,23 +50,18 @@ returns-2 c =
     let p1 = renamed _ (reached t p b 0) (stands cs t p (a .n) (a .cost) (a .link) w (a .a) (a .back)) (c .before .before .before .before .before .push .ensures cs most (omega arith)) in
     pushes-as _ _ (sym (in-left t p b (a .n) (sym (c .before .before .before .before .before .before .before .before .before .before .before .pre .2 .left) ∙ c .before .before .before .before .before .before .before .before .if1 .taken) (λ e. c .if2 .left (c .before .before .before .before .before .before .before .before .before .before .before .pre .2 .right ∙ e)))) p1
 
--- src/lib.rt:80:81
 add-push-2 : tie.Need-add-push-2
 add-push-2 c = search needs
 
--- src/lib.rt:80:9
 push-requires-3 : tie.Need-push-requires-3
 push-requires-3 c κs = search needs
 
--- src/lib.rt:80:9
 same-length-5 : tie.Need-same-length-5
 same-length-5 c = search needs
 
--- src/lib.rt:80:9
 same-length-6 : tie.Need-same-length-6
 same-length-6 c = search needs
 
--- src/lib.rt:80:9
 returns-3 : tie.Need-returns-3
 returns-3 c =
     let a = c .before .before .before .before .before .before .before .before .before .before .before .args in
@@ -84,19 +70,15 @@ returns-3 c =
     let p2 = renamed _ (reached t p b 128) (stands-right cs t p (a .n) (a .cost) (a .link) w (a .a) (a .back)) (c .before .before .before .before .push3 .ensures cs most (omega arith)) in
     pushes-as _ _ (sym (in-right t p b (a .n) (λ e. c .before .before .before .before .before .before .before .before .if1 .left (c .before .before .before .before .before .before .before .before .before .before .before .pre .2 .left ∙ e)) (sym (c .before .before .before .before .before .before .before .before .before .before .before .pre .2 .right) ∙ c .before .before .before .before .before .before .before .if3 .taken))) p2
 
--- src/lib.rt:82:5
 by-shift-requires : tie.Need-by-shift-requires
 by-shift-requires c κs = search needs
 
--- src/lib.rt:55:1
 same-length-7 : tie.Need-same-length-7
 same-length-7 c = search needs
 
--- src/lib.rt:55:1
 same-length-8 : tie.Need-same-length-8
 same-length-8 c = search needs
 
--- src/lib.rt:55:1
 returns-4 : tie.Need-returns-4
 returns-4 c = search needs
 

@@ -4,13 +4,13 @@ use mathlib.Core.Path.{_≡_, refl, _∙_}
 use native.Mathlib.Omega.{arith}
 use borrow.Author.Needs.{needs}
 use lib.ListN.{length, take}
-use Rattle.encode_writing.specs.Contracts.{Put}
+use Rattle.encode_writing.specs.Contracts.{WritesAt}
 use Rattle.encode_writing.proofs.Laws.{put-none, put-length, further, ended, taken-length}
 use Rattle.encode_writing.proofs.put_sequence.Statement.{statement}
 use Rattle.encode_writing.proofs.put_sequence.Tie as tie
 
 abbrev Inv-loop : tie.InvT-loop
-Inv-loop coding₀ at q to₀ k₀ coding to k = (k ≤ q .len) × (length coding ≡ length coding₀) × Put coding₀ at (take k (q .bytes)) coding to
+Inv-loop coding₀ at q to₀ k₀ coding to k = (k ≤ q .len) × (length coding ≡ length coding₀) × WritesAt coding₀ at (take k (q .bytes)) coding to
 
 abbrev μ-loop : tie.MeasureT-loop
 μ-loop coding₀ at q to₀ k₀ coding to k = q .len - k
