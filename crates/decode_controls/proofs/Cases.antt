@@ -1,5 +1,5 @@
 -- The definitions of steps, by their cases, at a place of a body. Assumes nothing.
-use Prim.Native.Nat.{ℕ, zero, suc, _+_, _-_, _%_, _≤_, _<_}
+use Prim.Native.Nat.{ℕ, suc, _+_, _-_, _≤_, _<_}
 use mathlib.Core.Path.{_≡_, refl, sym, ap, _∙_}
 use mathlib.Core.Bool.{Bool, true, false, cond, _&&_, _||_}
 use mathlib.Core.Logic.{_⊎_, inl, inr}
@@ -12,12 +12,9 @@ use lib.ListN.{length, take, drop, getD, length-drop, drop-of-length-le}
 use lib.Seq.{drop-drop, take-suc, getD-drop, length-take-le}
 use Rattle.control.specs.declared.Params.the-variants.{Fixed, NoEntry}
 use Rattle.control.specs.Controls.{countOf, paramsOf, answer}
-use Rattle.issues.specs.declared.IssueKind.the-variants.{UndefinedControl, MalformedControl, RepeatToEndOfLine}
-use Rattle.decode_output.specs.Output.{setRepeat}
-use Rattle.reading.specs.State.{Given, State, Step, took, truncated, issue, writes}
-use Rattle.reading.specs.Controls.{leading, applied, unknown, appliedOr, escapeAt, escape, rpc, repeatBy, colour, ended, sequenceFrom, time, fixed}
-use Rattle.reading.specs.Macros.{Run}
-use Rattle.reading.specs.Steps.{control1}
+use Rattle.issues.specs.declared.IssueKind.the-variants.{UndefinedControl, MalformedControl}
+use Rattle.reading.specs.State.{State, Step, took, truncated, issue}
+use Rattle.reading.specs.Controls.{leading, applied, unknown, appliedOr, escapeAt, escape, colour, ended, sequenceFrom, time, fixed}
 use Rattle.decode_state.proofs.Steps.{drop-one}
 use Rattle.decode_controls.specs.Controls.{second}
 
@@ -86,22 +83,6 @@ module _ (p : ℕ) (r : List ℕ) (at : ℕ) (s : State) where
   pub time-malformed : (p ≡ 0x20 → ⊥) → (p ≡ 0x28 → ⊥) → (p ≡ 0x29 → ⊥) → time (p ∷ r) at s ≡ took 2 (issue at (MalformedControl 0x9D) s)
   unfolding time
   time-malformed x y z = rw (ne-eqb p 0x20 x, ne-eqb p 0x28 y, ne-eqb p 0x29 z)
-
--- ---- RPC
-
-repeat-some : (n at : ℕ) (s : State) → (n ≡ 0 → ⊥) → repeatBy n at s ≡ writes (setRepeat n) s
-unfolding repeatBy
-repeat-some zero at s h = absurd (h refl)
-repeat-some (suc n) at s h = refl
-
-module _ (p : ℕ) (r : List ℕ) (at : ℕ) (s : State) where
-  pub rpc-none : p % 64 ≡ 0 → rpc (p ∷ r) at s ≡ took 2 (writes (setRepeat 0) (issue at RepeatToEndOfLine s))
-  unfolding rpc repeatBy
-  rpc-none e = ap (λ (n : ℕ). took 2 (repeatBy n at s)) e
-
-  pub rpc-some : (p % 64 ≡ 0 → ⊥) → rpc (p ∷ r) at s ≡ took 2 (writes (setRepeat (p % 64)) s)
-  unfolding rpc
-  rpc-some h = ap (λ (σ : State). took 2 σ) (repeat-some (p % 64) at s h)
 
 -- ---- the bytes from 20 to a highest one
 
@@ -249,28 +230,3 @@ module _ (b : List ℕ) (i at : ℕ) (s : State) (inside : i < length b) where
   pub fixed-undefined : countOf (getD b i 0) ≡ none → fixed (getD b i 0) (drop (i + 1) b) at s ≡ took 1 (issue at (UndefinedControl (getD b i 0)) s)
   unfolding fixed
   fixed-undefined e = rw e
-
--- ---- a code from 80 on
-
-pub control1-colour : (g : Given) (left : ℕ) (R : Run) (x : ℕ) (rest : List ℕ) (place at : ℕ) (s : State) → (x ≡ 0x90) ⊎ (x ≡ 0x92) → control1 g left R x rest place at s ≡ colour rest at s
-unfolding control1
-control1-colour g left R x rest place at s (inl e) = ap (λ (y : ℕ). control1 g left R y rest place at s) e
-control1-colour g left R x rest place at s (inr e) = ap (λ (y : ℕ). control1 g left R y rest place at s) e
-
--- one that has no step of its own
-pub record Plain (x : ℕ) : Type 0 where
-  pub ssz : x ≡ 0x88 → ⊥
-  pub msz : x ≡ 0x89 → ⊥
-  pub nsz : x ≡ 0x8A → ⊥
-  pub szx : x ≡ 0x8B → ⊥
-  pub col : x ≡ 0x90 → ⊥
-  pub cdc : x ≡ 0x92 → ⊥
-  pub macro : x ≡ 0x95 → ⊥
-  pub rpc : x ≡ 0x98 → ⊥
-  pub csi : x ≡ 0x9B → ⊥
-  pub time : x ≡ 0x9D → ⊥
-
-pub control1-fixed : (g : Given) (left : ℕ) (R : Run) (x : ℕ) (rest : List ℕ) (place at : ℕ) (s : State) → Plain x → control1 g left R x rest place at s ≡ fixed x rest at s
-unfolding control1
-control1-fixed g left R x rest place at s p =
-    rw (ne-eqb x 0x88 (p .ssz), ne-eqb x 0x89 (p .msz), ne-eqb x 0x8A (p .nsz), ne-eqb x 0x8B (p .szx), ne-eqb x 0x98 (p .rpc), ne-eqb x 0x90 (p .col), ne-eqb x 0x92 (p .cdc), ne-eqb x 0x9D (p .time), ne-eqb x 0x9B (p .csi), ne-eqb x 0x95 (p .macro))

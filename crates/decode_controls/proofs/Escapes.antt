@@ -11,11 +11,11 @@ use lib.Dec.{eqb, leb}
 use lib.ListN.{length, take, drop, getD, length-drop}
 use lib.Seq.{length-take-le}
 use Rattle.sets.specs.Sets.{Compared, Designation, fromDesignation, toElement, selects, readDesignation}
-use Rattle.reading.specs.Controls.{lockingShift, designated, applied}
+use Rattle.reading.specs.Controls.{lockingShift, designated, applied, appliedOr}
 use Rattle.decode_state.proofs.Steps.{drop-one}
-use Rattle.decode_controls.specs.declared.EscapeSequence.{EscapeSequence}
-use Rattle.decode_controls.specs.declared.EscapeSequence.the-variants.{Gl, Gr, Designates, Unknown}
-use Rattle.decode_controls.specs.Controls.{appliedBy, Means}
+use Rattle.decode_controls.specs.declared.Effect.{Effect}
+use Rattle.decode_controls.specs.declared.Effect.the-variants.{Gl, Gr, Designates, UnknownEscape}
+use Rattle.decode_controls.specs.Controls.{stepOf, Means}
 
 -- ---- locking shifts
 
@@ -28,48 +28,48 @@ is-final f x e c p = let q : 0x1B ∷ f ∷ [] ≡ 0x1B ∷ x ∷ [] = sym e ∙
 
 module _ (f : ℕ) where
   pub shift-ls2 : f ≡ 0x6E → Means (lockingShift f) (Gl 2)
-  unfolding lockingShift appliedBy
-  shift-ls2 e = record { applies = λ s. rw e; element = omega arith }
+  unfolding lockingShift appliedOr stepOf
+  shift-ls2 e = record { says = λ n place at s. rw e; bounded = record { element = omega arith; count = omega arith } }
 
   pub shift-ls3 : f ≡ 0x6F → Means (lockingShift f) (Gl 3)
-  unfolding lockingShift appliedBy
-  shift-ls3 e = record { applies = λ s. rw e; element = omega arith }
+  unfolding lockingShift appliedOr stepOf
+  shift-ls3 e = record { says = λ n place at s. rw e; bounded = record { element = omega arith; count = omega arith } }
 
   pub shift-ls1r : f ≡ 0x7E → Means (lockingShift f) (Gr 1)
-  unfolding lockingShift appliedBy
-  shift-ls1r e = record { applies = λ s. rw e; element = omega arith }
+  unfolding lockingShift appliedOr stepOf
+  shift-ls1r e = record { says = λ n place at s. rw e; bounded = record { element = omega arith; count = omega arith } }
 
   pub shift-ls2r : f ≡ 0x7D → Means (lockingShift f) (Gr 2)
-  unfolding lockingShift appliedBy
-  shift-ls2r e = record { applies = λ s. rw e; element = omega arith }
+  unfolding lockingShift appliedOr stepOf
+  shift-ls2r e = record { says = λ n place at s. rw e; bounded = record { element = omega arith; count = omega arith } }
 
   pub shift-ls3r : f ≡ 0x7C → Means (lockingShift f) (Gr 3)
-  unfolding lockingShift appliedBy
-  shift-ls3r e = record { applies = λ s. rw e; element = omega arith }
+  unfolding lockingShift appliedOr stepOf
+  shift-ls3r e = record { says = λ n place at s. rw e; bounded = record { element = omega arith; count = omega arith } }
 
-  pub shift-none : (f ≡ 0x6E → ⊥) → (f ≡ 0x6F → ⊥) → (f ≡ 0x7E → ⊥) → (f ≡ 0x7D → ⊥) → (f ≡ 0x7C → ⊥) → Means (lockingShift f) Unknown
-  unfolding lockingShift appliedBy
-  shift-none a b c d e = record { applies = λ s. rw (ne-eqb f 0x6E a, ne-eqb f 0x6F b, ne-eqb f 0x7E c, ne-eqb f 0x7D d, ne-eqb f 0x7C e); element = omega arith }
+  pub shift-none : (f ≡ 0x6E → ⊥) → (f ≡ 0x6F → ⊥) → (f ≡ 0x7E → ⊥) → (f ≡ 0x7D → ⊥) → (f ≡ 0x7C → ⊥) → Means (lockingShift f) UnknownEscape
+  unfolding lockingShift appliedOr stepOf
+  shift-none a b c d e = record { says = λ n place at s. rw (ne-eqb f 0x6E a, ne-eqb f 0x6F b, ne-eqb f 0x7E c, ne-eqb f 0x7D d, ne-eqb f 0x7C e); bounded = record { element = omega arith; count = omega arith } }
 
 -- ---- designations
 
 -- the set that is found, and none
 pub means-set : (e n : ℕ) (o : Option ℕ) → e < 4 → o ≡ some n → Means (designated (toElement e o)) (Designates e n)
-unfolding designated toElement appliedBy
-means-set e n o h q = record { applies = λ s. rw q; element = h }
+unfolding designated toElement appliedOr stepOf
+means-set e n o h q = record { says = λ u place at s. rw q; bounded = record { element = h; count = omega arith } }
 
-pub means-none : (e : ℕ) (o : Option ℕ) → o ≡ none → Means (designated (toElement e o)) Unknown
-unfolding designated toElement appliedBy
-means-none e o q = record { applies = λ s. rw q; element = omega arith }
+pub means-none : (e : ℕ) (o : Option ℕ) → o ≡ none → Means (designated (toElement e o)) UnknownEscape
+unfolding designated toElement appliedOr stepOf
+means-none e o q = record { says = λ n place at s. rw q; bounded = record { element = omega arith; count = omega arith } }
 
 -- the bytes select what a designation says
-means-as : {e : EscapeSequence} {o : Option Designation} (a b : ℕ) (r : List ℕ) → readDesignation (a ∷ b ∷ r) ≡ o → Means (designated o) e → Means (applied (a ∷ b ∷ r)) e
+means-as : {e : Effect} {o : Option Designation} (a b : ℕ) (r : List ℕ) → readDesignation (a ∷ b ∷ r) ≡ o → Means (designated o) e → Means (applied (a ∷ b ∷ r)) e
 unfolding applied
-means-as a b r q m = record { applies = λ s. ap (λ (o : Option Designation). designated o s) q ∙ m .applies s; element = m .element }
+means-as a b r q m = record { says = λ n place at s. ap (λ (o : Option Designation). appliedOr (designated o s) n place at s) q ∙ m .says n place at s; bounded = m .bounded }
 
-nothing : Means (designated none) Unknown
-unfolding designated appliedBy
-nothing = record { applies = λ s. refl; element = omega arith }
+nothing : Means (designated none) UnknownEscape
+unfolding designated appliedOr stepOf
+nothing = record { says = λ n place at s. refl; bounded = record { element = omega arith; count = omega arith } }
 
 -- a byte from 02/8 + low to 02/11
 selects-yes : (low b : ℕ) → 0x28 + low ≤ b → b ≤ 0x2B → selects low b ≡ true
@@ -83,7 +83,7 @@ selects-no low b (inr p) = go (leb (0x28 + low) b)
     go true = lt-leb b 0x2B p
     go false = refl
 
-module _ {e : EscapeSequence} (a f : ℕ) where
+module _ {e : Effect} (a f : ℕ) where
   -- one intermediate
   pub one-set : 0x28 ≤ a → a ≤ 0x2B → Means (designated (toElement (a - 0x28) (fromDesignation false false f))) e → Means (applied (a ∷ f ∷ [])) e
   unfolding readDesignation
@@ -94,11 +94,11 @@ module _ {e : EscapeSequence} (a f : ℕ) where
   one-g0 p m = means-as a f [] (rw (selects-no 0 a (inl (omega arith)), eq-eqb a 0x24 p)) m
 
 module _ (a f : ℕ) where
-  pub one-none : (a ≡ 0x24 → ⊥) → a < 0x28 ⊎ 0x2B < a → Means (applied (a ∷ f ∷ [])) Unknown
+  pub one-none : (a ≡ 0x24 → ⊥) → a < 0x28 ⊎ 0x2B < a → Means (applied (a ∷ f ∷ [])) UnknownEscape
   unfolding readDesignation
   one-none p q = means-as a f [] (rw (selects-no 0 a q, ne-eqb a 0x24 p)) nothing
 
-module _ {e : EscapeSequence} (a g f : ℕ) where
+module _ {e : Effect} (a g f : ℕ) where
   -- two intermediates
   pub two-drcs : 0x28 ≤ a → a ≤ 0x2B → g ≡ 0x20 → Means (designated (toElement (a - 0x28) (fromDesignation false true f))) e → Means (applied (a ∷ g ∷ f ∷ [])) e
   unfolding readDesignation
@@ -110,11 +110,11 @@ module _ {e : EscapeSequence} (a g f : ℕ) where
 
 module _ (a g f : ℕ) where
   -- ESC 02/4 and a byte that is not 02/9 to 02/11
-  pub two-none-g : a ≡ 0x24 → g < 0x29 ⊎ 0x2B < g → Means (applied (a ∷ g ∷ f ∷ [])) Unknown
+  pub two-none-g : a ≡ 0x24 → g < 0x29 ⊎ 0x2B < g → Means (applied (a ∷ g ∷ f ∷ [])) UnknownEscape
   unfolding readDesignation
   two-none-g p q = means-as a g (f ∷ []) (rw (selects-no 0 a (inl (omega arith)), eq-eqb a 0x24 p, selects-no 1 g q)) nothing
 
-  pub two-none : (a ≡ 0x24 → ⊥) → (g ≡ 0x20 → ⊥) ⊎ (a < 0x28 ⊎ 0x2B < a) → Means (applied (a ∷ g ∷ f ∷ [])) Unknown
+  pub two-none : (a ≡ 0x24 → ⊥) → (g ≡ 0x20 → ⊥) ⊎ (a < 0x28 ⊎ 0x2B < a) → Means (applied (a ∷ g ∷ f ∷ [])) UnknownEscape
   unfolding readDesignation
   two-none p (inl q) = means-as a g (f ∷ []) (go (selects 0 a) ∙ (rw (ne-eqb a 0x24 p))) nothing
     where
@@ -126,15 +126,15 @@ module _ (a g f : ℕ) where
 
 -- three intermediates
 module _ (a g d f : ℕ) where
-  pub three-drcs : {e : EscapeSequence} → a ≡ 0x24 → d ≡ 0x20 → 0x28 ≤ g → g ≤ 0x2B → Means (designated (toElement (g - 0x28) (fromDesignation true true f))) e → Means (applied (a ∷ g ∷ d ∷ f ∷ [])) e
+  pub three-drcs : {e : Effect} → a ≡ 0x24 → d ≡ 0x20 → 0x28 ≤ g → g ≤ 0x2B → Means (designated (toElement (g - 0x28) (fromDesignation true true f))) e → Means (applied (a ∷ g ∷ d ∷ f ∷ [])) e
   unfolding readDesignation
   three-drcs p q r s m = means-as a g (d ∷ f ∷ []) (rw (eq-eqb a 0x24 p, selects-yes 0 g r s, eq-eqb d 0x20 q)) m
 
-  pub three-none-a : (a ≡ 0x24 → ⊥) → Means (applied (a ∷ g ∷ d ∷ f ∷ [])) Unknown
+  pub three-none-a : (a ≡ 0x24 → ⊥) → Means (applied (a ∷ g ∷ d ∷ f ∷ [])) UnknownEscape
   unfolding readDesignation
   three-none-a p = means-as a g (d ∷ f ∷ []) (rw (ne-eqb a 0x24 p)) nothing
 
-  pub three-none-d : a ≡ 0x24 → (d ≡ 0x20 → ⊥) → Means (applied (a ∷ g ∷ d ∷ f ∷ [])) Unknown
+  pub three-none-d : a ≡ 0x24 → (d ≡ 0x20 → ⊥) → Means (applied (a ∷ g ∷ d ∷ f ∷ [])) UnknownEscape
   unfolding readDesignation
   three-none-d p q = means-as a g (d ∷ f ∷ []) (go (selects 0 g)) nothing
     where
@@ -142,12 +142,12 @@ module _ (a g d f : ℕ) where
       go true = rw (eq-eqb a 0x24 p, ne-eqb d 0x20 q)
       go false = rw (eq-eqb a 0x24 p)
 
-  pub three-none-g : a ≡ 0x24 → g < 0x28 ⊎ 0x2B < g → Means (applied (a ∷ g ∷ d ∷ f ∷ [])) Unknown
+  pub three-none-g : a ≡ 0x24 → g < 0x28 ⊎ 0x2B < g → Means (applied (a ∷ g ∷ d ∷ f ∷ [])) UnknownEscape
   unfolding readDesignation
   three-none-g p q = means-as a g (d ∷ f ∷ []) (rw (eq-eqb a 0x24 p, selects-no 0 g q)) nothing
 
 -- five bytes and more
-pub many-none : (l : List ℕ) → 5 ≤ length l → Means (applied l) Unknown
+pub many-none : (l : List ℕ) → 5 ≤ length l → Means (applied l) UnknownEscape
 unfolding readDesignation
 many-none [] h = absurd (omega arith)
 many-none (a ∷ []) h = absurd (omega arith)
@@ -162,7 +162,7 @@ pub past-four : (n : ℕ) → 1 ≤ n → (n ≡ 1 → ⊥) → (n ≡ 2 → ⊥
 past-four n h a b c d = omega arith
 
 -- what two lists of bytes mean, where they are the same
-means-bytes : {e : EscapeSequence} {l l′ : List ℕ} → l ≡ l′ → Means (applied l′) e → Means (applied l) e
+means-bytes : {e : Effect} {l l′ : List ℕ} → l ≡ l′ → Means (applied l′) e → Means (applied l) e
 means-bytes {e} q m = subst (λ (l : List ℕ). Means (applied l) e) (sym q) m
 
 module _ (b : List ℕ) (i j : ℕ) (inside : j < length b) where
@@ -177,14 +177,14 @@ module _ (b : List ℕ) (i j : ℕ) (inside : j < length b) where
       ∙ ap (take 2) (from i j (omega arith) (omega arith) ∙ ap (λ (l : List ℕ). getD b i 0 ∷ l) (from j (j + 1) inside refl))
       ∙ ap (λ (x : ℕ). x ∷ getD b j 0 ∷ []) h
 
-  module _ {e : EscapeSequence} where
+  module _ {e : Effect} where
     pub means-shift : j - i ≡ 1 → Means (lockingShift (getD b j 0)) e → Means (applied (take (j - i) (drop (i + 1) b))) e
     unfolding applied
     means-shift n m =
         let q : i + 1 ≡ j = omega arith in
         means-bytes {l′ = getD b j 0 ∷ []}
         ((λ x. take (n x) (drop (i + 1) b)) ∙ ap (λ (k : ℕ). take 1 (drop k b)) q ∙ ap (take 1) (from j (j + 1) inside refl))
-        (record { applies = m .applies; element = m .element })
+        (record { says = m .says; bounded = m .bounded })
 
     pub means-one : j - i ≡ 2 → Means (applied (getD b (i + 1) 0 ∷ getD b j 0 ∷ [])) e → Means (applied (take (j - i) (drop (i + 1) b))) e
     means-one n m =
@@ -212,5 +212,5 @@ module _ (b : List ℕ) (i j : ℕ) (inside : j < length b) where
         ∙ ap (λ (l : List ℕ). getD b (i + 3) 0 ∷ l) (from j (j + 1) inside refl)))))
         m
 
-  pub means-many : 5 ≤ j - i → Means (applied (take (j - i) (drop (i + 1) b))) Unknown
+  pub means-many : 5 ≤ j - i → Means (applied (take (j - i) (drop (i + 1) b))) UnknownEscape
   means-many n = many-none _ (omega (arith, length-take-le (j - i) (drop (i + 1) b) (omega (arith, length-drop (i + 1) b))))

@@ -1,3 +1,4 @@
-pub mod Moving
+pub mod Effects
 pub mod Cases
 pub mod Escapes
+pub mod Bytes

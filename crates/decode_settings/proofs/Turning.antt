@@ -4,20 +4,21 @@ use mathlib.Core.Path.{_≡_, refl, sym, ap, _∙_}
 use mathlib.Core.Bool.{Bool, true, false, cond, _&&_}
 use mathlib.Core.List.{List, [], _∷_}
 use mathlib.Core.Option.{Option, none, some}
-use mathlib.Core.Logic.{_⊎_, inl, inr}
 use native.Mathlib.Omega.{arith}
-use borrow.Author.Tests.{ne-eqb, le-leb, lt-leb, lt-ltb, le-ltb}
+use borrow.Author.Tests.{le-leb}
+use mir.Val.{boolByte}
 use lib.Dec.{T, eqb, leb}
 use lib.ListN.{length, drop, getD, set, replicate}
 use Rattle.base.proofs.Table.{at}
 use Rattle.control.specs.Controls.{countOf}
 use Rattle.reading.specs.State.{Given, State, Step, took, designate, invokeGL, invokeGR, resize}
-use Rattle.reading.specs.Characters.{isGL, isGR}
-use Rattle.reading.specs.Controls.{fixed}
 use Rattle.reading.specs.Macros.{Run}
-use Rattle.reading.specs.Steps.{step, steps, offset, control0, control1}
+use Rattle.reading.specs.Steps.{step, steps, offset}
 use Rattle.decode_state.proofs.Steps.{steps-one}
-use Rattle.decode_settings.specs.Contracts.{withSettings, Fine, Turns, Passes, Controls}
+use Rattle.decode_controls.specs.declared.Effect.{Effect}
+use Rattle.decode_controls.specs.declared.Control.{Control}
+use Rattle.decode_controls.specs.Controls.{stepOf, Reads}
+use Rattle.decode_settings.specs.Contracts.{withSettings, Settings, Turns, Controls}
 
 -- ---- the seven numbers
 
@@ -40,38 +41,38 @@ four P a b c d (suc (suc zero)) h = c
 four P a b c d (suc (suc (suc zero))) h = d
 four P a b c d (suc (suc (suc (suc e)))) h = absurd (omega arith)
 
-module _ {l : List ℕ} (h : Fine l) where
+module _ {l : List ℕ} (h : Settings l) where
   -- a code element is invoked in GL
-  fine-gl : (e : ℕ) → e < 4 → Fine (set l 4 e)
-  fine-gl e p = seven (λ (l : List ℕ). Fine l → Fine (set l 4 e)) (λ a b c d x y z k. record { seven = refl; gl = p; gr = k .gr }) l (h .seven) h
+  after-gl : (e : ℕ) → e < 4 → Settings (set l 4 e)
+  after-gl e p = seven (λ (l : List ℕ). Settings l → Settings (set l 4 e)) (λ a b c d x y z k. record { seven = refl; gl = p; gr = k .gr }) l (h .seven) h
 
   turned-gl : (e : ℕ) (s : State) → invokeGL e (withSettings l s) ≡ withSettings (set l 4 e) s
   unfolding invokeGL
   turned-gl e s = seven (λ (l : List ℕ). invokeGL e (withSettings l s) ≡ withSettings (set l 4 e) s) (λ a b c d x y z. refl) l (h .seven)
 
   -- in GR
-  fine-gr : (e : ℕ) → e < 4 → Fine (set l 5 e)
-  fine-gr e p = seven (λ (l : List ℕ). Fine l → Fine (set l 5 e)) (λ a b c d x y z k. record { seven = refl; gl = k .gl; gr = p }) l (h .seven) h
+  after-gr : (e : ℕ) → e < 4 → Settings (set l 5 e)
+  after-gr e p = seven (λ (l : List ℕ). Settings l → Settings (set l 5 e)) (λ a b c d x y z k. record { seven = refl; gl = k .gl; gr = p }) l (h .seven) h
 
   turned-gr : (e : ℕ) (s : State) → invokeGR e (withSettings l s) ≡ withSettings (set l 5 e) s
   unfolding invokeGR
   turned-gr e s = seven (λ (l : List ℕ). invokeGR e (withSettings l s) ≡ withSettings (set l 5 e) s) (λ a b c d x y z. refl) l (h .seven)
 
   -- a size is selected
-  fine-size : (n : ℕ) → Fine (set l 6 n)
-  fine-size n = seven (λ (l : List ℕ). Fine l → Fine (set l 6 n)) (λ a b c d x y z k. record { seven = refl; gl = k .gl; gr = k .gr }) l (h .seven) h
+  after-size : (n : ℕ) → Settings (set l 6 n)
+  after-size n = seven (λ (l : List ℕ). Settings l → Settings (set l 6 n)) (λ a b c d x y z k. record { seven = refl; gl = k .gl; gr = k .gr }) l (h .seven) h
 
   turned-size : (n : ℕ) (s : State) → resize (eqb n 1) (withSettings l s) ≡ withSettings (set l 6 n) s
   unfolding resize
   turned-size n s = seven (λ (l : List ℕ). resize (eqb n 1) (withSettings l s) ≡ withSettings (set l 6 n) s) (λ a b c d x y z. refl) l (h .seven)
 
   -- a set is designated
-  fine-set : (e n : ℕ) → e < 4 → Fine (set l e n)
-  fine-set e n p =
-      seven (λ (l : List ℕ). Fine l → Fine (set l e n))
+  after-set : (e n : ℕ) → e < 4 → Settings (set l e n)
+  after-set e n p =
+      seven (λ (l : List ℕ). Settings l → Settings (set l e n))
       (λ a b c d x y z k.
-      let r : Fine (a ∷ b ∷ c ∷ d ∷ x ∷ y ∷ z ∷ []) = k in
-      four (λ (e : ℕ). Fine (set (a ∷ b ∷ c ∷ d ∷ x ∷ y ∷ z ∷ []) e n))
+      let r : Settings (a ∷ b ∷ c ∷ d ∷ x ∷ y ∷ z ∷ []) = k in
+      four (λ (e : ℕ). Settings (set (a ∷ b ∷ c ∷ d ∷ x ∷ y ∷ z ∷ []) e n))
       (record { seven = refl; gl = r .gl; gr = r .gr })
       (record { seven = refl; gl = r .gl; gr = r .gr })
       (record { seven = refl; gl = r .gl; gr = r .gr })
@@ -88,59 +89,42 @@ module _ {l : List ℕ} (h : Fine l) where
 
 -- ---- steps
 
-module _ {b : List ℕ} {i : ℕ} {l : List ℕ} (h : Fine l) where
+module _ {b : List ℕ} {i : ℕ} {l : List ℕ} (h : Settings l) where
   -- a step is left
   pub turns-none : {f : State → Step} → i < length b → Turns f b i l 0 l
-  turns-none p = record { within = omega arith; fine = h; left = λ q. refl; does = λ q s. absurd (q refl) }
+  turns-none p = record { within = omega arith; settings = h; left = λ q. refl; does = λ q s. absurd (q refl) }
 
-  -- a step changes nothing
-  pub turns-same : {f : State → Step} {u : ℕ} → Passes f b i u → Turns f b i l u l
-  turns-same p = record { within = p .within; fine = h; left = λ q. refl; does = λ q s. p .does q (withSettings l s) }
+  -- a step of u bytes changes nothing
+  pub turns-same : {f : State → Step} {u : ℕ} → i + u ≤ length b → ((s : State) → f s ≡ took u s) → Turns f b i l u l
+  turns-same p e = record { within = p; settings = h; left = λ q. refl; does = λ q s. e (withSettings l s) }
 
   -- a step of n bytes sets a number
   module _ {n r : ℕ} {l′ : List ℕ} (some : 1 ≤ n) (inside : i + n ≤ length b) where
     pub turns-gl : (e : ℕ) → e < 4 → (r ≡ n) × (l′ ≡ set l 4 e) → Turns (λ s. took n (invokeGL e s)) b i l r l′
-    turns-gl e p q = rw (q .0, q .1) (record { within = inside; fine = fine-gl h e p; left = λ z. absurd (omega arith); does = λ z s. ap (took n) (turned-gl h e s) })
+    turns-gl e p q = rw (q .0, q .1) (record { within = inside; settings = after-gl h e p; left = λ z. absurd (omega arith); does = λ z s. ap (took n) (turned-gl h e s) })
 
     pub turns-gr : (e : ℕ) → e < 4 → (r ≡ n) × (l′ ≡ set l 5 e) → Turns (λ s. took n (invokeGR e s)) b i l r l′
-    turns-gr e p q = rw (q .0, q .1) (record { within = inside; fine = fine-gr h e p; left = λ z. absurd (omega arith); does = λ z s. ap (took n) (turned-gr h e s) })
+    turns-gr e p q = rw (q .0, q .1) (record { within = inside; settings = after-gr h e p; left = λ z. absurd (omega arith); does = λ z s. ap (took n) (turned-gr h e s) })
 
     pub turns-size : (x : ℕ) → (r ≡ n) × (l′ ≡ set l 6 x) → Turns (λ s. took n (resize (eqb x 1) s)) b i l r l′
-    turns-size x q = rw (q .0, q .1) (record { within = inside; fine = fine-size h x; left = λ z. absurd (omega arith); does = λ z s. ap (took n) (turned-size h x s) })
+    turns-size x q = rw (q .0, q .1) (record { within = inside; settings = after-size h x; left = λ z. absurd (omega arith); does = λ z s. ap (took n) (turned-size h x s) })
 
     pub turns-set : (e x : ℕ) → e < 4 → (r ≡ n) × (l′ ≡ set l e x) → Turns (λ s. took n (designate e x s)) b i l r l′
-    turns-set e x p q = rw (q .0, q .1) (record { within = inside; fine = fine-set h e x p; left = λ z. absurd (omega arith); does = λ z s. ap (took n) (turned-set h e x p s) })
+    turns-set e x p q = rw (q .0, q .1) (record { within = inside; settings = after-set h e x p; left = λ z. absurd (omega arith); does = λ z s. ap (took n) (turned-set h e x p s) })
 
 -- a step that is another at every state
 pub turns-as : {f f′ : State → Step} {b : List ℕ} {i : ℕ} {l : List ℕ} {u : ℕ} {l′ : List ℕ} → ((s : State) → f s ≡ f′ s) → Turns f′ b i l u l′ → Turns f b i l u l′
-turns-as {l = l} e t = record { within = t .within; fine = t .fine; left = t .left; does = λ q s. e (withSettings l s) ∙ t .does q s }
+turns-as {l = l} e t = record { within = t .within; settings = t .settings; left = t .left; does = λ q s. e (withSettings l s) ∙ t .does q s }
 
--- a step of u bytes that changes nothing
-pub passes-of : {f : State → Step} {b : List ℕ} {i : ℕ} (u : ℕ) → i + u ≤ length b → ((s : State) → f s ≡ took u s) → Passes f b i u
-passes-of u p e = record { within = p; does = λ q s. e s }
+-- what was read
+pub turns-read : {f : ℕ → ℕ → State → Step} {b : List ℕ} {i : ℕ} {c : Control} {e : Effect} {l : List ℕ} {u : ℕ} {l′ : List ℕ} → Reads f b i c → c .effect ≡ e → (place at : ℕ)
+    → Turns (stepOf e (c .used) place at) b i l u l′ → Turns (f place at) b i l u l′
+turns-read {c = c} r q place at t = turns-as (λ s. r .says place at s ∙ ap (λ (e : Effect). stepOf e (c .used) place at s) q) t
 
-pub passes-none : {f : State → Step} {b : List ℕ} {i : ℕ} → i < length b → Passes f b i 0
-passes-none p = record { within = omega arith; does = λ q s. absurd (q refl) }
-
--- ---- a step by its byte
-
-module _ (g : Given) (left : ℕ) (R : Run) (x : ℕ) (rest : List ℕ) (place at : ℕ) (s : State) where
-  pub step-0 : x < 0x21 ⊎ x ≡ 0x7F → step g left R x rest place at s ≡ control0 g left R x rest place at s
-  unfolding step isGL isGR
-  step-0 (inl p) = let q : x < 0xA1 = omega arith in let r : x < 0x80 = omega arith in rw (lt-leb 0x21 x p, lt-leb 0xA1 x q, lt-ltb x 0x80 r)
-  step-0 (inr p) = rw p
-
-  pub step-1 : 0x80 ≤ x → x < 0xA1 ⊎ 0xFE < x → step g left R x rest place at s ≡ control1 g left R x rest place at s
-  unfolding step isGL isGR
-  step-1 p (inl q) = let a : 0x21 ≤ x = omega arith in let c : 0x7E < x = omega arith in rw (le-leb 0x21 x a, lt-leb x 0x7E c, lt-leb 0xA1 x q, le-ltb x 0x80 p)
-  step-1 p (inr q) =
-      let a : 0x21 ≤ x = omega arith in let c : 0x7E < x = omega arith in let d : 0xA1 ≤ x = omega arith in rw (le-leb 0x21 x a, lt-leb x 0x7E c, le-leb 0xA1 x d, lt-leb x 0xFE q, le-ltb x 0x80 p)
-
-  pub control0-fixed : (x ≡ 0x20 → ⊥) → (x ≡ 0x0F → ⊥) → (x ≡ 0x0E → ⊥) → (x ≡ 0x19 → ⊥) → (x ≡ 0x1D → ⊥) → (x ≡ 0x1B → ⊥) → (x ≡ 0x0D → ⊥)
-      → control0 g left R x rest place at s ≡ fixed x rest at s
-  unfolding control0
-  control0-fixed a b c d e f h =
-      rw (ne-eqb x 0x20 a, ne-eqb x 0x0F b, ne-eqb x 0x0E c, ne-eqb x 0x19 d, ne-eqb x 0x1D e, ne-eqb x 0x1B f, ne-eqb x 0x0D h)
+-- whether the size is narrow, as a number
+pub byte : (u : Bool) → u ≡ eqb (boolByte u) 1
+byte true = refl
+byte false = refl
 
 -- ---- the colours BKF to WHF have no parameter
 
@@ -173,8 +157,8 @@ colours x p q =
 pub nowhere : Given
 nowhere = record { cells = []; annexE = false; input = [] }
 
-pub controls-none : {b : List ℕ} {j : ℕ} {l : List ℕ} → j ≤ length b → Fine l → Controls b j l j l
-controls-none h f = record { past = omega arith; within = h; fine = f; goes = λ g left R base origin s. refl }
+pub controls-none : {b : List ℕ} {j : ℕ} {l : List ℕ} → j ≤ length b → Settings l → Controls b j l j l
+controls-none h f = record { past = omega arith; within = h; settings = f; goes = λ g left R base origin s. refl }
 
 module _ {b : List ℕ} {j : ℕ} {l : List ℕ} {j₁ : ℕ} {l₁ : List ℕ} {u : ℕ} {l₂ : List ℕ} (c : Controls b j l j₁ l₁)
     (t : (g : Given) (left : ℕ) (R : Run) (place at : ℕ) → Turns (step g left R (getD b j₁ 0) (drop (j₁ + 1) b) place at) b j₁ l₁ u l₂) where
@@ -190,7 +174,7 @@ module _ {b : List ℕ} {j : ℕ} {l : List ℕ} {j₁ : ℕ} {l₁ : List ℕ} 
       record {
         past = omega arith;
         within = w .within;
-        fine = w .fine;
+        settings = w .settings;
         goes = λ g left R base origin s.
             let d = t g left R (base + j₁) (offset origin j₁) .does f s in
             ap (λ (y : Step). steps g left R base origin (drop (j₁ + u) b) (j₁ + u) 0 (y .to)) (sym d)

@@ -13,8 +13,8 @@ use Rattle.reading.specs.Steps.{steps}
 abbrev pub withSettings : List ℕ → State → State
 withSettings l s = record { sets = take 4 l; gl = getD l 4 0; gr = getD l 5 0; narrow = eqb (getD l 6 0) 1; starts = s .starts; lens = s .lens; charged = s .charged; out = s .out }
 
--- they are seven, and the elements in GL and GR are of the four
-pub record Fine (l : List ℕ) : Type 0 where
+-- l is a reading's settings: they are seven, and the elements in GL and GR are of the four
+pub record Settings (l : List ℕ) : Type 0 where
   pub seven : length l ≡ 7
   pub gl : getD l 4 0 < 4
   pub gr : getD l 5 0 < 4
@@ -22,19 +22,14 @@ pub record Fine (l : List ℕ) : Type 0 where
 -- the step f at the byte i of b takes u bytes and turns the settings l into l′; or it is left, u is 0, and they stay
 pub record Turns (f : State → Step) (b : List ℕ) (i : ℕ) (l : List ℕ) (u : ℕ) (l′ : List ℕ) : Type 0 where
   pub within : i + u ≤ length b
-  pub fine : Fine l′
+  pub settings : Settings l′
   pub left : u ≡ 0 → l′ ≡ l
   pub does : (u ≡ 0 → ⊥) → (s : State) → f (withSettings l s) ≡ took u (withSettings l′ s)
-
--- the step f at the byte i of b takes u bytes and changes nothing; or it is left, and u is 0
-pub record Passes (f : State → Step) (b : List ℕ) (i u : ℕ) : Type 0 where
-  pub within : i + u ≤ length b
-  pub does : (u ≡ 0 → ⊥) → (s : State) → f s ≡ took u s
 
 -- the steps from the byte j of b to the byte j′ turn the settings l into l′
 pub record Controls (b : List ℕ) (j : ℕ) (l : List ℕ) (j′ : ℕ) (l′ : List ℕ) : Type 0 where
   pub past : j ≤ j′
   pub within : j′ ≤ length b
-  pub fine : Fine l′
+  pub settings : Settings l′
   pub goes : (g : Given) (left : ℕ) (R : Run) (base origin : ℕ) (s : State)
       → steps g left R base origin (drop j′ b) j′ 0 (withSettings l′ s) ≡ steps g left R base origin (drop j b) j 0 (withSettings l s)

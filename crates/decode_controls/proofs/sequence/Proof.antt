@@ -1,8 +1,9 @@
--- `controls::sequence` meets its contract. Assumes nothing.
-use mathlib.Core.Path.{sym, _∙_}
+-- `sequence` meets its contract. Assumes nothing.
+use mathlib.Core.Path.{refl, sym, _∙_}
 use native.Mathlib.Omega.{arith}
-use Rattle.decode_controls.proofs.Moving.{moved-same, moved-issue, took-of, took-as}
+use Rattle.decode_controls.proofs.Effects.{reads-of, bounded, reads-nothing}
 use Rattle.decode_controls.proofs.Cases.{sequence-cut, sequence-final, sequence-malformed, sequence-other}
+use Rattle.decode_controls.specs.Controls.{stepOf}
 use borrow.Author.Needs.{needs}
 use Rattle.decode_controls.proofs.sequence.Statement.{statement}
 use Rattle.decode_controls.proofs.sequence.Tie as tie
@@ -10,17 +11,15 @@ use Rattle.decode_controls.proofs.sequence.Tie as tie
 leading-requires : tie.Need-leading-requires
 leading-requires c κs = search needs
 
-truncated-requires : tie.Need-truncated-requires
-truncated-requires c κs = search needs
-
-same-length : tie.Need-same-length
-same-length c = search needs
+cut-requires : tie.Need-cut-requires
+cut-requires c κs = search needs
 
 returns : tie.Need-returns
 returns c =
-    let start = c .before .before .before .before .before .before .before .before in
-    let led = c .before .before .before .before .before .leading in
-    λ t. took-as (λ σ. sequence-cut (start .args .strict) (start .args .code) (start .args .b .now) (start .args .i) (start .args .from) (led .result) (start .args .at) σ (start .pre .0 .0) (start .pre .0 .1) (led .ensures) (c .before .before .before .before .if1 .taken)) (c .before .before .truncated .ensures t)
+    let a = c .before .before .before .before .args in
+    let p = c .before .before .before .before .pre in
+    let led = c .before .before .leading in
+    c .cut .ensures _ (λ place at s. sequence-cut (a .strict) (a .code) (a .b .now) (a .i) (a .from) (led .result) at s (p .0) (p .1) (led .ensures) (c .before .if1 .taken))
 
 shared-slice-read-is-final : tie.Need-shared-slice-read-is-final
 shared-slice-read-is-final c = search needs
@@ -28,73 +27,59 @@ shared-slice-read-is-final c = search needs
 is-final-requires : tie.Need-is-final-requires
 is-final-requires c κs = search needs
 
-add-t18 : tie.Need-add-t18
-add-t18 c = search needs
+add-t13 : tie.Need-add-t13
+add-t13 c = search needs
 
-sub-t19 : tie.Need-sub-t19
-sub-t19 c = search needs
+sub-t14 : tie.Need-sub-t14
+sub-t14 c = search needs
 
 returns-2 : tie.Need-returns-2
 returns-2 c =
-    let start = c .before .before .before .before .before .before .before in
+    let a = c .before .before .before .before .before .before .args in
+    let p = c .before .before .before .before .before .before .pre in
     let led = c .before .before .before .before .leading in
-    λ t.
-    took-of
-    (λ σ. sequence-final (start .args .strict) (start .args .code) (start .args .b .now) (start .args .i) (start .args .from) (led .result) (start .args .at) σ (start .pre .0 .0) (start .pre .0 .1) (led .ensures) (c .before .before .before .if1 .left) (sym (c .before .is-final .ensures) ∙ c .if2 .taken))
-    (moved-same (start .args .s) t (start .args .issues .now) (start .pre .1) _)
-    (omega (arith, led .ensures, start .pre .0 .0))
-    (omega (arith, led .ensures, start .pre .0 .0, c .before .before .before .if1 .left))
+    let more = c .before .before .before .if1 .left in
+    reads-nothing _ (omega (arith, led .ensures)) (omega (arith, led .ensures))
+    (λ at s. sequence-final (a .strict) (a .code) (a .b .now) (a .i) (a .from) (led .result) at s (p .0) (p .1) (led .ensures) more (sym (c .before .is-final .ensures) ∙ c .if2 .taken))
 
-issue-requires : tie.Need-issue-requires
-issue-requires c κs = search needs
-
-sub-t23 : tie.Need-sub-t23
-sub-t23 c = search needs
-
-same-length-2 : tie.Need-same-length-2
-same-length-2 c = search needs
+sub-t16 : tie.Need-sub-t16
+sub-t16 c = search needs
 
 returns-3 : tie.Need-returns-3
+unfolding stepOf
 returns-3 c =
-    let start = c .before .before .before .before .before .before .before .before .before .before .before .before in
-    let led = c .before .before .before .before .before .before .before .before .before .leading in
-    λ t.
-    took-of
-    (λ σ. sequence-malformed (start .args .strict) (start .args .code) (start .args .b .now) (start .args .i) (start .args .from) (led .result) (start .args .at) σ (start .pre .0 .0) (start .pre .0 .1) (led .ensures) (c .before .before .before .before .before .before .before .before .if1 .left) (sym (c .before .before .before .before .before .before .is-final .ensures) ∙ c .before .before .before .before .before .if2 .left) (c .before .before .before .before .if3 .taken))
-    (moved-issue _ (c .before .before .issue .ensures t))
-    (omega (arith, led .ensures, start .pre .0 .0))
-    (omega (arith, led .ensures, start .pre .0 .0, c .before .before .before .before .before .before .before .before .if1 .left))
+    let a = c .before .before .before .before .before .before .before .args in
+    let p = c .before .before .before .before .before .before .before .pre in
+    let led = c .before .before .before .before .before .leading in
+    let more = c .before .before .before .before .if1 .left in
+    reads-of _ _ (bounded refl refl) (omega (arith, led .ensures)) (omega (arith, led .ensures))
+    (λ place at s. sequence-malformed (a .strict) (a .code) (a .b .now) (a .i) (a .from) (led .result) at s (p .0) (p .1) (led .ensures) more (sym (c .before .before .is-final .ensures) ∙ c .before .if2 .left) (c .if3 .taken))
 
-sub-t11 : tie.Need-sub-t11
-sub-t11 c = search needs
+sub-t7 : tie.Need-sub-t7
+sub-t7 c = search needs
 
 returns-4 : tie.Need-returns-4
 returns-4 c =
-    let start = c .before .before .before .before .before .before .before .before in
+    let a = c .before .before .before .before .before .before .before .args in
+    let p = c .before .before .before .before .before .before .before .pre in
     let led = c .before .before .before .before .before .leading in
-    λ t.
-    took-of
-    (λ σ. sequence-other (start .args .strict) (start .args .code) (start .args .b .now) (start .args .i) (start .args .from) (led .result) (start .args .at) σ (start .pre .0 .0) (start .pre .0 .1) (led .ensures) (c .before .before .before .before .if1 .left) (sym (c .before .before .is-final .ensures) ∙ c .before .if2 .left) (c .if3 .left))
-    (moved-same (start .args .s) t (start .args .issues .now) (start .pre .1) _)
-    (omega (arith, led .ensures, start .pre .0 .0))
-    (omega (arith, led .ensures, start .pre .0 .0, c .before .before .before .before .if1 .left))
+    let more = c .before .before .before .before .if1 .left in
+    reads-nothing _ (omega (arith, led .ensures)) (omega (arith, led .ensures))
+    (λ at s. sequence-other (a .strict) (a .code) (a .b .now) (a .i) (a .from) (led .result) at s (p .0) (p .1) (led .ensures) more (sym (c .before .before .is-final .ensures) ∙ c .before .if2 .left) (c .if3 .left))
 
 pub sequence-spec : {M : Type 1} → statement M
 sequence-spec =
     tie.close
     (tie.spec
     leading-requires
-    truncated-requires
-    same-length
+    cut-requires
     returns
     shared-slice-read-is-final
     is-final-requires
-    add-t18
-    sub-t19
+    add-t13
+    sub-t14
     returns-2
-    issue-requires
-    sub-t23
-    same-length-2
+    sub-t16
     returns-3
-    sub-t11
+    sub-t7
     returns-4)

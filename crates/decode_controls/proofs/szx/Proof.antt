@@ -1,11 +1,12 @@
--- `controls::szx` meets its contract. Assumes nothing.
+-- `szx` meets its contract. Assumes nothing.
 use mathlib.Core.Path.{refl, sym, ap}
-use native.Mathlib.Omega.{arith}
 use mathlib.Core.Bool.{Bool}
+use native.Mathlib.Omega.{arith}
 use Rattle.reading.specs.State.{took, resize}
 use Rattle.reading.specs.Controls.{szx}
-use Rattle.decode_controls.proofs.Moving.{moved-narrow, took-of, took-as}
+use Rattle.decode_controls.proofs.Effects.{reads-of, bounded}
 use Rattle.decode_controls.proofs.Cases.{at-end, at-head}
+use Rattle.decode_controls.specs.Controls.{stepOf}
 use borrow.Author.Needs.{needs}
 use Rattle.decode_controls.proofs.szx.Statement.{statement}
 use Rattle.decode_controls.proofs.szx.Tie as tie
@@ -13,49 +14,40 @@ use Rattle.decode_controls.proofs.szx.Tie as tie
 add-if1 : tie.Need-add-if1
 add-if1 c = search needs
 
-truncated-requires : tie.Need-truncated-requires
-truncated-requires c κs = search needs
-
-same-length : tie.Need-same-length
-same-length c = search needs
+cut-requires : tie.Need-cut-requires
+cut-requires c κs = search needs
 
 returns : tie.Need-returns
 unfolding szx
 returns c =
-    let start = c .before .before .before .before .before .before .before in
-    λ t. took-as (λ σ. at-end (λ l. szx l (start .args .at) σ) (start .args .b .now) (start .args .i) (start .args .at) σ refl (start .pre .0) (c .before .before .before .before .if1 .taken)) (c .before .before .truncated .ensures t)
+    let a = c .before .before .before .args in
+    c .cut .ensures _ (λ place at s. at-end (λ l. szx l at s) (a .b .now) (a .i) at s refl (c .before .before .before .pre) (c .before .if1 .taken))
 
-add-t8 : tie.Need-add-t8
-add-t8 c = search needs
+add-t4 : tie.Need-add-t4
+add-t4 c = search needs
 
-shared-slice-read-t14 : tie.Need-shared-slice-read-t14
-shared-slice-read-t14 c = search needs
+shared-slice-read-t8 : tie.Need-shared-slice-read-t8
+shared-slice-read-t8 c = search needs
 
 is-narrow-requires : tie.Need-is-narrow-requires
 is-narrow-requires c κs = search needs
 
 returns-2 : tie.Need-returns-2
-unfolding szx
+unfolding szx stepOf
 returns-2 c =
-    let start = c .before .before .before .before .before in
-    λ t.
-    took-of
-    (λ σ.
-    at-head (λ l. szx l (start .args .at) σ) (start .args .b .now) (start .args .i) _ (c .before .before .if1 .left)
-    (ap (λ (x : Bool). took 2 (resize x σ)) (sym (c .is-narrow .ensures))))
-    (moved-narrow (start .args .s) t (start .args .issues .now) (start .pre .1) 2 (c .is-narrow .result))
-    (omega arith)
-    (omega (arith, c .before .before .if1 .left))
+    let a = c .before .before .before .before .args in
+    let more = c .before .before .if1 .left in
+    reads-of _ _ (bounded refl refl) (omega arith) (omega arith)
+    (λ place at s. at-head (λ l. szx l at s) (a .b .now) (a .i) _ more (ap (λ (x : Bool). took 2 (resize x s)) (sym (c .is-narrow .ensures))))
 
 pub szx-spec : {M : Type 1} → statement M
 szx-spec =
     tie.close
     (tie.spec
     add-if1
-    truncated-requires
-    same-length
+    cut-requires
     returns
-    add-t8
-    shared-slice-read-t14
+    add-t4
+    shared-slice-read-t8
     is-narrow-requires
     returns-2)

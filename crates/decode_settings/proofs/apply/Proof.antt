@@ -1,95 +1,130 @@
--- `settings::apply` meets its contract. Assumes nothing.
-use Prim.Native.Nat.{_<_, _≤_}
-use mathlib.Core.Path.{ap, subst}
+-- `apply` meets its contract, by the effect. Assumes nothing.
+use Prim.Native.Nat.{_<_}
+use mathlib.Core.Path.{refl, ap, subst}
+use mathlib.Core.Bool.{Bool}
 use native.Mathlib.Omega.{arith}
-use Rattle.reading.specs.Controls.{appliedOr}
-use Rattle.decode_controls.specs.declared.EscapeSequence.{EscapeSequence}
-use Rattle.decode_controls.specs.Controls.{appliedBy, elementOf}
-use Rattle.decode_settings.proofs.Turning.{turns-none, turns-gl, turns-gr, turns-set, turns-as}
+use Rattle.reading.specs.State.{took, resize}
+use Rattle.decode_controls.specs.declared.Effect.{Effect}
+use Rattle.decode_controls.specs.Controls.{stepOf, elementOf}
+use Rattle.decode_settings.proofs.Turning.{turns-none, turns-same, turns-gl, turns-gr, turns-set, turns-size, turns-as, turns-read, byte}
 use borrow.Author.Needs.{needs}
 use Rattle.decode_settings.proofs.apply.Statement.{statement}
 use Rattle.decode_settings.proofs.apply.Tie as tie
 
-enum-known-e : tie.Need-enum-known-e
-enum-known-e c = search needs
+enum-told : tie.Need-enum-told
+enum-told c = search needs
+
+enum-known-effect : tie.Need-enum-known-effect
+enum-known-effect c = search needs
 
 put-requires : tie.Need-put-requires
 put-requires c κs = search needs
 
-enum-known-e-2 : tie.Need-enum-known-e-2
-enum-known-e-2 c = search needs
+enum-known-effect-2 : tie.Need-enum-known-effect-2
+enum-known-effect-2 c = search needs
 
 put-requires-2 : tie.Need-put-requires-2
 put-requires-2 c κs = search needs
 
-enum-known-e-3 : tie.Need-enum-known-e-3
-enum-known-e-3 c = search needs
+enum-known-effect-3 : tie.Need-enum-known-effect-3
+enum-known-effect-3 c = search needs
 
 cast-put : tie.Need-cast-put
 cast-put c = search needs
 
 put-requires-3 : tie.Need-put-requires-3
 put-requires-3 c κs =
-    let p = subst (λ (e : EscapeSequence). elementOf e < 4) (c .before .before .e3 .given .1) (c .before .before .before .before .before .pre .0) in omega (arith, c .before .before .before .before .before .pre .2 .seven, p)
+    let p = c .before .before .before .before .before .pre in
+    let four = subst (λ (e : Effect). elementOf e < 4) (c .before .before .effect3 .given .1) (p .0) in
+    omega (arith, p .1 .seven, four)
 
-enum-told : tie.Need-enum-told
-enum-told c = search needs
+enum-known-effect-4 : tie.Need-enum-known-effect-4
+enum-known-effect-4 c = search needs
+
+cast-put-2 : tie.Need-cast-put-2
+cast-put-2 c = search needs
+
+put-requires-4 : tie.Need-put-requires-4
+put-requires-4 c κs = search needs
+
+returns : tie.Need-returns
+unfolding stepOf
+returns c =
+    let p = c .before .before .before .pre in
+    λ f b i r place at. turns-read r (c .enum-told .given .1) place at (turns-same (p .1) (r .within) (λ s. refl))
 
 same-length : tie.Need-same-length
 same-length c = search needs
 
-returns : tie.Need-returns
-unfolding appliedOr appliedBy
-returns c =
-    let a = c .before .before .before .before .before .before .before .before .args in
-    λ b i place at h.
-    turns-as (λ s. ap (λ (e : EscapeSequence). appliedOr (appliedBy e s) (a .n) place at s) (c .before .before .before .before .before .e .given .1))
-    (turns-gl (c .before .before .before .before .before .before .before .before .pre .2) (c .before .before .before .before .before .before .before .before .pre .1) h _ (subst (λ (e : EscapeSequence). elementOf e < 4) (c .before .before .before .before .before .e .given .1) (c .before .before .before .before .before .before .before .before .pre .0)) (c .before .before .put .ensures))
+returns-2 : tie.Need-returns-2
+unfolding stepOf
+returns-2 c =
+    let p = c .before .before .before .before .before .before .before .before .pre in
+    let is = c .before .before .before .before .before .effect .given .1 in
+    let four = subst (λ (e : Effect). elementOf e < 4) is (p .0) in
+    λ f b i r place at. turns-read r is place at (turns-gl (p .1) (r .some) (r .within) _ four (c .before .before .put .ensures))
 
 same-length-2 : tie.Need-same-length-2
 same-length-2 c = search needs
 
-returns-2 : tie.Need-returns-2
-unfolding appliedOr appliedBy
-returns-2 c =
-    let a = c .before .before .before .before .before .before .before .before .args in
-    λ b i place at h.
-    turns-as (λ s. ap (λ (e : EscapeSequence). appliedOr (appliedBy e s) (a .n) place at s) (c .before .before .before .before .before .e2 .given .1))
-    (turns-gr (c .before .before .before .before .before .before .before .before .pre .2) (c .before .before .before .before .before .before .before .before .pre .1) h _ (subst (λ (e : EscapeSequence). elementOf e < 4) (c .before .before .before .before .before .e2 .given .1) (c .before .before .before .before .before .before .before .before .pre .0)) (c .before .before .put2 .ensures))
+returns-3 : tie.Need-returns-3
+unfolding stepOf
+returns-3 c =
+    let p = c .before .before .before .before .before .before .before .before .pre in
+    let is = c .before .before .before .before .before .effect2 .given .1 in
+    let four = subst (λ (e : Effect). elementOf e < 4) is (p .0) in
+    λ f b i r place at. turns-read r is place at (turns-gr (p .1) (r .some) (r .within) _ four (c .before .before .put2 .ensures))
 
 same-length-3 : tie.Need-same-length-3
 same-length-3 c = search needs
 
-returns-3 : tie.Need-returns-3
-unfolding appliedOr appliedBy
-returns-3 c =
-    let a = c .before .before .before .before .before .before .before .before .args in
-    λ b i place at h.
-    turns-as (λ s. ap (λ (e : EscapeSequence). appliedOr (appliedBy e s) (a .n) place at s) (c .before .before .before .before .before .e3 .given .1))
-    (turns-set (c .before .before .before .before .before .before .before .before .pre .2) (c .before .before .before .before .before .before .before .before .pre .1) h _ _ (subst (λ (e : EscapeSequence). elementOf e < 4) (c .before .before .before .before .before .e3 .given .1) (c .before .before .before .before .before .before .before .before .pre .0)) (c .before .before .put3 .ensures))
-
 returns-4 : tie.Need-returns-4
+unfolding stepOf
 returns-4 c =
-    let n = c .before .before .before .args .n in
-    let p : 1 ≤ n = c .before .before .before .pre .1 in
-    λ b i place at h. turns-none (c .before .before .before .pre .2) (omega arith)
+    let p = c .before .before .before .before .before .before .before .before .pre in
+    let is = c .before .before .before .before .before .effect3 .given .1 in
+    let four = subst (λ (e : Effect). elementOf e < 4) is (p .0) in
+    λ f b i r place at. turns-read r is place at (turns-set (p .1) (r .some) (r .within) _ _ four (c .before .before .put3 .ensures))
+
+same-length-4 : tie.Need-same-length-4
+same-length-4 c = search needs
+
+returns-5 : tie.Need-returns-5
+unfolding stepOf
+returns-5 c =
+    let a = c .before .before .before .before .before .before .before .before .args in
+    let p = c .before .before .before .before .before .before .before .before .pre in
+    λ f b i r place at.
+    turns-read r (c .before .before .before .before .before .effect4 .given .1) place at
+    (turns-as (λ s. ap (λ (u : Bool). took (a .c .used) (resize u s)) (byte _)) (turns-size (p .1) (r .some) (r .within) _ (c .before .before .put4 .ensures)))
+
+returns-6 : tie.Need-returns-6
+returns-6 c =
+    let p = c .before .before .pre in
+    λ f b i r place at. turns-none (p .1) (omega (arith, r .some, r .within))
 
 pub apply-spec : {M : Type 1} → statement M
 apply-spec =
     tie.close
     (tie.spec
-    enum-known-e
+    enum-told
+    enum-known-effect
     put-requires
-    enum-known-e-2
+    enum-known-effect-2
     put-requires-2
-    enum-known-e-3
+    enum-known-effect-3
     cast-put
     put-requires-3
-    enum-told
-    same-length
+    enum-known-effect-4
+    cast-put-2
+    put-requires-4
     returns
-    same-length-2
+    same-length
     returns-2
-    same-length-3
+    same-length-2
     returns-3
-    returns-4)
+    same-length-3
+    returns-4
+    same-length-4
+    returns-5
+    returns-6)

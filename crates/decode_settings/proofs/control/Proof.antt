@@ -1,10 +1,13 @@
--- `settings::control` meets its contract, by the byte. Assumes nothing.
+-- `control` meets its contract, by the byte. Assumes nothing.
 use Prim.Native.Nat.{_+_, _≤_, _<_}
 use mathlib.Core.Path.{_≡_}
-use mathlib.Core.Logic.{_⊎_, inl, inr, ⊎-elim}
+use mathlib.Core.Bool.{false}
+use mathlib.Core.Logic.{⊎-elim}
 use native.Mathlib.Omega.{arith}
 use lib.ListN.{drop, getD}
-use Rattle.decode_settings.proofs.Turning.{turns-none, turns-as, step-0, step-1}
+use Rattle.reading.specs.Characters.{isGL, isGR}
+use Rattle.decode_controls.proofs.Bytes.{gl-below, gl-above, gr-below, gr-above, step-0, step-1}
+use Rattle.decode_settings.proofs.Turning.{turns-none, turns-as}
 use borrow.Author.Needs.{needs}
 use Rattle.decode_settings.proofs.control.Statement.{statement}
 use Rattle.decode_settings.proofs.control.Tie as tie
@@ -32,8 +35,8 @@ returns-3 c =
     let a = c .before .before .before .before .before .before .before .before .before .before .before .args in
     let x = getD (a .b .now) (a .i) 0 in
     let l : 0x80 ≤ x = omega (arith, c .before .before .before .before .before .if2 .left, c .before .before .before .before .before .before .before .match .rest .1) in
-    let n : x < 0xA1 ⊎ 0xFE < x = ⊎-elim (λ w. inl (w .taken)) (λ w. inr (w .1 .left)) (c .before .before .before .before .if3 .came) in
-    λ g left R place at. turns-as (λ s. step-1 g left R x (drop (a .i + 1) (a .b .now)) place at s l n) (c .before .before .control1 .ensures g left R place at)
+    let n : isGR x ≡ false = ⊎-elim (λ w. gr-below x (w .taken)) (λ w. gr-above x (w .1 .left)) (c .before .before .before .before .if3 .came) in
+    λ g left R place at. turns-as (λ s. step-1 g left R x (drop (a .i + 1) (a .b .now)) place at s n l) (c .before .before .control1 .ensures g left R place at)
 
 same-length-2 : tie.Need-same-length-2
 same-length-2 c = search needs
@@ -42,8 +45,10 @@ returns-4 : tie.Need-returns-4
 returns-4 c =
     let a = c .before .before .before .before .before .before .before .before .args in
     let x = getD (a .b .now) (a .i) 0 in
-    let n : x < 0x21 ⊎ x ≡ 0x7F = ⊎-elim (λ w. inr (w .keys1)) (λ w. inl (w .1 .taken)) (c .before .before .before .before .match .came) in
-    λ g left R place at. turns-as (λ s. step-0 g left R x (drop (a .i + 1) (a .b .now)) place at s n) (c .before .before .control0 .ensures g left R place at)
+    let came = c .before .before .before .before .match .came in
+    let n : isGL x ≡ false = ⊎-elim (λ w. gl-above x (omega (arith, w .keys1))) (λ w. gl-below x (w .1 .taken)) came in
+    let l : x < 0x80 = ⊎-elim (λ w. omega (arith, w .keys1)) (λ w. omega (arith, w .1 .taken)) came in
+    λ g left R place at. turns-as (λ s. step-0 g left R x (drop (a .i + 1) (a .b .now)) place at s n l) (c .before .before .control0 .ensures g left R place at)
 
 pub control-spec : {M : Type 1} → statement M
 control-spec =

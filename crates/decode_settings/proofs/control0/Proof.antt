@@ -1,11 +1,11 @@
--- `settings::control0` meets its contract, by the code. Assumes nothing.
+-- `control0` meets its contract, by the code. Assumes nothing.
 use Prim.Native.Nat.{ℕ, _+_}
 use mathlib.Core.Path.{ap}
 use mathlib.Core.Logic.{inl, inr}
-use native.Mathlib.Omega.{arith}
 use lib.ListN.{drop}
 use Rattle.reading.specs.Steps.{control0}
-use Rattle.decode_settings.proofs.Turning.{turns-none, turns-same, turns-gl, turns-as, control0-fixed}
+use Rattle.decode_controls.proofs.Bytes.{control0-fixed}
+use Rattle.decode_settings.proofs.Turning.{turns-none, turns-as}
 use borrow.Author.Needs.{needs}
 use Rattle.decode_settings.proofs.control0.Statement.{statement}
 use Rattle.decode_settings.proofs.control0.Tie as tie
@@ -13,17 +13,33 @@ use Rattle.decode_settings.proofs.control0.Tie as tie
 shared-slice-read-match : tie.Need-shared-slice-read-match
 shared-slice-read-match c = search needs
 
-put-requires : tie.Need-put-requires
-put-requires c κs = search needs
+invoke-requires : tie.Need-invoke-requires
+invoke-requires c κs = search needs
 
-put-requires-2 : tie.Need-put-requires-2
-put-requires-2 c κs = search needs
+apply-requires : tie.Need-apply-requires
+apply-requires c κs =
+    let a = c .before .before .before .before .before .before .args in
+    (c .before .invoke .ensures (a .b .now) (a .i) (c .before .before .before .before .before .before .pre .0) .bounded .element, c .before .before .before .before .before .before .pre .1)
+
+invoke-requires-2 : tie.Need-invoke-requires-2
+invoke-requires-2 c κs = search needs
+
+apply-requires-2 : tie.Need-apply-requires-2
+apply-requires-2 c κs =
+    let a = c .before .before .before .before .before .before .args in
+    (c .before .invoke2 .ensures (a .b .now) (a .i) (c .before .before .before .before .before .before .pre .0) .bounded .element, c .before .before .before .before .before .before .pre .1)
 
 escape-requires : tie.Need-escape-requires
 escape-requires c κs = search needs
 
+apply-requires-3 : tie.Need-apply-requires-3
+apply-requires-3 c κs = search needs
+
 fixed-requires : tie.Need-fixed-requires
 fixed-requires c κs = search needs
+
+apply-requires-4 : tie.Need-apply-requires-4
+apply-requires-4 c κs = search needs
 
 same-length : tie.Need-same-length
 same-length c = search needs
@@ -31,10 +47,9 @@ same-length c = search needs
 returns : tie.Need-returns
 unfolding control0
 returns c =
-    let a = c .before .before .before .before .before .before .before .before .args in
+    let a = c .before .before .before .before .before .before .before .before .before .args in
     λ g left R place at.
-    turns-as (λ s. ap (λ (x : ℕ). control0 g left R x (drop (a .i + 1) (a .b .now)) place at s) (c .before .before .before .before .match .keys1))
-    (turns-gl (c .before .before .before .before .before .before .before .before .pre .1) (omega arith) (omega (arith, c .before .before .before .before .before .before .before .before .pre .0)) 0 (omega arith) (c .before .before .put .ensures))
+    turns-as (λ s. ap (λ (x : ℕ). control0 g left R x (drop (a .i + 1) (a .b .now)) place at s) (c .before .before .before .before .before .match .keys1)) (c .before .before .apply .ensures _ _ _ (c .before .before .before .before .invoke .ensures (a .b .now) (a .i) (c .before .before .before .before .before .before .before .before .before .pre .0)) place at)
 
 same-length-2 : tie.Need-same-length-2
 same-length-2 c = search needs
@@ -42,10 +57,9 @@ same-length-2 c = search needs
 returns-2 : tie.Need-returns-2
 unfolding control0
 returns-2 c =
-    let a = c .before .before .before .before .before .before .before .before .args in
+    let a = c .before .before .before .before .before .before .before .before .before .args in
     λ g left R place at.
-    turns-as (λ s. ap (λ (x : ℕ). control0 g left R x (drop (a .i + 1) (a .b .now)) place at s) (c .before .before .before .before .match .keys2))
-    (turns-gl (c .before .before .before .before .before .before .before .before .pre .1) (omega arith) (omega (arith, c .before .before .before .before .before .before .before .before .pre .0)) 1 (omega arith) (c .before .before .put2 .ensures))
+    turns-as (λ s. ap (λ (x : ℕ). control0 g left R x (drop (a .i + 1) (a .b .now)) place at s) (c .before .before .before .before .before .match .keys2)) (c .before .before .apply2 .ensures _ _ _ (c .before .before .before .before .invoke2 .ensures (a .b .now) (a .i) (c .before .before .before .before .before .before .before .before .before .pre .0)) place at)
 
 same-length-3 : tie.Need-same-length-3
 same-length-3 c = search needs
@@ -53,34 +67,48 @@ same-length-3 c = search needs
 returns-3 : tie.Need-returns-3
 unfolding control0
 returns-3 c =
-    let a = c .before .before .before .before .before .before .before .before .args in
+    let a = c .before .before .before .before .before .before .before .before .before .args in
     λ g left R place at.
-    turns-as (λ s. ap (λ (x : ℕ). control0 g left R x (drop (a .i + 1) (a .b .now)) place at s) (c .before .before .before .before .match .keys3))
-    (c .before .before .escape .ensures place at)
+    turns-as (λ s. ap (λ (x : ℕ). control0 g left R x (drop (a .i + 1) (a .b .now)) place at s) (c .before .before .before .before .before .match .keys3)) (c .before .before .apply3 .ensures _ _ _ (c .before .before .before .before .escape .ensures) place at)
 
 returns-4 : tie.Need-returns-4
 returns-4 c = λ g left R place at. turns-none (c .before .before .before .before .pre .1) (c .before .before .before .before .pre .0)
 
+same-length-4 : tie.Need-same-length-4
+same-length-4 c = search needs
+
 returns-5 : tie.Need-returns-5
 returns-5 c =
-    let a = c .before .before .before .before .before .args in
-    let m = c .before .match .rest in
+    let a = c .before .before .before .before .before .before .before .before .before .args in
+    let m = c .before .before .before .before .before .match .rest in
     λ g left R place at.
     turns-as
     (λ s.
     control0-fixed g left R _ (drop (a .i + 1) (a .b .now)) place at s
-    (λ e. m .1 (inr (inr (inr e)))) (m .0 .0 .0 .1) (m .0 .0 .1) (λ e. m .1 (inr (inl e))) (λ e. m .1 (inr (inr (inl e)))) (m .0 .1) (λ e. m .1 (inl e)))
-    (turns-same (c .before .before .before .before .before .pre .1) (c .fixed .ensures at))
+    (record {
+      space = λ e. m .1 (inr (inr (inr e)));
+      ls0 = m .0 .0 .0 .1;
+      ls1 = m .0 .0 .1;
+      ss2 = λ e. m .1 (inr (inl e));
+      ss3 = λ e. m .1 (inr (inr (inl e)));
+      esc = m .0 .1;
+      newline = λ e. m .1 (inl e);
+    }))
+    (c .before .before .apply4 .ensures _ _ _ (c .before .before .before .before .fixed .ensures) place at)
 
 pub control0-spec : {M : Type 1} → statement M
 control0-spec =
     tie.close
     (tie.spec
     shared-slice-read-match
-    put-requires
-    put-requires-2
+    invoke-requires
+    apply-requires
+    invoke-requires-2
+    apply-requires-2
     escape-requires
+    apply-requires-3
     fixed-requires
+    apply-requires-4
     same-length
     returns
     same-length-2
@@ -88,4 +116,5 @@ control0-spec =
     same-length-3
     returns-3
     returns-4
+    same-length-4
     returns-5)

@@ -1,4 +1,4 @@
--- `settings::controls` meets its contract. The invariant: the controls so far. Assumes nothing.
+-- `controls` meets its contract. The invariant: the controls so far. Assumes nothing.
 use Prim.Native.Nat.{_-_}
 use native.Mathlib.Omega.{arith}
 use lib.ListN.{length}

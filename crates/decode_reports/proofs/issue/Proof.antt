@@ -1,8 +1,8 @@
--- `controls::issue` meets its contract. Assumes nothing.
-use Rattle.decode_controls.proofs.Moving.{reported}
+-- `issue` meets its contract. Assumes nothing.
+use Rattle.decode_reports.proofs.Moving.{reported}
 use borrow.Author.Needs.{needs}
-use Rattle.decode_controls.proofs.issue.Statement.{statement}
-use Rattle.decode_controls.proofs.issue.Tie as tie
+use Rattle.decode_reports.proofs.issue.Statement.{statement}
+use Rattle.decode_reports.proofs.issue.Tie as tie
 
 issue-requires : tie.Need-issue-requires
 issue-requires c κs = search needs

@@ -1,8 +1,8 @@
 -- From an issue, or a field that a step sets, to the step. Assumes nothing.
-use Prim.Native.Nat.{ℕ, _+_, _≤_, _<_}
+use Prim.Native.Nat.{ℕ, zero, suc, _+_, _≤_, _<_}
 use mathlib.Core.Path.{_≡_, refl, sym, subst}
-use mathlib.Core.Bool.{Bool}
-use mathlib.Core.List.{List}
+use mathlib.Core.Bool.{Bool, false}
+use mathlib.Core.List.{List, []}
 use native.Mathlib.Omega.{arith}
 use lib.ListN.{length, set}
 use Rattle.issues.specs.declared.IssueKind.{IssueKind}
@@ -12,11 +12,14 @@ use Rattle.decode_output.specs.Output.{report, setRepeat}
 use Rattle.decode_output.specs.Contracts as output
 use Rattle.decode_output.proofs.Callers.{wrote-repeat}
 use Rattle.reading.specs.State.{Given, State, Step, took, issue, writes, designate, invokeGL, invokeGR, resize}
+use Rattle.reading.specs.Controls.{repeatBy}
 use Rattle.decode_state.specs.declared.Core.{Core}
 use Rattle.decode_state.specs.declared.Stepped.{Stepped}
 use Rattle.decode_state.specs.Contracts.{whole, Holds, Moves, Good, Took}
 use Rattle.decode_state.proofs.Lift.{withSets, withGL, withGR, withNarrow, withOut, holds-writes, holds-gl, holds-gr, holds-narrow, holds-sets}
-use Rattle.decode_controls.specs.Controls.{Reported, Moved}
+use Rattle.decode_controls.specs.declared.Effect.{Effect}
+use Rattle.decode_controls.specs.Controls.{stepOf}
+use Rattle.decode_reports.specs.Contracts.{Reported, Moved}
 
 abbrev pub stepped : ℕ → Core → Stepped
 stepped n c = record { used = n; core = c }
@@ -81,32 +84,14 @@ module _ (c : Core) (t i : List ℕ) (k : Good 1 c) where
         kept = record { gl = k .gl; gr = k .gr; charged = refl; grew = grew-none (c .out) (k .room) };
       }
 
-  pub moved-repeat : (n : ℕ) → n ≤ 63 → Moved 2 (λ s. took 2 (writes (setRepeat n) s)) c t i (stepped 2 (withRepeat c n)) t i
-  moved-repeat n p =
+  pub moved-wait : (u n : ℕ) → n ≤ 63 → Moved u (λ s. took u (writes (setRepeat n) s)) c t i (stepped u (withRepeat c n)) t i
+  moved-wait u n p =
       let w = wrote-repeat n t i (k .room) p in
       record {
         moves = λ g. record { does = λ starts lens t₀ i₀ s h. holds-writes g starts lens t₀ i₀ s c t i h (setRepeat n) _ t i (w .does t₀ i₀ (s .out) (h .out)); used = λ starts lens t₀ i₀ s h. refl };
         used = refl;
         kept = record { gl = k .gl; gr = k .gr; charged = refl; grew = record { ordered = k .room .ordered; repeat = p; text = omega (arith, k .room .text); issues = omega (arith, k .room .issues) } };
       }
-
--- RPC's count 0: the issue, and no repeat waits
-pub moved-line : {at : ℕ} {c : Core} {t i : List ℕ} {r : Core} {i′ : List ℕ} → Good 1 c → Reported at RepeatToEndOfLine c t i r i′ → Moved 2 (λ s. took 2 (writes (setRepeat 0) (issue at RepeatToEndOfLine s))) c t i (stepped 2 (withRepeat r 0)) t i′
-moved-line {at} {c} {t} {i} {r} {i′} k w =
-    let v = w .kept .grew in
-    let p = k .room in
-    let room : output.Room 0 0 (r .out) = record { ordered = v .ordered; repeat = v .repeat; text = omega arith; issues = omega arith } in
-    let u = wrote-repeat 0 t i′ room (omega arith) in
-    record {
-      moves = λ g. record {
-        does = λ starts lens t₀ i₀ s h.
-            let q = w .does g starts lens t₀ i₀ s h in
-            holds-writes g starts lens t₀ i₀ (issue at RepeatToEndOfLine s) r t i′ q (setRepeat 0) _ t i′ (u .does t₀ i₀ (issue at RepeatToEndOfLine s .out) (q .out));
-        used = λ starts lens t₀ i₀ s h. refl;
-      };
-      used = refl;
-      kept = record { gl = w .kept .gl; gr = w .kept .gr; charged = w .kept .charged; grew = record { ordered = v .ordered; repeat = omega arith; text = v .text; issues = v .issues } };
-    }
 
 -- a step that is another at every state
 module _ {f f′ : State → Step} {c : Core} {t i₁ : List ℕ} {r : Stepped} {t′ i₂ : List ℕ} (e : (s : State) → f s ≡ f′ s) where
@@ -125,3 +110,40 @@ module _ {f f′ : State → Step} {c : Core} {t i₁ : List ℕ} {r : Stepped} 
 
   pub took-as : {b : List ℕ} {i : ℕ} → Took b i f′ c t i₁ r t′ i₂ → Took b i f c t i₁ r t′ i₂
   took-as m = record { moves = λ g. moves-as g (m .moves g); some = m .some; within = m .within; kept = m .kept }
+
+-- an effect that is another
+pub moved-effect : {e e′ : Effect} {n : ℕ} {c : Core} {t i : List ℕ} {r : Stepped} {t′ i′ : List ℕ} (place at : ℕ) → e ≡ e′ → Moved n (stepOf e′ n place at) c t i r t′ i′
+    → Moved n (stepOf e n place at) c t i r t′ i′
+moved-effect {n = n} {c} {t} {i} {r} {t′} {i′} place at q m = subst (λ (e : Effect). Moved n (stepOf e n place at) c t i r t′ i′) (sym q) m
+
+-- a reading of nothing
+pub nowhere : Given
+nowhere = record { cells = []; annexE = false; input = [] }
+
+-- ---- RPC
+
+-- a count waits
+pub repeat-some : (n at : ℕ) (s : State) → (n ≡ 0 → ⊥) → repeatBy n at s ≡ writes (setRepeat n) s
+unfolding repeatBy
+repeat-some zero at s h = absurd (h refl)
+repeat-some (suc n) at s h = refl
+
+-- 0: the issue, and no repeat waits
+pub moved-line : {at : ℕ} {c : Core} {t i : List ℕ} {r : Core} {i′ : List ℕ} (u : ℕ) → Good 1 c → Reported at RepeatToEndOfLine c t i r i′
+    → Moved u (λ s. took u (repeatBy 0 at s)) c t i (stepped u (withRepeat r 0)) t i′
+unfolding repeatBy
+moved-line {at} {c} {t} {i} {r} {i′} u k w =
+    let v = w .kept .grew in
+    let p = k .room in
+    let room : output.Room 0 0 (r .out) = record { ordered = v .ordered; repeat = v .repeat; text = omega arith; issues = omega arith } in
+    let o = wrote-repeat 0 t i′ room (omega arith) in
+    record {
+      moves = λ g. record {
+        does = λ starts lens t₀ i₀ s h.
+            let q = w .does g starts lens t₀ i₀ s h in
+            holds-writes g starts lens t₀ i₀ (issue at RepeatToEndOfLine s) r t i′ q (setRepeat 0) _ t i′ (o .does t₀ i₀ (issue at RepeatToEndOfLine s .out) (q .out));
+        used = λ starts lens t₀ i₀ s h. refl;
+      };
+      used = refl;
+      kept = record { gl = w .kept .gl; gr = w .kept .gr; charged = w .kept .charged; grew = record { ordered = v .ordered; repeat = omega arith; text = v .text; issues = v .issues } };
+    }
