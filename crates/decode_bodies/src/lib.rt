@@ -198,8 +198,8 @@ fn turn<'a>(
     ensures { λ r. ⌜ RanStep (now (cells .entry)) (now (input .entry)) (now (b .entry)) i (stepIn (now (b .entry)) i p) (whole s (now (starts .entry)) (now (lens .entry))) (now (text .entry)) (now (issues .entry)) (r .used) (whole (r .core) (now (starts .entry)) (now (lens .entry))) (now (text .exit)) (now (issues .exit)) ⌝ }
 {
     match stop {
-        Stop::Char => graphic(cells, input, b, i, p, s, starts, lens, text, issues),
-        Stop::Shifted => {
+        Stop::Char(_) => graphic(cells, input, b, i, p, s, starts, lens, text, issues),
+        Stop::Shifted(_) => {
             let r = graphic(cells, input, b, i + 1, p, s, starts, lens, text, issues);
             let core = r.core;
             Stepped {

@@ -213,8 +213,8 @@ fn step(
 {
     match stop {
         Stop::Macro => macro_cmd(cells, input, i, d, text, issues),
-        Stop::Char => call(cells, input, i, i as u32, d, text, issues),
-        Stop::Shifted => {
+        Stop::Char(_) => call(cells, input, i, i as u32, d, text, issues),
+        Stop::Shifted(_) => {
             let r = call(cells, input, i + 1, i as u32, d, text, issues);
             let next = r.decoder;
             Outer {

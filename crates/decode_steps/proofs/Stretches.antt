@@ -12,10 +12,29 @@ use Rattle.decode_state.specs.Contracts.{whole, Good, Kept, TookOver, Stretch}
 use Rattle.decode_state.proofs.Steps.{goes-none, goes-on, goes-step}
 
 pub good-after : {e k : ℕ} {c r : Core} → Good (k + e) c → Kept k c r → Good e r
-good-after h w = record { gl = w .gl; gr = w .gr; room = record { ordered = w .grew .ordered; repeat = w .grew .repeat; text = omega (arith, h .room .text, w .grew .text); issues = omega (arith, h .room .issues, w .grew .issues) } }
+good-after h w = record {
+  gl = w .gl;
+  gr = w .gr;
+  room = record {
+    ordered = w .grew .ordered;
+    repeat = w .grew .repeat;
+    text = omega (arith, h .room .text, w .grew .text);
+    issues = omega (arith, h .room .issues, w .grew .issues);
+  };
+}
 
 kept-on : {e k : ℕ} {c r q : Core} → Kept e c r → Kept k r q → Kept (e + k) c q
-kept-on v w = record { gl = w .gl; gr = w .gr; charged = w .charged ∙ v .charged; grew = record { ordered = w .grew .ordered; repeat = w .grew .repeat; text = omega (arith, v .grew .text, w .grew .text); issues = omega (arith, v .grew .issues, w .grew .issues) } }
+kept-on v w = record {
+  gl = w .gl;
+  gr = w .gr;
+  charged = w .charged ∙ v .charged;
+  grew = record {
+    ordered = w .grew .ordered;
+    repeat = w .grew .repeat;
+    text = omega (arith, v .grew .text, w .grew .text);
+    issues = omega (arith, v .grew .issues, w .grew .issues);
+  };
+}
 
 module _ (cells : List ℕ) (base origin : ℕ) (b : List ℕ) where
   pub stretch-start : {e : ℕ} (j : ℕ) (c : Core) (t i : List ℕ) → j ≤ length b → Good e c → Stretch cells base origin b j c t i j c t i
@@ -35,7 +54,8 @@ module _ (cells : List ℕ) (base origin : ℕ) (b : List ℕ) where
         within = w .within;
         kept = subst (λ (k : ℕ). Kept k c c₂) e (kept-on (v .kept) (w .kept));
         goes = λ g p left R starts lens.
-            goes-on g left R base origin b j (whole c starts lens) t i j₁ (whole c₁ starts lens) t₁ i₁ j₂ (whole c₂ starts lens) t₂ i₂ (v .goes g p left R starts lens) (w .goes g p left R starts lens);
+            goes-on g left R base origin b j (whole c starts lens) t i j₁ (whole c₁ starts lens) t₁ i₁ j₂ (whole c₂ starts lens) t₂ i₂
+            (v .goes g p left R starts lens) (w .goes g p left R starts lens);
       }
 
   pub stretch-step : {j : ℕ} {c : Core} {t i : List ℕ} (r : Stepped) {t₁ i₁ : List ℕ}
@@ -51,4 +71,9 @@ module _ (cells : List ℕ) (base origin : ℕ) (b : List ℕ) where
       }
     where
       wider : (u : ℕ) → 1 ≤ u → Kept 1 c (r .core) → Kept (j + u - j) c (r .core)
-      wider u k w = record { gl = w .gl; gr = w .gr; charged = w .charged; grew = record { ordered = w .grew .ordered; repeat = w .grew .repeat; text = omega (arith, w .grew .text); issues = omega (arith, w .grew .issues) } }
+      wider u k w = record {
+        gl = w .gl;
+        gr = w .gr;
+        charged = w .charged;
+        grew = record { ordered = w .grew .ordered; repeat = w .grew .repeat; text = omega (arith, w .grew .text); issues = omega (arith, w .grew .issues) };
+      }

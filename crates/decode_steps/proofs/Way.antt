@@ -46,11 +46,15 @@ module _ {cells : List ℕ} {base origin : ℕ} {b : List ℕ} {j : ℕ} {c : Co
 
 -- room for the next byte
 pub good-next : {n : ℕ} {c : Core} → Good n c → 1 ≤ n → Good 1 c
-good-next h k = record { gl = h .gl; gr = h .gr; room = record { ordered = h .room .ordered; repeat = h .room .repeat; text = omega (arith, h .room .text); issues = omega (arith, h .room .issues) } }
+good-next h k = record {
+  gl = h .gl;
+  gr = h .gr;
+  room = record { ordered = h .room .ordered; repeat = h .room .repeat; text = omega (arith, h .room .text); issues = omega (arith, h .room .issues) };
+}
 
 -- what stops the steps, where something does
 pub stop-at : (r : Stop) (b : List ℕ) (i : ℕ) (c : Core) → (r ≡ End → ⊥) → Verdict r b i c → StopAt r b i c
 stop-at End b i c h v = absurd (h refl)
 stop-at Macro b i c h v = v
-stop-at Char b i c h v = v
-stop-at Shifted b i c h v = v
+stop-at (Char e) b i c h v = v
+stop-at (Shifted e) b i c h v = v

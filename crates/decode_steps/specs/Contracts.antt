@@ -21,27 +21,25 @@ pub record CharOf (x e : ℕ) (c : Core) : Type 0 where
 abbrev pub ShiftOf : ℕ → ℕ → Type 0
 ShiftOf x e = ((x ≡ 0x19) × (e ≡ 2)) ⊎ ((x ≡ 0x1D) × (e ≡ 3))
 
--- the byte i of b begins a character of an element that has the macro set
-pub record CharAt (b : List ℕ) (i : ℕ) (c : Core) : Type 0 where
+-- the byte i of b begins a character of the element e, which has the macro set
+pub record CharAt (e : ℕ) (b : List ℕ) (i : ℕ) (c : Core) : Type 0 where
   pub within : i < length b
-  pub element : ℕ
-  pub char : CharOf (getD b i 0) element c
-  pub macros : getD (c .sets) element 0 ≡ 15
+  pub char : CharOf (getD b i 0) e c
+  pub macros : getD (c .sets) e 0 ≡ 15
 
--- the byte i of b shifts the character behind it to an element that has the macro set
-pub record ShiftedAt (b : List ℕ) (i : ℕ) (c : Core) : Type 0 where
+-- the byte i of b shifts the character behind it to the element e, which has the macro set
+pub record ShiftedAt (e : ℕ) (b : List ℕ) (i : ℕ) (c : Core) : Type 0 where
   pub within : i + 1 < length b
-  pub element : ℕ
-  pub shift : ShiftOf (getD b i 0) element
+  pub shift : ShiftOf (getD b i 0) e
   pub behind : isGraphic (getD b (i + 1) 0) ≡ true
-  pub macros : getD (c .sets) element 0 ≡ 15
+  pub macros : getD (c .sets) e 0 ≡ 15
 
 -- why steps stop at the byte i of b: the end, MACRO, or a character of the macro set
 abbrev pub StopAt : Stop → List ℕ → ℕ → Core → Type 0
 StopAt End b i c = length b ≤ i
 StopAt Macro b i c = (i < length b) × (getD b i 0 ≡ 0x95)
-StopAt Char b i c = CharAt b i c
-StopAt Shifted b i c = ShiftedAt b i c
+StopAt (Char e) b i c = CharAt e b i c
+StopAt (Shifted e) b i c = ShiftedAt e b i c
 
 -- the step at the byte i of b concerns no macro
 pub record Passes (b : List ℕ) (i : ℕ) (c : Core) : Type 0 where
@@ -54,8 +52,8 @@ pub record Passes (b : List ℕ) (i : ℕ) (c : Core) : Type 0 where
 abbrev pub Verdict : Stop → List ℕ → ℕ → Core → Type 0
 Verdict End b i c = Passes b i c
 Verdict Macro b i c = StopAt Macro b i c
-Verdict Char b i c = StopAt Char b i c
-Verdict Shifted b i c = StopAt Shifted b i c
+Verdict (Char e) b i c = StopAt (Char e) b i c
+Verdict (Shifted e) b i c = StopAt (Shifted e) b i c
 
 -- a stretch of plain steps, and where it stops
 pub record Plain (cells : List ℕ) (base origin : ℕ) (b : List ℕ) (j : ℕ) (c : Core) (t i : List ℕ) (r : Stretched) (t′ i′ : List ℕ) : Type 0 where

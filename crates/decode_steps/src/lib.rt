@@ -23,16 +23,17 @@ ghost use Rattle.decode_output.specs.Output.{newline};
 ghost use Rattle.decode_state.specs.Contracts.{Good, TookOver};
 ghost use Rattle.decode_steps.specs.Contracts.{CharOf, ShiftOf, Verdict, Passes, Plain};
 
-/// Where a run of steps that concern no macro stops.
+/// Where a run of steps that concern no macro stops. The specs speak of the code elements; without
+/// the two numbers the steps cost some four instructions more.
 pub enum Stop {
     /// Nowhere before the body's end.
     End,
     /// At MACRO.
     Macro,
-    /// At a character of the macro set.
-    Char,
-    /// At a single shift with a character of the macro set behind it.
-    Shifted,
+    /// At a character of the macro set, in this code element.
+    Char(usize),
+    /// At a single shift with a character of the macro set behind it, in this code element.
+    Shifted(usize),
 }
 
 /// After such a run.
@@ -67,7 +68,7 @@ fn stop_shift(b: &[u8], i: usize, s: Core, e: usize) -> Stop
         return Stop::End;
     }
     if decode_codes::is_graphic(b[i + 1]) {
-        Stop::Shifted
+        Stop::Shifted(e)
     } else {
         Stop::End
     }
@@ -82,7 +83,7 @@ fn stop_char(x: u8, s: Core, e: usize) -> Stop
     if sets[e] != MACRO_SET {
         return Stop::End;
     }
-    Stop::Char
+    Stop::Char(e)
 }
 
 /// What stops a run of plain steps at the byte i; End where nothing does.

@@ -45,7 +45,7 @@ add-t20 c =
     let at-case = at-call .before .before .before in
     let entry = at-case .before .before .before .before .before .before in
     let h = told _ _ _ (at-case .enum-told3 .given .1) (entry .pre .1 .1) in
-    omega (arith, at-call .call2 .ensures (h .element) (h .macros) .ran .most, entry .pre .0 .short)
+    omega (arith, at-call .call2 .ensures _ (h .macros) .ran .most, entry .pre .0 .short)
 
 enum-told-4 : tie.Need-enum-told-4
 enum-told-4 c = search needs
@@ -74,7 +74,7 @@ returns-2 c =
     let at-call = c .before .before .before .before in
     let at-case = at-call .before .before .before in
     let h = told _ _ _ (at-case .enum-told2 .given .1) (at-case .before .before .before .before .before .before .pre .1 .1) in
-    outer-as (λ g s k. step-char g _ _ _ _ _ _ s _ _ (k .gl) (k .gr) (h .char)) (at-call .call .ensures (h .element) (h .macros))
+    outer-as (λ g s k. step-char g _ _ _ _ _ _ s _ _ (k .gl) (k .gr) (h .char)) (at-call .call .ensures _ (h .macros))
 
 same-length-5 : tie.Need-same-length-5
 same-length-5 c = search needs
@@ -88,7 +88,7 @@ returns-3 c =
     let at-case = at-call .before .before .before in
     let h = told _ _ _ (at-case .enum-told3 .given .1) (at-case .before .before .before .before .before .before .pre .1 .1) in
     outer-as (λ g s k. step-shift g _ _ _ _ _ _ s _ (h .shift) ∙ shift-char g _ _ _ _ _ _ s (h .within) (h .behind))
-    (shift-outer (at-call .call2 .ensures (h .element) (h .macros)))
+    (shift-outer (at-call .call2 .ensures _ (h .macros)))
 
 returns-4 : tie.Need-returns-4
 returns-4 c =

@@ -15,7 +15,10 @@ same-length-2 : tie.Need-same-length-2
 same-length-2 c = search needs
 
 returns : tie.Need-returns
-returns c = λ cells b i l. took-over (λ g. took-writes b i (omega arith) (omega arith) l (c .before .before .before .before .before .before .before .before .before .pre) (c .before .before .before .before .newline .ensures))
+returns c =
+    let at-call = c .before .before .before .before in
+    let entry = at-call .before .before .before .before .before in
+    λ cells b i l. took-over (λ g. took-writes b i (omega arith) (omega arith) l (entry .pre) (at-call .newline .ensures))
 
 pub newline-spec : {M : Type 1} → statement M
 newline-spec = tie.close (tie.spec newline-requires same-length same-length-2 returns)

@@ -11,8 +11,8 @@ use Rattle.decode_steps.proofs.plain.Tie as tie
 
 returns : tie.Need-returns
 returns c =
-    let a = c .before .before .before .before .before .args in
-    record { stretch = stretch-start (a .cells .now) (a .base) (a .origin) (a .b .now) (a .from) (a .core) (a .text .now) (a .issues .now) (c .before .before .before .before .before .pre .0 .0) (c .before .before .before .before .before .pre .1); stop = c .if1 .taken }
+    let entry = c .before .before .before .before .before in
+    record { stretch = stretch-start _ _ _ _ _ _ _ _ (entry .pre .0 .0) (entry .pre .1); stop = c .if1 .taken }
 
 stop-at-requires : tie.Need-stop-at-requires
 stop-at-requires c κs = search needs
@@ -22,11 +22,14 @@ enum-told c = search needs
 
 returns-2 : tie.Need-returns-2
 returns-2 c =
-    let a = c .before .before .before .before .before .before .before .args in
-    let n : c .before .stop-at .result ≡ End → ⊥ = λ e. ⊎-elim (λ z. omega (arith, z)) (⊎-elim (λ z. omega (arith, z)) (λ z. omega (arith, z))) (rw e at (c .match .keys2)) in
+    let entry = c .before .before .before .before .before .before .before in
+    let a = entry .args in
+    let at-stop = c .before in
+    let n : at-stop .stop-at .result ≡ End → ⊥ =
+    λ e. ⊎-elim (λ z. omega (arith, z)) (⊎-elim (λ z. omega (arith, z)) (λ z. omega (arith, z))) (rw e at (c .match .keys2)) in
     record {
-      stretch = stretch-start (a .cells .now) (a .base) (a .origin) (a .b .now) (a .from) (a .core) (a .text .now) (a .issues .now) (c .before .before .before .before .before .before .before .pre .0 .0) (c .before .before .before .before .before .before .before .pre .1);
-      stop = stop-at (c .before .stop-at .result) (a .b .now) (a .from) (a .core) n (c .before .stop-at .ensures);
+      stretch = stretch-start _ _ _ _ _ _ _ _ (entry .pre .0 .0) (entry .pre .1);
+      stop = stop-at (at-stop .stop-at .result) (a .b .now) (a .from) (a .core) n (at-stop .stop-at .ensures);
     }
 
 steps-requires : tie.Need-steps-requires

@@ -20,11 +20,16 @@ same-length c = search needs
 
 returns : tie.Need-returns
 returns c =
-    let e : c .before .before .before .before .if1 .c ≡ cond (c .before .before .before .before .before .is-narrow .result) 0x20 0x3000 = ⊎-elim (λ w. rw (w .0 .taken) (w .1)) (λ w. rw (w .0 .left) (w .1)) (c .before .before .before .before .if1 .came) in
+    let at-emit = c .before .before in
+    let at-test = at-emit .before .before in
+    let at-narrow = at-test .before in
+    let entry = at-narrow .before .before in
+    let e : at-test .if1 .c ≡ cond (at-narrow .is-narrow .result) 0x20 0x3000 =
+    ⊎-elim (λ w. rw (w .0 .taken) (w .1)) (λ w. rw (w .0 .left) (w .1)) (at-test .if1 .came) in
     λ cells b i₁ i l.
     took-as
-    (λ g starts lens t₀ i₀ s h. space-as h (c .before .before .before .before .if1 .c) (e ∙ ap (λ (u : Bool). cond u 0x20 0x3000) (c .before .before .before .before .before .is-narrow .ensures)))
-    (took-over (λ g. took-writes b i (omega arith) (omega arith) l (c .before .before .before .before .before .before .before .pre) (c .before .before .emit .ensures i₁)))
+    (λ g starts lens t₀ i₀ s h. space-as h (at-test .if1 .c) (e ∙ ap (λ (u : Bool). cond u 0x20 0x3000) (at-narrow .is-narrow .ensures)))
+    (took-over (λ g. took-writes b i (omega arith) (omega arith) l (entry .pre) (at-emit .emit .ensures i₁)))
 
 pub space-spec : {M : Type 1} → statement M
 space-spec = tie.close (tie.spec is-narrow-requires emit-requires same-length returns)

@@ -68,17 +68,28 @@ returns-2 c =
     let h = l .before .before in
     let a = h .before .before .before .before .before in
     let w = way-on (h .loop .inv) (l .letters .ensures (a .args .base) (a .args .origin) (h .loop .issues)) (l .letters .kept .1 .1 .1 .1 .0) in
-    let n : c .before .stop-at .result ≡ End → ⊥ = λ e. ⊎-elim (λ z. omega (arith, z)) (⊎-elim (λ z. omega (arith, z)) (λ z. omega (arith, z))) (rw e at (c .match .keys2)) in
-    record { stretch = w .stretch; stop = stop-at (c .before .stop-at .result) (a .args .b .now) (l .letters .result .at) (l .letters .result .core) n (c .before .stop-at .ensures) }
+    let n : c .before .stop-at .result ≡ End → ⊥ =
+    λ e. ⊎-elim (λ z. omega (arith, z)) (⊎-elim (λ z. omega (arith, z)) (λ z. omega (arith, z))) (rw e at (c .match .keys2)) in
+    let stop = stop-at (c .before .stop-at .result) (a .args .b .now) (l .letters .result .at) (l .letters .result .core) n (c .before .stop-at .ensures) in
+    record { stretch = w .stretch; stop = stop }
 
 offset-requires : tie.Need-offset-requires Inv-loop μ-loop
-offset-requires c κs = omega (arith, c .before .before .before .if1 .left, c .before .before .before .before .before .before .before .before .before .before .before .before .before .before .pre .0 .1)
+offset-requires c κs =
+    let at-test = c .before .before .before in
+    let entry = at-test .before .before .before .before .before .before .before .before .before .before .before in
+    omega (arith, at-test .if1 .left, entry .pre .0 .1)
 
 cast-simple : tie.Need-cast-simple Inv-loop μ-loop
-cast-simple c = omega (arith, c .before .before .before .before .if1 .left, c .before .before .before .before .before .before .before .before .before .before .before .before .before .before .before .pre .0 .1)
+cast-simple c =
+    let at-test = c .before .before .before .before in
+    let entry = at-test .before .before .before .before .before .before .before .before .before .before .before in
+    omega (arith, at-test .if1 .left, entry .pre .0 .1)
 
 add-simple : tie.Need-add-simple Inv-loop μ-loop
-add-simple c = omega (arith, c .before .before .before .before .if1 .left, c .before .before .before .before .before .before .before .before .before .before .before .before .before .before .before .pre .0 .1, c .before .before .before .before .before .before .before .before .before .before .before .before .before .before .before .pre .0 .2)
+add-simple c =
+    let at-test = c .before .before .before .before in
+    let entry = at-test .before .before .before .before .before .before .before .before .before .before .before in
+    omega (arith, at-test .if1 .left, entry .pre .0 .1, entry .pre .0 .2)
 
 simple-requires : tie.Need-simple-requires Inv-loop μ-loop
 simple-requires c κs =
@@ -87,11 +98,17 @@ simple-requires c κs =
     let h = l .before .before in
     let a = h .before .before .before .before .before in
     let w = way-on (h .loop .inv) (l .letters .ensures (a .args .base) (a .args .origin) (h .loop .issues)) (l .letters .kept .1 .1 .1 .1 .0) in
-    let v = subst (λ (r : Stop). Verdict r (a .args .b .now) (l .letters .result .at) (l .letters .result .core)) (c .before .before .before .enum-told .given .1) (c .before .before .before .before .before .stop-at .ensures) in
+    let told = c .before .before .before in
+    let v =
+    subst (λ (r : Stop). Verdict r (a .args .b .now) (l .letters .result .at) (l .letters .result .core)) (told .enum-told .given .1) (told .before .before .stop-at .ensures) in
     ((k .if1 .left, a .pre .0 .1), (good-next (way-good w (a .pre .1)) (omega (arith, k .if1 .left)), v))
 
 add-i : tie.Need-add-i Inv-loop μ-loop
-add-i c = omega (arith, c .before .before .before .before .before .before .simple .ensures 0 (λ b₁ base₁ origin₁ s₁. s₁) .within, c .before .before .before .before .before .before .before .before .before .before .before .before .before .before .before .before .before .before .before .before .before .before .before .before .pre .0 .1)
+add-i c =
+    let at-simple = c .before .before .before .before .before .before in
+    let at-test = at-simple .before .before .before .before .before .before .before in
+    let entry = at-test .before .before .before .before .before .before .before .before .before .before .before in
+    omega (arith, at-simple .simple .ensures 0 (λ b₁ base₁ origin₁ s₁. s₁) .within, entry .pre .0 .1)
 
 loop-less : tie.Need-loop-less Inv-loop μ-loop
 loop-less c =
@@ -99,7 +116,8 @@ loop-less c =
     let l = k .before .before .before .before in
     let h = l .before .before in
     let a = h .before .before .before .before .before in
-    omega (arith, k .if1 .left, c .before .before .before .before .before .before .simple .ensures 0 (λ b₁ base₁ origin₁ s₁. s₁) .some, l .letters .ensures (a .args .base) (a .args .origin) (h .loop .issues) .past)
+    let step = c .before .before .before .before .before .before .simple .ensures 0 (λ b₁ base₁ origin₁ s₁. s₁) in
+    omega (arith, k .if1 .left, step .some, l .letters .ensures (a .args .base) (a .args .origin) (h .loop .issues) .past)
 
 loop-again : tie.Need-loop-again Inv-loop μ-loop
 loop-again c =
@@ -110,7 +128,8 @@ loop-again c =
     let h = l .before .before in
     let a = h .before .before .before .before .before in
     let w = way-on (h .loop .inv) (l .letters .ensures (a .args .base) (a .args .origin) (h .loop .issues)) (l .letters .kept .1 .1 .1 .1 .0) in
-    way-step (p .simple .result) (o .offset .result) (o .offset .ensures) (k .if1 .left) w (p .simple .ensures) (p .simple .kept .1 .1 .1 .1 .1 .1 .0) (p .simple .kept .1 .1 .1 .1 .1 .1 .1 .0)
+    way-step (p .simple .result) (o .offset .result) (o .offset .ensures) (k .if1 .left) w (p .simple .ensures)
+    (p .simple .kept .1 .1 .1 .1 .1 .1 .0) (p .simple .kept .1 .1 .1 .1 .1 .1 .1 .0)
 
 pub steps-spec : {M : Type 1} → statement M
 steps-spec =

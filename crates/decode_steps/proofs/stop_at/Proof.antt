@@ -21,13 +21,17 @@ cast-stop-char : tie.Need-cast-stop-char
 cast-stop-char c = search needs
 
 stop-char-requires : tie.Need-stop-char-requires
-stop-char-requires c κs = record { element = c .before .before .before .before .before .before .pre .1; through = inl (gl-in _ (omega arith) (omega arith), refl) }
+stop-char-requires c κs =
+    let entry = c .before .before .before .before .before .before in
+    record { element = entry .pre .1; through = inl (gl-in _ (omega arith) (omega arith), refl) }
 
 cast-stop-char-2 : tie.Need-cast-stop-char-2
 cast-stop-char-2 c = search needs
 
 stop-char-requires-2 : tie.Need-stop-char-requires-2
-stop-char-requires-2 c κs = record { element = c .before .before .before .before .before .before .before .before .pre .2; through = inr (gl-above _ (omega arith), gr-in _ (omega arith) (omega arith), refl) }
+stop-char-requires-2 c κs =
+    let entry = c .before .before .before .before .before .before .before .before in
+    record { element = entry .pre .2; through = inr (gl-above _ (omega arith), gr-in _ (omega arith) (omega arith), refl) }
 
 returns : tie.Need-returns
 returns c = search needs
@@ -39,19 +43,32 @@ returns-3 : tie.Need-returns-3
 returns-3 c = search needs
 
 returns-4 : tie.Need-returns-4
-returns-4 c = c .stop-char .ensures (c .before .before .before .before .before .before .before .args .b .now) (c .before .before .before .before .before .before .before .args .i) (c .before .before .before .before .before .before .before .pre .0) refl
+returns-4 c =
+    let entry = c .before .before .before .before .before .before .before in
+    c .stop-char .ensures (entry .args .b .now) (entry .args .i) (entry .pre .0) refl
 
 returns-5 : tie.Need-returns-5
-returns-5 c = c .stop-char2 .ensures (c .before .before .before .before .before .before .before .before .before .args .b .now) (c .before .before .before .before .before .before .before .before .before .args .i) (c .before .before .before .before .before .before .before .before .before .pre .0) refl
+returns-5 c =
+    let entry = c .before .before .before .before .before .before .before .before .before in
+    c .stop-char2 .ensures (entry .args .b .now) (entry .args .i) (entry .pre .0) refl
 
 returns-6 : tie.Need-returns-6
-returns-6 c = passes-other (c .before .before .before .before .args .b .now) (c .before .before .before .before .args .i) (c .before .before .before .before .args .s) (gl-below _ (omega arith)) (gr-below _ (omega arith)) (c .before .match .rest .0 .0 .1) (c .before .match .rest .0 .1) (c .before .match .rest .1)
+returns-6 c =
+    let a = c .before .before .before .before .args in
+    let rest = c .before .match .rest in
+    passes-other (a .b .now) (a .i) (a .s) (gl-below _ (omega arith)) (gr-below _ (omega arith)) (rest .0 .0 .1) (rest .0 .1) (rest .1)
 
 returns-7 : tie.Need-returns-7
-returns-7 c = passes-other (c .before .before .before .before .before .before .args .b .now) (c .before .before .before .before .before .before .args .i) (c .before .before .before .before .before .before .args .s) (gl-above _ (omega arith)) (gr-below _ (omega arith)) (c .before .before .before .match .rest .0 .0 .1) (c .before .before .before .match .rest .0 .1) (c .before .before .before .match .rest .1)
+returns-7 c =
+    let a = c .before .before .before .before .before .before .args in
+    let rest = c .before .before .before .match .rest in
+    passes-other (a .b .now) (a .i) (a .s) (gl-above _ (omega arith)) (gr-below _ (omega arith)) (rest .0 .0 .1) (rest .0 .1) (rest .1)
 
 returns-8 : tie.Need-returns-8
-returns-8 c = passes-other (c .before .before .before .before .before .before .before .args .b .now) (c .before .before .before .before .before .before .before .args .i) (c .before .before .before .before .before .before .before .args .s) (gl-above _ (omega arith)) (gr-above _ (omega arith)) (c .before .before .before .before .match .rest .0 .0 .1) (c .before .before .before .before .match .rest .0 .1) (c .before .before .before .before .match .rest .1)
+returns-8 c =
+    let a = c .before .before .before .before .before .before .before .args in
+    let rest = c .before .before .before .before .match .rest in
+    passes-other (a .b .now) (a .i) (a .s) (gl-above _ (omega arith)) (gr-above _ (omega arith)) (rest .0 .0 .1) (rest .0 .1) (rest .1)
 
 pub stop-at-spec : {M : Type 1} → statement M
 stop-at-spec =

@@ -13,7 +13,7 @@ returns c =
 
 returns-2 : tie.Need-returns-2
 returns-2 c =
-    λ b i l e. record { within = l; element = c .before .before .args .e; char = rw e (c .before .before .pre); macros = c .if1 .left }
+    λ b i l e. record { within = l; char = rw e (c .before .before .pre); macros = c .if1 .left }
 
 pub stop-char-spec : {M : Type 1} → statement M
 stop-char-spec = tie.close (tie.spec array-read-if1 returns returns-2)

@@ -37,7 +37,6 @@ returns-3 c =
     let entry = at-test .before .before .before .before in
     record {
       within = at-test .if2 .left;
-      element = entry .args .e;
       shift = entry .pre .2;
       behind = sym (c .before .is-graphic .ensures) ∙ c .if3 .taken;
       macros = at-test .before .if1 .left;

@@ -47,7 +47,7 @@ module _ (t : ℕ) where
       let at-case = at-call .before .before .before in
       let entry = at-case .before .before .before .before .before .before .before in
       let h = told _ _ _ (at-case .enum-told2 .given .1) (entry .pre .1 .1 .1 .1) in
-      omega (arith, at-call .graphic2 .ensures (h .element) (h .macros) .most, entry .pre .1 .1 .0 .short)
+      omega (arith, at-call .graphic2 .ensures _ (h .macros) .most, entry .pre .1 .1 .0 .short)
 
   enum-told-3 : lts.Need-enum-told-3 claims (turn-at t) turn.Post
   enum-told-3 c = search needs
@@ -74,7 +74,7 @@ module _ (t : ℕ) where
       let at-case = at-call .before .before .before in
       let entry = at-case .before .before .before .before .before .before .before in
       let h = told _ _ _ (at-case .enum-told .given .1) (entry .pre .1 .1 .1 .1) in
-      step-as (λ g s k. step-char g _ _ _ _ _ _ s _ _ (k .gl) (k .gr) (h .char)) (at-call .graphic .ensures (h .element) (h .macros))
+      step-as (λ g s k. step-char g _ _ _ _ _ _ s _ _ (k .gl) (k .gr) (h .char)) (at-call .graphic .ensures _ (h .macros))
 
   same-length-3 : lts.Need-same-length-3 claims (turn-at t) turn.Post
   same-length-3 c = search needs
@@ -89,7 +89,7 @@ module _ (t : ℕ) where
       let entry = at-case .before .before .before .before .before .before .before in
       let h = told _ _ _ (at-case .enum-told2 .given .1) (entry .pre .1 .1 .1 .1) in
       step-as (λ g s k. step-shift g _ _ _ _ _ _ s _ (h .shift) ∙ shift-char g _ _ _ _ _ _ s (h .within) (h .behind))
-      (shift-step (at-call .graphic2 .ensures (h .element) (h .macros)))
+      (shift-step (at-call .graphic2 .ensures _ (h .macros)))
 
   same-length-5 : lts.Need-same-length-5 claims (turn-at t) turn.Post
   same-length-5 c = search needs
