@@ -1,4 +1,4 @@
-// Table 7-19, rows 85, 86, 90 to 94 of 94 cells each, 0 for a blank cell.
+/// Table 7-19, rows 85, 86, 90 to 94 of 94 cells each, 0 for a blank cell.
 pub const T719: [u32; 658] = [
     // row 85
     0x3402,
@@ -667,7 +667,7 @@ pub const T719: [u32; 658] = [
     0,
 ];
 
-// The scalars that the decoder writes, 0 for a blank cell: a constant a row, since a constant array is built anew at each use.
+/// The scalars that the decoder writes, 0 for a blank cell: a constant a row, since a constant array is built anew at each use.
 pub const ROW85: [u32; 94] = [
     0x3402,
     0x20158,

@@ -100,14 +100,14 @@ pub enum Params {
     NoEntry,
 }
 
-// The byte's value; it always fits.
+/// The byte's value; it always fits.
 fn wide(x: u8) -> usize
     ensures { λ r. ⌜ r ≡ x ⌝ }
 {
     x as usize
 }
 
-// One byte of a code's name, 0 past its end.
+/// One byte of a code's name, 0 past its end.
 fn letter(code: u8, k: usize) -> u8
     requires { ⌜ k < 5 ⌝ }
     ensures { λ r. ⌜ r ≡ letterOf code k ⌝ }

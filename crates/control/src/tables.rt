@@ -1,6 +1,6 @@
 // What Tables 7-15 and 7-16 say of each of the 256 codes, in the order of the codes.
 
-// The number of parameter bytes, as a digit, where it is fixed, and - where it is not. C0, GL, C1 and GR, a line each.
+/// The number of parameter bytes, as a digit, where it is fixed, and - where it is not. C0, GL, C1 and GR, a line each.
 pub const COUNTS: [u8; 256] = *b"\
     0------000000000------1-00--2000\
     0----------------------------------------------------------------------------------------------0\
@@ -8,7 +8,7 @@ pub const COUNTS: [u8; 256] = *b"\
     ------------------------------------------------------------------------------------------------\
     ";
 
-// The length of the name, as a digit; 0 where there is none. C0, GL, C1 and GR, a line each.
+/// The length of the name, as a digit; 0 where there is none. C0, GL, C1 and GR, a line each.
 pub const LENS: [u8; 256] = *b"\
     30000003333323330000004033033322\
     200000000000000000000000000000000000000000000000000000000000000000000000000000000000000000000003\
@@ -16,7 +16,7 @@ pub const LENS: [u8; 256] = *b"\
     000000000000000000000000000000000000000000000000000000000000000000000000000000000000000000000000\
     ";
 
-// The name, with zeros to five bytes. Eight codes to a line.
+/// The name, with zeros to five bytes. Eight codes to a line.
 pub const NAMES: [u8; 1280] = *b"\
     NUL\0\0\0\0\0\0\0\0\0\0\0\0\0\0\0\0\0\0\0\0\0\0\0\0\0\0\0\0\0\0\0\0BEL\0\0\
     APB\0\0APF\0\0APD\0\0APU\0\0CS\0\0\0APR\0\0LS1\0\0LS0\0\0\

@@ -12,8 +12,8 @@ ghost use Rattle.reading.specs.Macros.{Run, builtinOf, endOf, macroCmd};
 ghost use Rattle.reading.specs.Macros.{definition as defines};
 ghost use Rattle.decode_macros.specs.Contracts.{Put, Built, commanded, Within};
 
-// Table 7-18, codes 60 to 6F: the sets that go to G0, G1 and G2, by 01's numbers. G3 is always the
-// macro set.
+/// Table 7-18, codes 60 to 6F: the sets that go to G0, G1 and G2, by 01's numbers. G3 is always the
+/// macro set.
 const BUILTIN: [[u8; 3]; 16] = [
     [0, 1, 2],
     [0, 3, 2],
@@ -33,8 +33,8 @@ const BUILTIN: [[u8; 3]; 16] = [
     [1, 4, 17],
 ];
 
-// The built-in body of a code: writes it to the front of `body`, which is as long as the longest, and
-// answers its length, 0 where the code has none. Table 7-18.
+/// The built-in body of a code: writes it to the front of `body`, which is as long as the longest, and
+/// answers its length, 0 where the code has none. Table 7-18.
 pub fn default_macro(body: &mut [u8], code: usize) -> usize
     requires { ⌜ length (now body) ≡ 19 ⌝ }
     ensures { λ r. ⌜ Built (now (body .entry)) code (now (body .exit)) r ⌝ }
@@ -49,8 +49,8 @@ pub fn default_macro(body: &mut [u8], code: usize) -> usize
     put_body(body, BUILTIN[row][0], BUILTIN[row][1], BUILTIN[row][2])
 }
 
-// Designates three sets to G0, G1 and G2 and the macro set to G3, then invokes by LS0 and LS2R: writes the
-// body to the front of `body` and answers its length.
+/// Designates three sets to G0, G1 and G2 and the macro set to G3, then invokes by LS0 and LS2R: writes the
+/// body to the front of `body` and answers its length.
 fn put_body(body: &mut [u8], g0: u8, g1: u8, g2: u8) -> usize
     requires { ⌜ length (builtinOf (g0 ∷ g1 ∷ g2 ∷ [])) ≤ length (now body) ⌝ }
     ensures { λ r. ⌜ Put (now (body .entry)) 0 (builtinOf (g0 ∷ g1 ∷ g2 ∷ [])) (now (body .exit)) r ⌝ }
@@ -62,8 +62,8 @@ fn put_body(body: &mut [u8], g0: u8, g1: u8, g2: u8) -> usize
     put_bytes(body, n, b"\x0F\x1B\x7D")
 }
 
-// Designates the set of a number to Gn, n modulo 4, from `at` on: writes the sequence, and answers the place
-// behind it. Table 7-2.
+/// Designates the set of a number to Gn, n modulo 4, from `at` on: writes the sequence, and answers the place
+/// behind it. Table 7-2.
 fn put_designation(body: &mut [u8], at: usize, set: u8, n: u8) -> usize
     requires { ⌜ at + length (designation set (n % 4)) ≤ length (now body) ⌝ }
     ensures { λ r. ⌜ Put (now (body .entry)) at (designation set (n % 4)) (now (body .exit)) r ⌝ }
@@ -74,7 +74,7 @@ fn put_designation(body: &mut [u8], at: usize, set: u8, n: u8) -> usize
     put_bytes(body, at, &bytes[..len])
 }
 
-// Writes `s` from `at` on, and answers the place behind it.
+/// Writes `s` from `at` on, and answers the place behind it.
 fn put_bytes(body: &mut [u8], at: usize, s: &[u8]) -> usize
     requires { ⌜ at + length (now s) ≤ length (now body) ⌝ }
     ensures { λ r. ⌜ Put (now (body .entry)) at (now (s .entry)) (now (body .exit)) r ⌝ }
@@ -87,7 +87,7 @@ fn put_bytes(body: &mut [u8], at: usize, s: &[u8]) -> usize
     at + i
 }
 
-// How far a definition's body goes from `from` on: to the first 95 4F, or to the end where none is.
+/// How far a definition's body goes from `from` on: to the first 95 4F, or to the end where none is.
 pub fn body_end(b: &[u8], from: usize) -> usize
     requires { ⌜ from ≤ length (now b) ⌝ }
     ensures { λ r. ⌜ r ≡ from + endOf (drop from (now (b .entry))) ⌝ }
@@ -104,20 +104,20 @@ pub fn body_end(b: &[u8], from: usize) -> usize
     b.len()
 }
 
-// What MACRO does, by the bytes behind it. Table 7-16.
+/// What MACRO does, by the bytes behind it. Table 7-16.
 pub enum Command {
-    // The input, or a body, ends before it does.
+    /// The input, or a body, ends before it does.
     Cut,
-    // MACRO 4F outside a definition: nothing.
+    /// MACRO 4F outside a definition: nothing.
     Ends,
-    // Another parameter.
+    /// Another parameter.
     Malformed,
-    // MACRO 40 or 41: the code's body has `len` bytes and begins three bytes behind MACRO; 41 also runs
-    // it once.
+    /// MACRO 40 or 41: the code's body has `len` bytes and begins three bytes behind MACRO; 41 also runs
+    /// it once.
     Defines { code: usize, len: usize, runs: bool },
 }
 
-// MACRO at the byte i of b.
+/// MACRO at the byte i of b.
 pub fn read_command(b: &[u8], i: usize) -> Command
     requires { ⌜ i < length (now b) ⌝ }
     ensures means { λ r. ⌜ ((g : Given) (left : ℕ) (R : Run) (place at : ℕ) (s : State) → macroCmd g left R (drop (i + 1) (now (b .entry))) place at s ≡ commanded r (length (now (b .entry)) - i) g left R place at s) ⌝ }
@@ -135,7 +135,7 @@ pub fn read_command(b: &[u8], i: usize) -> Command
     }
 }
 
-// MACRO 40 or 41 at the byte i of b.
+/// MACRO 40 or 41 at the byte i of b.
 fn definition(b: &[u8], i: usize, runs: bool) -> Command
     requires { ⌜ i + 1 < length (now b) ⌝ }
     ensures means { λ r. ⌜ ((g : Given) (left : ℕ) (R : Run) (place at : ℕ) (s : State) → defines g left R (cond runs 0x41 0x40) (drop (i + 2) (now (b .entry))) place at s ≡ commanded r (length (now (b .entry)) - i) g left R place at s) ⌝ }

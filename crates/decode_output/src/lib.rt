@@ -20,19 +20,19 @@ ghost use Rattle.decode_output.specs.Output.{
 ghost use Rattle.decode_output.specs.Contracts.{outOf, Room, Wrote};
 
 pub struct Out {
-    // Bytes of the text without the waiting marks.
+    /// Bytes of the text without the waiting marks.
     pub len: usize,
-    // Bytes with them: where the next mark goes.
+    /// Bytes with them: where the next mark goes.
     pub end: usize,
-    // The first waiting mark's offset, 0 where none waits.
+    /// The first waiting mark's offset, 0 where none waits.
     pub first: u32,
-    // The waiting repeat, 0 where none waits.
+    /// The waiting repeat, 0 where none waits.
     pub repeat: u32,
-    // Issues reported.
+    /// Issues reported.
     pub issues: usize,
 }
 
-// Nothing is written, and nothing waits.
+/// Nothing is written, and nothing waits.
 pub fn start() -> Out
     ensures { λ r. ⌜ r ≡ outOf nothing ⌝ }
 {
@@ -45,7 +45,7 @@ pub fn start() -> Out
     }
 }
 
-// Moves the first m bytes of the part up by d.
+/// Moves the first m bytes of the part up by d.
 fn shift_up(part: &mut [u8], m: usize, d: usize)
     requires { ⌜ (m ≤ 0x10000000000) × (1 ≤ d) × (d ≤ 252) ⌝ }
     ensures { λ _. ⌜ now (part .exit) ≡ sets (now (part .entry)) d (take m (now (part .entry))) ⌝ }
@@ -59,7 +59,7 @@ fn shift_up(part: &mut [u8], m: usize, d: usize)
     }
 }
 
-// Writes c from the start of the part on, n times.
+/// Writes c from the start of the part on, n times.
 fn put_times(part: &mut [u8], c: u32, n: u32)
     requires { ⌜ n ≤ 63 ⌝ }
     ensures { λ _. ⌜ now (part .exit) ≡ sets (now (part .entry)) 0 (utf8s (replicate n c)) ⌝ }
@@ -72,7 +72,7 @@ fn put_times(part: &mut [u8], c: u32, n: u32)
     }
 }
 
-// The part begins with m bytes of waiting marks: they move up past c, written n times in d bytes.
+/// The part begins with m bytes of waiting marks: they move up past c, written n times in d bytes.
 fn insert(part: &mut [u8], m: usize, c: u32, n: u32, d: usize)
     requires { ⌜ (m ≤ 0x10000000000) × (1 ≤ n) × (n ≤ 63) × (d ≡ length (utf8s (replicate n c))) ⌝ }
     ensures { λ _. ⌜ now (part .exit) ≡ sets (sets (now (part .entry)) d (take m (now (part .entry)))) 0 (utf8s (replicate n c)) ⌝ }
@@ -81,7 +81,7 @@ fn insert(part: &mut [u8], m: usize, c: u32, n: u32, d: usize)
     put_times(part, c, n);
 }
 
-// Writes a character n times, and moves the waiting marks behind it. §7.1.1.4.
+/// Writes a character n times, and moves the waiting marks behind it. §7.1.1.4.
 fn emit_times(o: Out, c: u32, n: u32, text: &mut [u8]) -> Out
     requires { ⌜ Room 1 0 o ⌝ }
     requires { ⌜ (1 ≤ n) × (n ≤ 63) ⌝ }
@@ -106,7 +106,7 @@ fn emit_times(o: Out, c: u32, n: u32, text: &mut [u8]) -> Out
     }
 }
 
-// Writes a character as often as the waiting repeat says, then the waiting marks. §7.1.1.4.
+/// Writes a character as often as the waiting repeat says, then the waiting marks. §7.1.1.4.
 pub fn emit(o: Out, c: u32, text: &mut [u8]) -> Out
     requires { ⌜ Room 1 0 o ⌝ }
     ensures { λ r. ⌜ ((i : List ℕ) → Wrote 1 0 (emit c) o (now (text .entry)) i r (now (text .exit)) i) ⌝ }
@@ -128,7 +128,7 @@ pub fn emit(o: Out, c: u32, text: &mut [u8]) -> Out
     }
 }
 
-// A non-spacing character waits for the character that it combines with. §7.1.1.4.
+/// A non-spacing character waits for the character that it combines with. §7.1.1.4.
 pub fn mark(o: Out, m: u32, at: u32, text: &mut [u8]) -> Out
     requires { ⌜ Room 1 0 o ⌝ }
     ensures { λ r. ⌜ ((i : List ℕ) → Wrote 1 0 (mark m at) o (now (text .entry)) i r (now (text .exit)) i) ⌝ }
@@ -142,7 +142,7 @@ pub fn mark(o: Out, m: u32, at: u32, text: &mut [u8]) -> Out
     r
 }
 
-// Writes x at the place n, if it fits.
+/// Writes x at the place n, if it fits.
 fn put32(d: &mut [u32], n: usize, x: u32)
     ensures { λ _. ⌜ now (d .exit) ≡ set (now (d .entry)) n x ⌝ }
 {
@@ -151,10 +151,10 @@ fn put32(d: &mut [u32], n: usize, x: u32)
     }
 }
 
-// How many numbers an issue is: its offset, its kind and two fields.
+/// How many numbers an issue is: its offset, its kind and two fields.
 pub const NUMBERS: usize = 4;
 
-// Reports an issue: the one place where issues are written.
+/// Reports an issue: the one place where issues are written.
 pub fn issue(o: Out, at: u32, kind: IssueKind, issues: &mut [u32]) -> Out
     requires { ⌜ Room 0 1 o ⌝ }
     ensures { λ r. ⌜ ((t : List ℕ) → Wrote 0 1 (report at kind) o t (now (issues .entry)) r t (now (issues .exit))) ⌝ }
@@ -170,7 +170,7 @@ pub fn issue(o: Out, at: u32, kind: IssueKind, issues: &mut [u32]) -> Out
     r
 }
 
-// Waiting marks without a base stay where they stand, and the first one's offset is reported.
+/// Waiting marks without a base stay where they stand, and the first one's offset is reported.
 pub fn flush_dangling(o: Out, issues: &mut [u32]) -> Out
     requires { ⌜ Room 0 1 o ⌝ }
     ensures { λ r. ⌜ ((t : List ℕ) → Wrote 0 1 release o t (now (issues .entry)) r t (now (issues .exit))) ⌝ }
@@ -184,7 +184,7 @@ pub fn flush_dangling(o: Out, issues: &mut [u32]) -> Out
     r
 }
 
-// APR: marks still waiting stay before the new line, and the waiting repeat waits on. Table 7-15.
+/// APR: marks still waiting stay before the new line, and the waiting repeat waits on. Table 7-15.
 pub fn newline(o: Out, text: &mut [u8], issues: &mut [u32]) -> Out
     requires { ⌜ Room 1 1 o ⌝ }
     ensures { λ r. ⌜ Wrote 1 1 newline o (now (text .entry)) (now (issues .entry)) r (now (text .exit)) (now (issues .exit)) ⌝ }

@@ -12,7 +12,7 @@ ghost use Rattle.encode_layer.specs.Entries.{entry, setEntry, nodeOf, en
 ghost use Rattle.encode_layer.specs.Layer.{bounds, HasRoom, Pushes};
 ghost use Rattle.encode_layer.specs.Kept.{Kept};
 
-// Writes a node at a place.
+/// Writes a node at a place.
 pub fn put_node(store: &mut [u32], place: usize, state: u32, cost: u32, link: u32, back: u32)
     requires { ⌜ place * 4 + 4 ≤ length (now store) ⌝ }
     ensures { λ _. ⌜ now (store .exit) ≡ setEntry (now (store .entry)) place (entry state cost link back) ⌝ }
@@ -24,8 +24,8 @@ pub fn put_node(store: &mut [u32], place: usize, state: u32, cost: u32, link: u3
     store[at + 3] = back;
 }
 
-// Pushes a node into the layer of count nodes from the node from on, which has room for cap nodes.
-// Returns how many it has then: cap + 1 says that they are more than have room, and stays so.
+/// Pushes a node into the layer of count nodes from the node from on, which has room for cap nodes.
+/// Returns how many it has then: cap + 1 says that they are more than have room, and stays so.
 pub fn push(
     store: &mut [u32],
     index: &mut [u16],
@@ -63,7 +63,7 @@ pub fn push(
     count + 1
 }
 
-// The layer's least cost, 0 where it has no node.
+/// The layer's least cost, 0 where it has no node.
 pub fn least(store: &[u32], from: usize, count: usize) -> u32
     requires { ⌜ (from + count) * 4 ≤ length (now store) ⌝ }
     ensures { λ r. ⌜ ((cs : List Cand) → r ≡ least (layerOf cs (now (store .entry)) from count)) ⌝ }
@@ -83,7 +83,7 @@ pub fn least(store: &[u32], from: usize, count: usize) -> u32
     best
 }
 
-// The floor after a state of cost b is dropped, or a state that reaches it: 0 for none, else one more.
+/// The floor after a state of cost b is dropped, or a state that reaches it: 0 for none, else one more.
 pub fn lower(floor: u32, b: u32) -> u32
     requires { ⌜ b < 4294967295 ⌝ }
     ensures { λ r. ⌜ r ≡ lower floor b ⌝ }
@@ -97,8 +97,8 @@ pub fn lower(floor: u32, b: u32) -> u32
     floor
 }
 
-// The floor after those nodes of the layer are dropped that cost over most. The characters after the
-// layer have shortest codes of rest bytes.
+/// The floor after those nodes of the layer are dropped that cost over most. The characters after the
+/// layer have shortest codes of rest bytes.
 pub fn floor(store: &[u32], from: usize, count: usize, most: u32, rest: u32, low: u32) -> u32
     requires { ⌜ ((from + count) * 4 ≤ length (now store)) × (rest ≤ 65535) × All (λ e. e .cost ≤ 65535) (entriesOf (now store) from count) ⌝ }
     ensures { λ r. ⌜ ((cs : List Cand) → r ≡ floorOf most rest low (layerOf cs (now (store .entry)) from count)) ⌝ }
@@ -115,7 +115,7 @@ pub fn floor(store: &[u32], from: usize, count: usize, most: u32, rest: u32, low
     f
 }
 
-// Drops the nodes of the layer that cost over most, the others moved up. Returns how many are kept.
+/// Drops the nodes of the layer that cost over most, the others moved up. Returns how many are kept.
 pub fn keep(store: &mut [u32], from: usize, count: usize, most: u32) -> usize
     requires { ⌜ (from + count) * 4 ≤ length (now store) ⌝ }
     ensures { λ r. ⌜ Kept (now (store .entry)) (now (store .exit)) from count most r ⌝ }

@@ -3,13 +3,13 @@ ghost use Prim.Native.Nat.{_≤_};
 ghost use lib.ListN.{length};
 ghost use Rattle.io.specs.Counts.{Counts};
 
-// How many bytes stand at the start of a buffer, and whether a read failed.
+/// How many bytes stand at the start of a buffer, and whether a read failed.
 pub struct Input {
     pub len: usize,
     pub failed: bool,
 }
 
-// One read, of at most a buffer. Where it fails, what and why goes to standard error.
+/// One read, of at most a buffer. Where it fails, what and why goes to standard error.
 fn read_once(fd: i32, what: &[u8], buffer: &mut [u8]) -> Input
     ensures { λ r. ⌜ r .len ≤ length (now (buffer .exit)) ⌝ }
 {
@@ -27,7 +27,7 @@ fn read_once(fd: i32, what: &[u8], buffer: &mut [u8]) -> Input
     }
 }
 
-// Reads until the buffer is full or the input ends, in however many pieces it comes.
+/// Reads until the buffer is full or the input ends, in however many pieces it comes.
 pub fn read(fd: i32, what: &[u8], buffer: &mut [u8]) -> Input
     ensures { λ r. ⌜ Counts (r .len) (now (buffer .exit)) ⌝ }
 {
@@ -44,14 +44,14 @@ pub fn read(fd: i32, what: &[u8], buffer: &mut [u8]) -> Input
     Input { len: done, failed }
 }
 
-// Whether there is a `jis.tab`, and how many of its bytes stand at the start of a buffer.
+/// Whether there is a `jis.tab`, and how many of its bytes stand at the start of a buffer.
 pub struct Table {
     pub present: bool,
     pub len: usize,
 }
 
-// Reads `jis.tab`. One that cannot be opened or read counts as one of no bytes, which is refused, and
-// not as one that is absent.
+/// Reads `jis.tab`. One that cannot be opened or read counts as one of no bytes, which is refused, and
+/// not as one that is absent.
 pub fn read_table(buffer: &mut [u8]) -> Table
     ensures { λ r. ⌜ Counts (r .len) (now (buffer .exit)) ⌝ }
 {

@@ -3,38 +3,38 @@
 ghost use mathlib.Core.Path.{_≡_};
 ghost use Rattle.issues.specs.Issue.{numbersOf};
 
-// Kinds of decoding problems, in the Rust's order. A set is 01's number of it, a code the GL form
-// (two bytes as 16 bits).
+/// Kinds of decoding problems, in the Rust's order. A set is 01's number of it, a code the GL form
+/// (two bytes as 16 bits).
 pub enum IssueKind {
-    // An escape sequence that Tables 7-1 to 7-3 do not list: its start in the input and its length.
+    /// An escape sequence that Tables 7-1 to 7-3 do not list: its start in the input and its length.
     UnknownEscape { start: u32, len: u32 },
-    // A C0 or C1 code that Table 7-14 leaves blank, or 10/0, or 15/15.
+    /// A C0 or C1 code that Table 7-14 leaves blank, or 10/0, or 15/15.
     UndefinedControl(u8),
-    // A control code whose parameters do not fit Tables 7-15 to 7-17.
+    /// A control code whose parameters do not fit Tables 7-15 to 7-17.
     MalformedControl(u8),
-    // The input, or a body, ended inside a code.
+    /// The input, or a body, ended inside a code.
     Truncated,
-    // A code that is blank in its set's table.
+    /// A code that is blank in its set's table.
     UndefinedCode { set: u8, code: u16 },
-    // A code of a set whose repertoire is not mapped.
+    /// A code of a set whose repertoire is not mapped.
     UnsupportedCode { set: u8, code: u16 },
-    // A character of DRCS-n.
+    /// A character of DRCS-n.
     Drcs { n: u8, code: u16 },
-    // A mosaic character: nothing is written.
+    /// A mosaic character: nothing is written.
     Mosaic { set: u8, code: u8 },
-    // A macro code with no body.
+    /// A macro code with no body.
     UndefinedMacro(u8),
-    // A body that would be open too deep or charge too much.
+    /// A body that would be open too deep or charge too much.
     MacroLimit,
-    // SS2 or SS3 with no graphic character behind it.
+    /// SS2 or SS3 with no graphic character behind it.
     LoneSingleShift,
-    // Non-spacing characters with no character to combine with.
+    /// Non-spacing characters with no character to combine with.
     DanglingNonSpacing,
-    // RPC with count 0.
+    /// RPC with count 0.
     RepeatToEndOfLine,
 }
 
-// The numbers of an issue beside its offset: the kind, 1 to 13, and two fields, 0 where unused.
+/// The numbers of an issue beside its offset: the kind, 1 to 13, and two fields, 0 where unused.
 pub struct Numbers {
     pub kind: u32,
     pub first: u32,

@@ -5,7 +5,7 @@ ghost use Rattle.questions.specs.Buffer.{padded};
 ghost use Rattle.jis_tab.specs.CellTable.{bigEndian};
 ghost use Rattle.jis_tab.specs.Contracts.{Filled};
 
-// Number i of the bytes, two a number; 0 past the end.
+/// Number i of the bytes, two a number; 0 past the end.
 fn number(bytes: &[u8], i: usize) -> u16
     ensures { λ r. ⌜ r ≡ getD (bigEndian (now (bytes .entry))) i 0 ⌝ }
 {
@@ -15,7 +15,7 @@ fn number(bytes: &[u8], i: usize) -> u16
     0
 }
 
-// The numbers of the bytes, then zeros.
+/// The numbers of the bytes, then zeros.
 pub fn numbers(bytes: &[u8], cells: &mut [u16])
     ensures { λ _. ⌜ now (cells .exit) ≡ padded (length (now (cells .entry))) (bigEndian (now (bytes .entry))) ⌝ }
 {
@@ -26,8 +26,8 @@ pub fn numbers(bytes: &[u8], cells: &mut [u16])
     }
 }
 
-// Fills a buffer for 8,836 numbers, and answers how many of them count: whether there is a `jis.tab`,
-// and its bytes.
+/// Fills a buffer for 8,836 numbers, and answers how many of them count: whether there is a `jis.tab`,
+/// and its bytes.
 pub fn fill(present: bool, bytes: &[u8], cells: &mut [u16]) -> usize
     ensures { λ r. ⌜ Filled present (now (bytes .entry)) (now (cells .entry)) (now (cells .exit)) r ⌝ }
 {

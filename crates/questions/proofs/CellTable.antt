@@ -109,7 +109,8 @@ whole t long =
     ∙ take-append-drop 752 t
 
 -- what the code asks of the parts
-pub parts : (t : List ℕ) → length t ≡ 8836 → all scalar (take 752 t) && all zero? (take 658 (drop 752 t)) && all scalar (take 6486 (drop 1410 t)) && all zero? (take 940 (drop 7896 t)) ≡ cellsHold t
+pub parts : (t : List ℕ) → length t ≡ 8836 → all scalar (take 752 t) && all zero? (take 658 (drop 752 t)) && all scalar (take 6486 (drop 1410 t)) && all zero?
+    (take 940 (drop 7896 t)) ≡ cellsHold t
 unfolding cellsHold
 parts t long =
     let p : List ℕ = take 752 t in

@@ -18,7 +18,8 @@ pub passed : (t : List ℕ) (initial width limit len : ℕ) → firstRefusal t i
 unfolding firstRefusal
 passed t initial width limit len = go (cellsHold t) (leb initial 1) (leb width 1) (leb len limit) refl refl refl refl
   where
-    go : (a b c d : Bool) → cellsHold t ≡ a → leb initial 1 ≡ b → leb width 1 ≡ c → leb len limit ≡ d → _≡_ {A = ℕ} (cond a (cond (b && c) (cond d 0 3) 2) 1) 0 → Passed t initial width limit len
+    go : (a b c d : Bool) → cellsHold t ≡ a → leb initial 1 ≡ b → leb width 1 ≡ c → leb len limit ≡ d → _≡_ {A = ℕ} (cond a (cond (b && c) (cond d 0 3) 2) 1) 0 →
+        Passed t initial width limit len
     go true true true true p q r s e =
         record {
           table = p;

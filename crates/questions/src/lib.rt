@@ -5,23 +5,23 @@ ghost use mathlib.Core.Path.{_≡_};
 ghost use Rattle.questions.specs.Questions.{all, scalar, zero?, cellsHold, optionsHold, firstRefusal};
 ghost use Rattle.questions.specs.Buffer.{cleared};
 
-// The most bytes that decoding and a key take.
+/// The most bytes that decoding and a key take.
 pub const DECODE_LIMIT: usize = 65535;
 
-// The most bytes of text that coding takes.
+/// The most bytes of text that coding takes.
 pub const ENCODE_LIMIT: usize = 7281;
 
-// The cell table has 94 rows of 94 cells.
+/// The cell table has 94 rows of 94 cells.
 pub const CELLS: usize = 8836;
 
-// What a refused call answers: the number of the question, and the byte place, 0 except for questions 4, 5 and 6.
+/// What a refused call answers: the number of the question, and the byte place, 0 except for questions 4, 5 and 6.
 pub struct Refusal {
     pub number: u32,
     pub place: usize,
 }
 
-// Whether no cell of a part of the table is a surrogate, D800 to DFFF. There is no early way out, so that eight cells
-// are tested at a time; so in `empty`.
+/// Whether no cell of a part of the table is a surrogate, D800 to DFFF. There is no early way out, so that eight cells
+/// are tested at a time; so in `empty`.
 fn scalars(t: &[u16]) -> bool
     ensures { λ r. ⌜ r ≡ all scalar (now (t .entry)) ⌝ }
 {
@@ -34,7 +34,7 @@ fn scalars(t: &[u16]) -> bool
     good
 }
 
-// Whether every cell of a part of the table is zero.
+/// Whether every cell of a part of the table is zero.
 fn empty(t: &[u16]) -> bool
     ensures { λ r. ⌜ r ≡ all zero? (now (t .entry)) ⌝ }
 {
@@ -47,8 +47,8 @@ fn empty(t: &[u16]) -> bool
     bits == 0
 }
 
-// Question 1. Rows 9 to 15 are the cells from 752 to 1409, rows 85 to 94 those from 7896 on: what is zero there is no
-// surrogate, so `scalars` reads the other rows only.
+/// Question 1. Rows 9 to 15 are the cells from 752 to 1409, rows 85 to 94 those from 7896 on: what is zero there is no
+/// surrogate, so `scalars` reads the other rows only.
 pub fn cells(t: &[u16]) -> bool
     ensures { λ r. ⌜ r ≡ cellsHold (now (t .entry)) ⌝ }
 {
@@ -58,14 +58,14 @@ pub fn cells(t: &[u16]) -> bool
     scalars(&t[..752]) & empty(&t[752..1410]) & scalars(&t[1410..7896]) & empty(&t[7896..CELLS])
 }
 
-// Question 2: Si or Caption, CharacterSize or AnnexE. The options are as wide as a C caller's, so that 256 is not 0.
+/// Question 2: Si or Caption, CharacterSize or AnnexE. The options are as wide as a C caller's, so that 256 is not 0.
 pub fn options(initial: u32, width: u32) -> bool
     ensures { λ r. ⌜ r ≡ optionsHold initial width ⌝ }
 {
     (initial <= 1) & (width <= 1)
 }
 
-// The first of questions 1, 2 and 3 that is answered no, or 0.
+/// The first of questions 1, 2 and 3 that is answered no, or 0.
 pub fn first(t: &[u16], initial: u32, width: u32, limit: usize, len: usize) -> u32
     ensures { λ r. ⌜ r ≡ firstRefusal (now (t .entry)) initial width limit len ⌝ }
 {
@@ -81,7 +81,7 @@ pub fn first(t: &[u16], initial: u32, width: u32, limit: usize, len: usize) -> u
     0
 }
 
-// Zeros in `d` from `from` on.
+/// Zeros in `d` from `from` on.
 pub fn clear(d: &mut [u8], from: usize)
     ensures { λ _. ⌜ now (d .exit) ≡ cleared (now (d .entry)) from ⌝ }
 {
@@ -92,7 +92,7 @@ pub fn clear(d: &mut [u8], from: usize)
     }
 }
 
-// The same for issues and the search store.
+/// The same for issues and the search store.
 pub fn clear32(d: &mut [u32], from: usize)
     ensures { λ _. ⌜ now (d .exit) ≡ cleared (now (d .entry)) from ⌝ }
 {

@@ -1,6 +1,6 @@
 // What decoding means: specs/, as functions on lists. The crate `decode` meets it.
 
-// A crate has a function; nothing calls this one.
+/// A crate has a function; nothing calls this one.
 pub fn none() -> usize {
     0
 }

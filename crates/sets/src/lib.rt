@@ -8,57 +8,57 @@ ghost use mathlib.Core.List.{map};
 ghost use Prim.Native.Nat.{_%_};
 ghost use Rattle.sets.specs.Sets.{setNumber, bytesPerChar, isDrcsForm, finalByte, designation, fromDesignation, designated, Holds, shiftBytes, shiftElement, Compared, isNarrow, initialNumber, initialSets, initialInvocations};
 
-// A graphic set that can be designated to G0 .. G3: Table 7-3.
+/// A graphic set that can be designated to G0 .. G3: Table 7-3.
 pub enum GraphicSet {
-    // Table 7-4, two bytes a character, F = 04/2.
+    /// Table 7-4, two bytes a character, F = 04/2.
     Kanji,
-    // Table 7-5, F = 04/10.
+    /// Table 7-5, F = 04/10.
     Alphanumeric,
-    // Table 7-7, F = 03/0.
+    /// Table 7-7, F = 03/0.
     Hiragana,
-    // Table 7-6, F = 03/1.
+    /// Table 7-6, F = 03/1.
     Katakana,
-    // Table 7-8 (1), F = 03/2.
+    /// Table 7-8 (1), F = 03/2.
     MosaicA,
-    // Table 7-8 (2), F = 03/3.
+    /// Table 7-8 (2), F = 03/3.
     MosaicB,
-    // Table 7-8 (3), non-spacing, F = 03/4.
+    /// Table 7-8 (3), non-spacing, F = 03/4.
     MosaicC,
-    // Table 7-8 (4), non-spacing, F = 03/5.
+    /// Table 7-8 (4), non-spacing, F = 03/5.
     MosaicD,
-    // Table 7-5, F = 03/6.
+    /// Table 7-5, F = 03/6.
     ProportionalAlphanumeric,
-    // Table 7-7, F = 03/7.
+    /// Table 7-7, F = 03/7.
     ProportionalHiragana,
-    // Table 7-6, F = 03/8.
+    /// Table 7-6, F = 03/8.
     ProportionalKatakana,
-    // Table 7-9, F = 04/9.
+    /// Table 7-9, F = 04/9.
     JisX0201Katakana,
-    // 7.1.1.3, two bytes, F = 03/9.
+    /// 7.1.1.3, two bytes, F = 03/9.
     JisKanjiPlane1,
-    // 7.1.1.3, two bytes, F = 03/10.
+    /// 7.1.1.3, two bytes, F = 03/10.
     JisKanjiPlane2,
-    // Tables 7-10 and 7-11, two bytes, F = 03/11.
+    /// Tables 7-10 and 7-11, two bytes, F = 03/11.
     AdditionalSymbols,
-    // 7.1.1.5: DRCS-0, two bytes, and DRCS-1 to DRCS-15; F = 04/0 + n.
+    /// 7.1.1.5: DRCS-0, two bytes, and DRCS-1 to DRCS-15; F = 04/0 + n.
     Drcs(u8),
-    // 7.1.1.6: the macro set, in the DRCS form of Table 7-2, F = 07/0.
+    /// 7.1.1.6: the macro set, in the DRCS form of Table 7-2, F = 07/0.
     Macro,
 }
 
-// The set that a designation selects, if Table 7-3 has one.
+/// The set that a designation selects, if Table 7-3 has one.
 pub enum Designated {
     Set(GraphicSet),
     Unknown,
 }
 
-// A short byte string: the first `len` of `bytes`, and zeros after them.
+/// A short byte string: the first `len` of `bytes`, and zeros after them.
 pub struct Sequence {
     pub bytes: [u8; 5],
     pub len: usize,
 }
 
-// The sets 0 to 15 in the order of their numbers.
+/// The sets 0 to 15 in the order of their numbers.
 const SETS: [GraphicSet; 16] = [
     GraphicSet::Kanji,
     GraphicSet::Alphanumeric,
@@ -78,7 +78,7 @@ const SETS: [GraphicSet; 16] = [
     GraphicSet::Macro,
 ];
 
-// The final bytes of the sets 0 to 15: Table 7-3.
+/// The final bytes of the sets 0 to 15: Table 7-3.
 const FINAL_BYTES: [u8; 16] = [
     0x42,
     0x4A,
@@ -99,7 +99,7 @@ const FINAL_BYTES: [u8; 16] = [
 ];
 
 impl GraphicSet {
-    // The set's number: 0 to 14 in the order above, Macro 15, DRCS-n 16 + n.
+    /// The set's number: 0 to 14 in the order above, Macro 15, DRCS-n 16 + n.
     pub fn number(self) -> u32
         ensures { λ r. ⌜ r ≡ setNumber self ⌝ }
     {
@@ -124,7 +124,7 @@ impl GraphicSet {
         }
     }
 
-    // The set that has the number n. Every byte is one: from 16 on, that of a DRCS.
+    /// The set that has the number n. Every byte is one: from 16 on, that of a DRCS.
     pub fn from_number(n: u8) -> GraphicSet
         ensures { λ r. ⌜ setNumber r ≡ n ⌝ }
     {
@@ -135,7 +135,7 @@ impl GraphicSet {
         }
     }
 
-    // Bytes a character, 2 or 1: Table 7-3, "Remarks".
+    /// Bytes a character, 2 or 1: Table 7-3, "Remarks".
     pub fn bytes_per_char(self) -> usize
         ensures { λ r. ⌜ r ≡ bytesPerChar (setNumber self) ⌝ }
     {
@@ -146,7 +146,7 @@ impl GraphicSet {
         }
     }
 
-    // Whether the set is designated in the DRCS form of Table 7-2, with 02/0 before F: the macro set and the DRCS.
+    /// Whether the set is designated in the DRCS form of Table 7-2, with 02/0 before F: the macro set and the DRCS.
     pub fn is_drcs_form(self) -> bool
         ensures { λ r. ⌜ r ≡ isDrcsForm (setNumber self) ⌝ }
     {
@@ -154,7 +154,7 @@ impl GraphicSet {
         15 <= s
     }
 
-    // The final byte F of the set's designation: Table 7-3.
+    /// The final byte F of the set's designation: Table 7-3.
     pub fn final_byte(self) -> u8
         ensures { λ r. ⌜ r ≡ finalByte (setNumber self) ⌝ }
     {
@@ -166,8 +166,8 @@ impl GraphicSet {
         }
     }
 
-    // The set that a designation selects, by whether it was a two-byte one (ESC 02/4 ..), whether it had the DRCS form
-    // (.. 02/0 F), and F: Tables 7-2 and 7-3.
+    /// The set that a designation selects, by whether it was a two-byte one (ESC 02/4 ..), whether it had the DRCS form
+    /// (.. 02/0 F), and F: Tables 7-2 and 7-3.
     pub fn from_designation(two_byte: bool, drcs: bool, f: u8) -> Designated
         ensures { λ r. ⌜ designated r ≡ fromDesignation «two_byte» drcs f ⌝ }
     {
@@ -186,7 +186,7 @@ impl GraphicSet {
         }
     }
 
-    // The escape sequence that designates the set to Gn, n modulo 4: a row of Table 7-2 for each form.
+    /// The escape sequence that designates the set to Gn, n modulo 4: a row of Table 7-2 for each form.
     pub fn designation(self, n: u8) -> Sequence
         ensures { λ r. ⌜ Holds r (designation (setNumber self) (n % 4)) ⌝ }
     {
@@ -225,7 +225,7 @@ impl GraphicSet {
     }
 }
 
-// The one-byte sets that are not in the DRCS form: Table 7-3.
+/// The one-byte sets that are not in the DRCS form: Table 7-3.
 fn one_byte_set(f: u8) -> Designated
     ensures { λ r. ⌜ designated r ≡ fromDesignation false false f ⌝ }
 {
@@ -245,7 +245,7 @@ fn one_byte_set(f: u8) -> Designated
     }
 }
 
-// The two-byte sets that are not in the DRCS form: Table 7-3.
+/// The two-byte sets that are not in the DRCS form: Table 7-3.
 fn two_byte_set(f: u8) -> Designated
     ensures { λ r. ⌜ designated r ≡ fromDesignation true false f ⌝ }
 {
@@ -258,7 +258,7 @@ fn two_byte_set(f: u8) -> Designated
     }
 }
 
-// The one-byte sets in the DRCS form, DRCS-1 to DRCS-15 and the macro set: Table 7-3.
+/// The one-byte sets in the DRCS form, DRCS-1 to DRCS-15 and the macro set: Table 7-3.
 fn one_byte_drcs(f: u8) -> Designated
     ensures { λ r. ⌜ designated r ≡ fromDesignation false true f ⌝ }
 {
@@ -269,7 +269,7 @@ fn one_byte_drcs(f: u8) -> Designated
     }
 }
 
-// The two-byte set in the DRCS form, DRCS-0: Table 7-3.
+/// The two-byte set in the DRCS form, DRCS-0: Table 7-3.
 fn two_byte_drcs(f: u8) -> Designated
     ensures { λ r. ⌜ designated r ≡ fromDesignation true true f ⌝ }
 {
@@ -280,30 +280,30 @@ fn two_byte_drcs(f: u8) -> Designated
     }
 }
 
-// Locking and single shifts: Table 7-1.
+/// Locking and single shifts: Table 7-1.
 pub enum Shift {
-    // LS0, 00/15: G0 to GL, locking.
+    /// LS0, 00/15: G0 to GL, locking.
     Ls0,
-    // LS1, 00/14: G1 to GL, locking.
+    /// LS1, 00/14: G1 to GL, locking.
     Ls1,
-    // LS2, ESC 06/14: G2 to GL, locking.
+    /// LS2, ESC 06/14: G2 to GL, locking.
     Ls2,
-    // LS3, ESC 06/15: G3 to GL, locking.
+    /// LS3, ESC 06/15: G3 to GL, locking.
     Ls3,
-    // LS1R, ESC 07/14: G1 to GR, locking.
+    /// LS1R, ESC 07/14: G1 to GR, locking.
     Ls1r,
-    // LS2R, ESC 07/13: G2 to GR, locking.
+    /// LS2R, ESC 07/13: G2 to GR, locking.
     Ls2r,
-    // LS3R, ESC 07/12: G3 to GR, locking.
+    /// LS3R, ESC 07/12: G3 to GR, locking.
     Ls3r,
-    // SS2, 01/9: G2 for one character.
+    /// SS2, 01/9: G2 for one character.
     Ss2,
-    // SS3, 01/13: G3 for one character.
+    /// SS3, 01/13: G3 for one character.
     Ss3,
 }
 
 impl Shift {
-    // The coded representation: Table 7-1.
+    /// The coded representation: Table 7-1.
     pub fn bytes(self) -> Sequence
         ensures { λ r. ⌜ Holds r (shiftBytes self) ⌝ }
     {
@@ -347,7 +347,7 @@ impl Shift {
         }
     }
 
-    // Whether `seq` is the coded representation of the shift.
+    /// Whether `seq` is the coded representation of the shift.
     pub fn is(self, seq: &[u8]) -> bool
         ensures { λ r. ⌜ Compared r (now (seq .entry)) (shiftBytes self) ⌝ }
     {
@@ -364,7 +364,7 @@ impl Shift {
         }
     }
 
-    // The code element, 0 to 3 for G0 to G3, that the shift invokes.
+    /// The code element, 0 to 3 for G0 to G3, that the shift invokes.
     pub fn element(self) -> u8
         ensures { λ r. ⌜ r ≡ shiftElement self ⌝ }
     {
@@ -382,7 +382,7 @@ impl Shift {
     }
 }
 
-// Whether two byte strings are the same.
+/// Whether two byte strings are the same.
 pub fn same(a: &[u8], b: &[u8]) -> bool
     ensures { λ r. ⌜ Compared r (now (a .entry)) (now (b .entry)) ⌝ }
 {
@@ -399,20 +399,20 @@ pub fn same(a: &[u8], b: &[u8]) -> bool
     true
 }
 
-// The character size that SSZ, MSZ, NSZ or SZX selects: Table 7-16.
+/// The character size that SSZ, MSZ, NSZ or SZX selects: Table 7-16.
 pub enum CharSize {
-    // SSZ, 08/8.
+    /// SSZ, 08/8.
     Small,
-    // MSZ, 08/9: half width.
+    /// MSZ, 08/9: half width.
     Middle,
-    // NSZ, 08/10.
+    /// NSZ, 08/10.
     Normal,
-    // SZX, 08/11, with its parameter: 06/0 tiny, 04/1 double height, 04/4 double width, 04/5 both, 06/11 and 06/4 special.
+    /// SZX, 08/11, with its parameter: 06/0 tiny, 04/1 double height, 04/4 double width, 04/5 both, 06/11 and 06/4 special.
     Szx(u8),
 }
 
 impl CharSize {
-    // Whether the character field is narrower than a normal one: SSZ, MSZ and SZX tiny.
+    /// Whether the character field is narrower than a normal one: SSZ, MSZ and SZX tiny.
     pub fn is_narrow(self) -> bool
         ensures { λ r. ⌜ r ≡ isNarrow self ⌝ }
     {
@@ -425,20 +425,20 @@ impl CharSize {
     }
 }
 
-// What is designated and invoked before the first byte: for captions by part 3, Table 8-2, for SI with katakana in G3.
+/// What is designated and invoked before the first byte: for captions by part 3, Table 8-2, for SI with katakana in G3.
 pub enum InitialState {
     Si,
     Caption,
 }
 
-// The code elements in GL and GR.
+/// The code elements in GL and GR.
 pub struct Invocations {
     pub gl: u8,
     pub gr: u8,
 }
 
 impl InitialState {
-    // The sets of G0 to G3.
+    /// The sets of G0 to G3.
     pub fn designations(self) -> [GraphicSet; 4]
         ensures { λ r. ⌜ map setNumber r ≡ initialSets (initialNumber self) ⌝ }
     {
@@ -458,7 +458,7 @@ impl InitialState {
         }
     }
 
-    // G0 in GL and G2 in GR, in either state.
+    /// G0 in GL and G2 in GR, in either state.
     pub fn invocations(self) -> Invocations
         ensures { λ r. ⌜ r ≡ initialInvocations ⌝ }
     {

@@ -20,23 +20,23 @@ ghost use Rattle.utf8.specs.Utf8.{
   Put,
 };
 
-// What stands at a place of a text.
+/// What stands at a place of a text.
 pub enum Sequence {
-    // A well-formed sequence: its scalar, and its length in bytes.
+    /// A well-formed sequence: its scalar, and its length in bytes.
     Scalar(u32, usize),
-    // An ill-formed one.
+    /// An ill-formed one.
     Fault,
-    // Nothing: the text ends there.
+    /// Nothing: the text ends there.
     End,
 }
 
-// Whether a text is well-formed, or where its first ill-formed sequence begins.
+/// Whether a text is well-formed, or where its first ill-formed sequence begins.
 pub enum Text {
     WellFormed,
     FaultAt(usize),
 }
 
-// How many bytes a scalar takes: `char::len_utf8`. Table 3-6.
+/// How many bytes a scalar takes: `char::len_utf8`. Table 3-6.
 pub fn width(c: u32) -> usize
     ensures { λ r. ⌜ r ≡ length (utf8 c) ⌝ }
 {
@@ -52,7 +52,7 @@ pub fn width(c: u32) -> usize
     4
 }
 
-// One to four bytes from `at` on, as far as they fit.
+/// One to four bytes from `at` on, as far as they fit.
 fn put1(text: &mut [u8], at: usize, a: u8)
     ensures { λ _. ⌜ now (text .exit) ≡ sets (now (text .entry)) at (a ∷ []) ⌝ }
 {
@@ -103,7 +103,7 @@ fn put4(text: &mut [u8], at: usize, a: u8, b: u8, d: u8, e: u8)
     }
 }
 
-// Writes the bytes of `c` from `at` on, those that fit, and answers how many `c` has: `char::encode_utf8`. Table 3-6.
+/// Writes the bytes of `c` from `at` on, those that fit, and answers how many `c` has: `char::encode_utf8`. Table 3-6.
 pub fn put(text: &mut [u8], at: usize, c: u32) -> usize
     ensures { λ r. ⌜ Put (now (text .entry)) at c (now (text .exit)) r ⌝ }
 {
@@ -132,7 +132,7 @@ pub fn put(text: &mut [u8], at: usize, c: u32) -> usize
     4
 }
 
-// The least and the greatest second byte after the first byte `a`. Table 3-7.
+/// The least and the greatest second byte after the first byte `a`. Table 3-7.
 fn low(a: u8) -> u8
     ensures { λ r. ⌜ r ≡ low a ⌝ }
 {
@@ -153,7 +153,7 @@ fn high(a: u8) -> u8
     }
 }
 
-// Whether `b` may be the second byte after the first byte `a`. Table 3-7.
+/// Whether `b` may be the second byte after the first byte `a`. Table 3-7.
 fn is_second(a: u8, b: u8) -> bool
     ensures { λ r. ⌜ r ≡ isSecond a b ⌝ }
 {
@@ -163,7 +163,7 @@ fn is_second(a: u8, b: u8) -> bool
     b <= high(a)
 }
 
-// Whether `b` may be the third or the fourth byte. Table 3-7.
+/// Whether `b` may be the third or the fourth byte. Table 3-7.
 fn is_trailing(b: u8) -> bool
     ensures { λ r. ⌜ r ≡ isTrailing b ⌝ }
 {
@@ -173,10 +173,10 @@ fn is_trailing(b: u8) -> bool
     b <= 0xBF
 }
 
-// No scalar: one past the last, as `Option<char>` has it.
+/// No scalar: one past the last, as `Option<char>` has it.
 const NONE: u32 = 0x110000;
 
-// The scalar of a sequence of two, of three and of four bytes, by its first byte, or `NONE`. Table 3-7, and Table 3-6.
+/// The scalar of a sequence of two, of three and of four bytes, by its first byte, or `NONE`. Table 3-7, and Table 3-6.
 fn scalar2(text: &[u8], at: usize) -> u32
     requires { ⌜ at < length (now text) ⌝ }
     ensures { λ r. ⌜ r ≡ scalarOf (two (getD (now (text .entry)) at 0) (drop (at + 1) (now (text .entry)))) ⌝ }
@@ -234,7 +234,7 @@ fn scalar4(text: &[u8], at: usize) -> u32
     (a % 8) as u32 * 262144 + (b % 64) as u32 * 4096 + (d % 64) as u32 * 64 + (e % 64) as u32
 }
 
-// The scalar of the sequence at the place `at`, or `NONE`. Table 3-7.
+/// The scalar of the sequence at the place `at`, or `NONE`. Table 3-7.
 fn scalar_at(text: &[u8], at: usize) -> u32
     requires { ⌜ at < length (now text) ⌝ }
     ensures { λ r. ⌜ r ≡ scalarOf (sequence (drop at (now (text .entry)))) ⌝ }
@@ -249,7 +249,7 @@ fn scalar_at(text: &[u8], at: usize) -> u32
     }
 }
 
-// What stands at the place `at`. Table 3-7.
+/// What stands at the place `at`. Table 3-7.
 pub fn read(text: &[u8], at: usize) -> Sequence
     ensures { λ r. ⌜ r ≡ sequence (drop at (now (text .entry))) ⌝ }
 {
@@ -263,7 +263,7 @@ pub fn read(text: &[u8], at: usize) -> Sequence
     Sequence::Scalar(c, width(c))
 }
 
-// Whether a text is well-formed, or where its first ill-formed sequence begins: `str::from_utf8`, `Utf8Error::valid_up_to`.
+/// Whether a text is well-formed, or where its first ill-formed sequence begins: `str::from_utf8`, `Utf8Error::valid_up_to`.
 pub fn first_fault(text: &[u8]) -> Text
     ensures { λ r. ⌜ r ≡ firstFault (now (text .entry)) ⌝ }
 {

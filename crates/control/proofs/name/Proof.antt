@@ -34,15 +34,26 @@ wide-requires c κs = search needs
 sub-t14 : tie.Need-sub-t14
 unfolding lengthOf
 sub-t14 c =
-    let e : c .wide .result ≡ 48 + lengthOf (c .before .before .before .before .before .before .args .code) = c .wide .ensures ∙ length-at (c .before .before .before .before .before .before .args .code) (omega arith) in
+    let at-start = c .before .before .before .before .before .before in
+    let e : c .wide .result ≡ 48 + lengthOf (at-start .args .code) = c .wide .ensures ∙ length-at (at-start .args .code) (omega arith) in
     omega arith
 
 returns : tie.Need-returns
 unfolding nameOf
 returns c =
-    let e : c .wide .result ≡ 48 + lengthOf (c .before .before .before .before .before .before .args .code) = c .wide .ensures ∙ length-at (c .before .before .before .before .before .before .args .code) (omega arith) in
-    let d : c .wide .result - 48 ≡ lengthOf (c .before .before .before .before .before .before .args .code) = omega arith in
-    λ i. record { bytes = c .before .before .before .before .before .letter .ensures i ∷ c .before .before .before .before .letter2 .ensures i ∷ c .before .before .before .letter3 .ensures i ∷ c .before .before .letter4 .ensures i ∷ c .before .letter5 .ensures i ∷ []; len = d i }
+    let at-letter5 = c .before in
+    let at-letter4 = at-letter5 .before in
+    let at-letter3 = at-letter4 .before in
+    let at-letter2 = at-letter3 .before in
+    let at-letter = at-letter2 .before in
+    let at-start = at-letter .before in
+    let e : c .wide .result ≡ 48 + lengthOf (at-start .args .code) = c .wide .ensures ∙ length-at (at-start .args .code) (omega arith) in
+    let d : c .wide .result - 48 ≡ lengthOf (at-start .args .code) = omega arith in
+    λ i. record {
+      bytes = at-letter .letter .ensures i ∷ at-letter2 .letter2 .ensures i ∷ at-letter3 .letter3 .ensures i ∷ at-letter4 .letter4 .ensures i ∷
+          at-letter5 .letter5 .ensures i ∷ [];
+      len = d i;
+    }
 
 pub name-spec : {M : Type 1} → statement M
 name-spec =

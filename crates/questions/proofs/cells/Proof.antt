@@ -55,8 +55,12 @@ empty-requires-2 c κs = search needs
 
 returns-2 : tie.Need-returns-2
 returns-2 c =
-    (λ i. c .before .before .before .before .before .before .scalars .ensures i && c .before .before .before .before .empty .ensures i && c .before .before .scalars2 .ensures i && c .empty2 .ensures i)
-    ∙ parts _ (c .before .before .before .before .before .before .before .before .if1 .left)
+    let at-scalars2 = c .before .before in
+    let at-empty = at-scalars2 .before .before in
+    let at-scalars = at-empty .before .before in
+    let at-if1 = at-scalars .before .before in
+    (λ i. at-scalars .scalars .ensures i && at-empty .empty .ensures i && at-scalars2 .scalars2 .ensures i && c .empty2 .ensures i)
+    ∙ parts _ (at-if1 .if1 .left)
 
 pub cells-spec : {M : Type 1} → statement M
 cells-spec =

@@ -22,11 +22,23 @@ returns-2 c = rw (sym (c .before .before .before .cells .ensures) ∙ not-false 
 
 returns-3 : tie.Need-returns-3
 unfolding firstRefusal
-returns-3 c = rw (sym (c .before .before .before .before .cells .ensures) ∙ not-false _ (c .before .before .before .if1 .left), sym (c .before .before .options .ensures) ∙ not-false _ (c .before .if2 .left), lt-leb _ _ (c .if3 .taken))
+returns-3 c =
+    rw (
+      sym (c .before .before .before .before .cells .ensures) ∙ not-false _ (c .before .before .before .if1 .left),
+      sym (c .before .before .options .ensures) ∙
+          not-false _ (c .before .if2 .left),
+      lt-leb _ _ (c .if3 .taken),
+    )
 
 returns-4 : tie.Need-returns-4
 unfolding firstRefusal
-returns-4 c = rw (sym (c .before .before .before .before .cells .ensures) ∙ not-false _ (c .before .before .before .if1 .left), sym (c .before .before .options .ensures) ∙ not-false _ (c .before .if2 .left), le-leb _ _ (c .if3 .left))
+returns-4 c =
+    rw (
+      sym (c .before .before .before .before .cells .ensures) ∙ not-false _ (c .before .before .before .if1 .left),
+      sym (c .before .before .options .ensures) ∙
+          not-false _ (c .before .if2 .left),
+      le-leb _ _ (c .if3 .left),
+    )
 
 pub first-spec : {M : Type 1} → statement M
 first-spec =

@@ -26,9 +26,12 @@ width-requires c κs = search needs
 
 returns-3 : tie.Need-returns-3
 returns-3 c =
-    let g = c .before .before .before .before .before .args in
-    let r = c .before .before .scalar-at in
-    ap (Scalar (r .result)) (c .width .ensures) ∙ sym (scalar-of (drop (g .at) (g .text .now)) (r .result) (sym (r .ensures)) (c .before .if2 .left))
+    let at-if2 = c .before in
+    let at-scalar-at = at-if2 .before in
+    let at-start = at-scalar-at .before .before .before in
+    let g = at-start .args in
+    let r = at-scalar-at .scalar-at in
+    ap (Scalar (r .result)) (c .width .ensures) ∙ sym (scalar-of (drop (g .at) (g .text .now)) (r .result) (sym (r .ensures)) (at-if2 .if2 .left))
 
 pub read-spec : {M : Type 1} → statement M
 read-spec = tie.close (tie.spec returns scalar-at-requires returns-2 width-requires returns-3)

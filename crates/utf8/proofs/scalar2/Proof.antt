@@ -30,8 +30,10 @@ is-second-requires c κs = search needs
 
 returns-2 : tie.Need-returns-2
 returns-2 c =
-    let g = c .before .before .before .before .before .before .args in
-    let p = sym (c .before .is-second .ensures) ∙ not-true _ (c .if2 .taken) in
+    let at-is-second = c .before in
+    let at-start = at-is-second .before .before .before .before .before in
+    let g = at-start .args in
+    let p = sym (at-is-second .is-second .ensures) ∙ not-true _ (c .if2 .taken) in
     ap scalarOf (sym (second2 (g .text .now) (g .at) (omega arith) p))
 
 cast-result : tie.Need-cast-result
@@ -48,8 +50,10 @@ add-result c = search needs
 
 returns-3 : tie.Need-returns-3
 returns-3 c =
-    let g = c .before .before .before .before .before .before .args in
-    let p = sym (c .before .is-second .ensures) ∙ not-false _ (c .if2 .left) in
+    let at-is-second = c .before in
+    let at-start = at-is-second .before .before .before .before .before in
+    let g = at-start .args in
+    let p = sym (at-is-second .is-second .ensures) ∙ not-false _ (c .if2 .left) in
     ap scalarOf (sym (whole2 (g .text .now) (g .at) (omega arith) p))
 
 pub scalar2-spec : {M : Type 1} → statement M

@@ -36,8 +36,10 @@ is-second-requires c κs = search needs
 
 returns-2 : tie.Need-returns-2
 returns-2 c =
-    let g = c .before .before .before .before .before .before .before .args in
-    let p = sym (c .before .is-second .ensures) ∙ not-true _ (c .if2 .taken) in
+    let at-is-second = c .before in
+    let at-start = at-is-second .before .before .before .before .before .before in
+    let g = at-start .args in
+    let p = sym (at-is-second .is-second .ensures) ∙ not-true _ (c .if2 .taken) in
     ap scalarOf (sym (second3 (g .text .now) (g .at) (omega arith) p))
 
 is-trailing-requires : tie.Need-is-trailing-requires
@@ -45,9 +47,13 @@ is-trailing-requires c κs = search needs
 
 returns-3 : tie.Need-returns-3
 returns-3 c =
-    let g = c .before .before .before .before .before .before .before .before .before .args in
-    let p = sym (c .before .before .before .is-second .ensures) ∙ not-false _ (c .before .before .if2 .left) in
-    let q = sym (c .before .is-trailing .ensures) ∙ not-true _ (c .if3 .taken) in
+    let at-is-trailing = c .before in
+    let at-if2 = at-is-trailing .before in
+    let at-is-second = at-if2 .before in
+    let at-start = at-is-second .before .before .before .before .before .before in
+    let g = at-start .args in
+    let p = sym (at-is-second .is-second .ensures) ∙ not-false _ (at-if2 .if2 .left) in
+    let q = sym (at-is-trailing .is-trailing .ensures) ∙ not-true _ (c .if3 .taken) in
     ap scalarOf (sym (third3 (g .text .now) (g .at) (omega arith) p q))
 
 cast-result : tie.Need-cast-result
@@ -73,9 +79,13 @@ add-result-2 c = search needs
 
 returns-4 : tie.Need-returns-4
 returns-4 c =
-    let g = c .before .before .before .before .before .before .before .before .before .args in
-    let p = sym (c .before .before .before .is-second .ensures) ∙ not-false _ (c .before .before .if2 .left) in
-    let q = sym (c .before .is-trailing .ensures) ∙ not-false _ (c .if3 .left) in
+    let at-is-trailing = c .before in
+    let at-if2 = at-is-trailing .before in
+    let at-is-second = at-if2 .before in
+    let at-start = at-is-second .before .before .before .before .before .before in
+    let g = at-start .args in
+    let p = sym (at-is-second .is-second .ensures) ∙ not-false _ (at-if2 .if2 .left) in
+    let q = sym (at-is-trailing .is-trailing .ensures) ∙ not-false _ (c .if3 .left) in
     ap scalarOf (sym (whole3 (g .text .now) (g .at) (omega arith) p q))
 
 pub scalar3-spec : {M : Type 1} → statement M

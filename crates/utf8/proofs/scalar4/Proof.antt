@@ -42,8 +42,10 @@ is-second-requires c κs = search needs
 
 returns-2 : tie.Need-returns-2
 returns-2 c =
-    let g = c .before .before .before .before .before .before .before .before .args in
-    let p = sym (c .before .is-second .ensures) ∙ not-true _ (c .if2 .taken) in
+    let at-is-second = c .before in
+    let at-start = at-is-second .before .before .before .before .before .before .before in
+    let g = at-start .args in
+    let p = sym (at-is-second .is-second .ensures) ∙ not-true _ (c .if2 .taken) in
     ap scalarOf (sym (second4 (g .text .now) (g .at) (omega arith) p))
 
 is-trailing-requires : tie.Need-is-trailing-requires
@@ -51,9 +53,13 @@ is-trailing-requires c κs = search needs
 
 returns-3 : tie.Need-returns-3
 returns-3 c =
-    let g = c .before .before .before .before .before .before .before .before .before .before .args in
-    let p = sym (c .before .before .before .is-second .ensures) ∙ not-false _ (c .before .before .if2 .left) in
-    let q = sym (c .before .is-trailing .ensures) ∙ not-true _ (c .if3 .taken) in
+    let at-is-trailing = c .before in
+    let at-if2 = at-is-trailing .before in
+    let at-is-second = at-if2 .before in
+    let at-start = at-is-second .before .before .before .before .before .before .before in
+    let g = at-start .args in
+    let p = sym (at-is-second .is-second .ensures) ∙ not-false _ (at-if2 .if2 .left) in
+    let q = sym (at-is-trailing .is-trailing .ensures) ∙ not-true _ (c .if3 .taken) in
     ap scalarOf (sym (third4 (g .text .now) (g .at) (omega arith) p q))
 
 is-trailing-requires-2 : tie.Need-is-trailing-requires-2
@@ -61,10 +67,16 @@ is-trailing-requires-2 c κs = search needs
 
 returns-4 : tie.Need-returns-4
 returns-4 c =
-    let g = c .before .before .before .before .before .before .before .before .before .before .before .before .args in
-    let p = sym (c .before .before .before .before .before .is-second .ensures) ∙ not-false _ (c .before .before .before .before .if2 .left) in
-    let q = sym (c .before .before .before .is-trailing .ensures) ∙ not-false _ (c .before .before .if3 .left) in
-    let r = sym (c .before .is-trailing2 .ensures) ∙ not-true _ (c .if4 .taken) in
+    let at-is-trailing2 = c .before in
+    let at-if3 = at-is-trailing2 .before in
+    let at-is-trailing = at-if3 .before in
+    let at-if2 = at-is-trailing .before in
+    let at-is-second = at-if2 .before in
+    let at-start = at-is-second .before .before .before .before .before .before .before in
+    let g = at-start .args in
+    let p = sym (at-is-second .is-second .ensures) ∙ not-false _ (at-if2 .if2 .left) in
+    let q = sym (at-is-trailing .is-trailing .ensures) ∙ not-false _ (at-if3 .if3 .left) in
+    let r = sym (at-is-trailing2 .is-trailing2 .ensures) ∙ not-true _ (c .if4 .taken) in
     ap scalarOf (sym (fourth4 (g .text .now) (g .at) (omega arith) p q r))
 
 cast-result : tie.Need-cast-result
@@ -99,10 +111,16 @@ add-result-3 c = search needs
 
 returns-5 : tie.Need-returns-5
 returns-5 c =
-    let g = c .before .before .before .before .before .before .before .before .before .before .before .before .args in
-    let p = sym (c .before .before .before .before .before .is-second .ensures) ∙ not-false _ (c .before .before .before .before .if2 .left) in
-    let q = sym (c .before .before .before .is-trailing .ensures) ∙ not-false _ (c .before .before .if3 .left) in
-    let r = sym (c .before .is-trailing2 .ensures) ∙ not-false _ (c .if4 .left) in
+    let at-is-trailing2 = c .before in
+    let at-if3 = at-is-trailing2 .before in
+    let at-is-trailing = at-if3 .before in
+    let at-if2 = at-is-trailing .before in
+    let at-is-second = at-if2 .before in
+    let at-start = at-is-second .before .before .before .before .before .before .before in
+    let g = at-start .args in
+    let p = sym (at-is-second .is-second .ensures) ∙ not-false _ (at-if2 .if2 .left) in
+    let q = sym (at-is-trailing .is-trailing .ensures) ∙ not-false _ (at-if3 .if3 .left) in
+    let r = sym (at-is-trailing2 .is-trailing2 .ensures) ∙ not-false _ (c .if4 .left) in
     ap scalarOf (sym (whole4 (g .text .now) (g .at) (omega arith) p q r))
 
 pub scalar4-spec : {M : Type 1} → statement M

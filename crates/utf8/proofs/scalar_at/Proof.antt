@@ -34,21 +34,24 @@ returns c =
 
 returns-2 : tie.Need-returns-2
 returns-2 c =
-    let g = c .before .before .before .before .before .before .args in
+    let at-start = c .before .before .before .before .before .before in
+    let g = at-start .args in
     let t = g .text .now in
     let at = g .at in
     c .scalar2 .ensures ∙ ap scalarOf (sym (ap sequence (from1 t at (omega arith)) ∙ at2 (getD t at 0) (drop (at + 1) t) (omega arith) (omega arith)))
 
 returns-3 : tie.Need-returns-3
 returns-3 c =
-    let g = c .before .before .before .before .before .before .before .args in
+    let at-start = c .before .before .before .before .before .before .before in
+    let g = at-start .args in
     let t = g .text .now in
     let at = g .at in
     c .scalar3 .ensures ∙ ap scalarOf (sym (ap sequence (from1 t at (omega arith)) ∙ at3 (getD t at 0) (drop (at + 1) t) (omega arith) (omega arith)))
 
 returns-4 : tie.Need-returns-4
 returns-4 c =
-    let g = c .before .before .before .before .before .before .before .before .args in
+    let at-start = c .before .before .before .before .before .before .before .before in
+    let g = at-start .args in
     let t = g .text .now in
     let at = g .at in
     c .scalar4 .ensures ∙ ap scalarOf (sym (ap sequence (from1 t at (omega arith)) ∙ at4 (getD t at 0) (drop (at + 1) t) (omega arith) (omega arith)))
@@ -62,7 +65,8 @@ returns-5 c =
 
 returns-6 : tie.Need-returns-6
 returns-6 c =
-    let g = c .before .before .before .before .before .before .before .args in
+    let at-start = c .before .before .before .before .before .before .before in
+    let g = at-start .args in
     let t = g .text .now in
     let at = g .at in
     ap scalarOf (sym (ap sequence (from1 t at (omega arith)) ∙ at-past (getD t at 0) (drop (at + 1) t) (omega arith)))
