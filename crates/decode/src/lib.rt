@@ -2,3 +2,4 @@
 pub mod call;
 mod cycle;
 mod outer;
+pub mod values;

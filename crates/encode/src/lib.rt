@@ -1,3 +1,4 @@
 // Text to the eight-unit code: encode.rs.
 pub mod call;
 pub mod find;
+pub mod values;

@@ -4,16 +4,18 @@ use mathlib.Core.Logic.{_⊎_, inl, inr}
 use mathlib.Core.List.{List, [], _∷_, _++_, append-nil, append-assoc}
 use Prim.Native.Nat.{ℕ, zero, suc, _+_, _≤_}
 use native.Mathlib.Omega.{arith}
-use lib.ListN.{length, take, drop, set, length-drop, length-append}
-use lib.Seq.{sets, sets-eq, length-sets, length-take-le, take-at, drop-drop, drop-set-lt}
+use lib.ListN.{length, take, drop, length-drop}
+use lib.Seq.{sets, length-sets, length-take-le, drop-drop}
+use Rattle.lent.specs.Put.{Put}
+use Rattle.lent.proofs.Stores.{take-sets, drop-sets}
 use Rattle.utf8.specs.declared.Sequence.the-variants.{Scalar, Fault, End}
 use Rattle.utf8.specs.Utf8.{utf8, utf8s, sequence, scalarsFrom, scalars}
 use Rattle.utf8.proofs.Reading.{sequence-begins, sequence-not-end}
 use Rattle.utf8.proofs.Texts.{sequence-least, sequence-within, scalars-next}
 use Rattle.questions.specs.Buffer.{padded, cleared}
-use Rattle.key.specs.Key.{keyChar, kept, keyText}
-use Rattle.key.specs.Contracts.{Put, Removed}
-use Rattle.key.proofs.Characters.{no-longer, first-bytes}
+use Rattle.key_text.specs.KeyText.{keyChar, kept, keyText}
+use Rattle.key_text.specs.Contracts.{Removed}
+use Rattle.key_text.proofs.Characters.{no-longer, first-bytes}
 
 -- of the text t₀ `at` bytes were read, and their key stands in the first `to` bytes of t
 pub record Moved (t₀ t : List ℕ) (at to : ℕ) : Type 0 where
@@ -27,16 +29,6 @@ pub moved-none : (t₀ : List ℕ) → Moved t₀ t₀ 0 0
 moved-none t₀ = record { long = refl; order = omega arith; within = omega arith; rest = refl; same = refl }
 
 -- ---- a turn
-
--- a run of stores, and the bytes behind it and up to its end
-drop-sets : (vs t : List ℕ) (to k : ℕ) → to + length vs ≤ k → drop k (sets t to vs) ≡ drop k t
-drop-sets [] t to k h = refl
-drop-sets (v ∷ vs) t to k h = drop-sets vs (set t to v) (suc to) k (omega arith) ∙ drop-set-lt k t to v (omega arith)
-
-pub take-sets : (vs t : List ℕ) (to : ℕ) → to + length vs ≤ length t → take (to + length vs) (sets t to vs) ≡ take to t ++ vs
-take-sets vs t to h =
-    ap (take (to + length vs)) (sets-eq vs t to h)
-    ∙ take-at (take to t ++ vs) (drop (to + length vs) t) (to + length vs) (length-append (take to t) vs ∙ ap (λ (k : ℕ). k + length vs) (length-take-le to t (omega arith)))
 
 -- what a key has for the character
 abbrev pub bytesOf : ℕ → List ℕ
@@ -77,8 +69,8 @@ turn t₀ t at to c n m e =
         ∙ (sym (first-bytes c (scalars (drop n (drop at t₀)))) ∙ ap (λ (l : List ℕ). utf8s (keyText l)) (sym (scalars-next (drop at t₀) c n e₀)))
 
 -- the same of what the code put
-pub turned : (t₀ t : List ℕ) (at to c n : ℕ) {t′ : List ℕ} {to′ : ℕ} → Moved t₀ t at to → sequence (drop at t) ≡ Scalar c n → Put t to c t′ to′ → Turn t₀ t at to n t′ to′
-turned t₀ t at to c n m e p = rw (p .bytes, p .behind) (turn t₀ t at to c n m e)
+pub turned : (t₀ t : List ℕ) (at to c n : ℕ) {t′ : List ℕ} {to′ : ℕ} → Moved t₀ t at to → sequence (drop at t) ≡ Scalar c n → Put t to (bytesOf c) t′ to′ → Turn t₀ t at to n t′ to′
+turned t₀ t at to c n m e p = rw (p .written, p .next) (turn t₀ t at to c n m e)
 
 -- ---- the end
 

@@ -1,10 +1,10 @@
--- `key::key_char` meets its contract: the arms are the definition's cases. Assumes nothing.
+-- `key_char` meets its contract: the arms are the definition's cases. Assumes nothing.
 use mathlib.Core.Logic.{inl, inr}
 use mathlib.Core.Path.{sym, ap}
-use Rattle.key.specs.Contracts.{keptOf}
-use Rattle.key.proofs.Characters.{left-out, stays}
-use Rattle.key.proofs.key_char.Statement.{statement}
-use Rattle.key.proofs.key_char.Tie as tie
+use Rattle.key_text.specs.Contracts.{keptOf}
+use Rattle.key_text.proofs.Characters.{left-out, stays}
+use Rattle.key_text.proofs.key_char.Statement.{statement}
+use Rattle.key_text.proofs.key_char.Tie as tie
 
 returns : tie.Need-returns
 returns c = sym (ap keptOf (left-out (c .before .args .c) (c .match .keys1)))
