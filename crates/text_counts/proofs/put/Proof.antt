@@ -2,8 +2,8 @@
 use mathlib.Core.Path.{sym}
 use lib.Seq.{set-out}
 use borrow.Author.Needs.{needs}
-use Rattle.text.proofs.put.Statement.{statement}
-use Rattle.text.proofs.put.Tie as tie
+use Rattle.text_counts.proofs.put.Statement.{statement}
+use Rattle.text_counts.proofs.put.Tie as tie
 
 mul-counts : tie.Need-mul-counts
 mul-counts c = search needs

@@ -1,8 +1,8 @@
 -- `escape_start` meets its contract: each way out is the definition's at the tests that led there. Assumes nothing.
 use borrow.Author.Tests.{le-leb, lt-leb}
-use Rattle.text.specs.Calls.{escapeStart}
-use Rattle.text.proofs.escape_start.Statement.{statement}
-use Rattle.text.proofs.escape_start.Tie as tie
+use Rattle.text_counts.specs.Counts.{escapeStart}
+use Rattle.text_counts.proofs.escape_start.Statement.{statement}
+use Rattle.text_counts.proofs.escape_start.Tie as tie
 
 returns : tie.Need-returns
 unfolding escapeStart
