@@ -1,4 +1,4 @@
--- How much the functions print.
+-- How much is printed.
 use Prim.Native.Nat.{ℕ, _+_, _*_}
 
 -- The most bytes that are printed: 23 of the first line, with 65,529 twice; two for each of 65,529 bytes and a newline.

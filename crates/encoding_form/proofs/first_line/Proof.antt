@@ -1,9 +1,9 @@
 -- `first_line` meets its contract: words and numbers stand one after another. Assumes nothing.
-use Rattle.ascii.proofs.Writing.{put-then}
-use Rattle.encoding_lines.specs.Lines.{firstLine}
+use Rattle.lent.proofs.Putting.{put-then}
+use Rattle.encoding_form.specs.Lines.{firstLine}
 use borrow.Author.Needs.{needs}
-use Rattle.encoding_lines.proofs.first_line.Statement.{statement}
-use Rattle.encoding_lines.proofs.first_line.Tie as tie
+use Rattle.encoding_form.proofs.first_line.Statement.{statement}
+use Rattle.encoding_form.proofs.first_line.Tie as tie
 
 slice-aggregate-word : tie.Need-slice-aggregate-word
 slice-aggregate-word c = search needs
@@ -34,7 +34,14 @@ same-length c = search needs
 
 returns : tie.Need-returns
 unfolding firstLine
-returns c = put-then (put-then (put-then (put-then (c .before .before .before .before .before .before .before .before .before .before .before .before .before .before .before .before .before .before .before .before .word .ensures) (c .before .before .before .before .before .before .before .before .before .before .before .before .before .before .before .before .decimal .ensures .0)) (c .before .before .before .before .before .before .before .before .before .before .before .word2 .ensures)) (c .before .before .before .before .before .before .before .decimal2 .ensures .0)) (c .before .before .word3 .ensures)
+returns c =
+    let at-end = c .before .before in
+    let at-gap = at-end .before .before .before .before .before in
+    let at-name = at-gap .before .before .before .before in
+    let at-length = at-name .before .before .before .before .before in
+    let at-coding = at-length .before .before .before .before in
+    let coding = put-then (at-coding .word .ensures) (at-length .decimal .ensures .0) in
+    put-then (put-then (put-then coding (at-name .word2 .ensures)) (at-gap .decimal2 .ensures .0)) (at-end .word3 .ensures)
 
 pub first-line-spec : {M : Type 1} → statement M
 first-line-spec =

@@ -1,9 +1,9 @@
 -- `first_line` meets its contract: words and numbers stand one after another. Assumes nothing.
-use Rattle.listing_lines.specs.Lines.{firstLine}
-use Rattle.ascii.proofs.Writing.{put-then}
+use Rattle.lent.proofs.Putting.{put-then}
+use Rattle.listing_form.specs.Lines.{firstLine}
 use borrow.Author.Needs.{needs}
-use Rattle.listing_lines.proofs.first_line.Statement.{statement}
-use Rattle.listing_lines.proofs.first_line.Tie as tie
+use Rattle.listing_form.proofs.first_line.Statement.{statement}
+use Rattle.listing_form.proofs.first_line.Tie as tie
 
 slice-aggregate-word : tie.Need-slice-aggregate-word
 slice-aggregate-word c = search needs
@@ -43,7 +43,17 @@ same-length c = search needs
 
 returns : tie.Need-returns
 unfolding firstLine
-returns c = put-then (put-then (put-then (put-then (put-then (put-then (c .before .before .before .before .before .before .before .before .before .before .before .before .before .before .before .before .before .before .before .before .before .before .before .before .before .before .before .before .before .word .ensures) (c .before .before .before .before .before .before .before .before .before .before .before .before .before .before .before .before .before .before .before .before .before .before .before .before .before .decimal .ensures .0)) (c .before .before .before .before .before .before .before .before .before .before .before .before .before .before .before .before .before .before .before .before .word2 .ensures)) (c .before .before .before .before .before .before .before .before .before .before .before .before .before .before .before .before .decimal2 .ensures .0)) (c .before .before .before .before .before .before .before .before .before .before .before .word3 .ensures)) (c .before .before .before .before .before .before .before .decimal3 .ensures .0)) (c .before .before .word4 .ensures)
+returns c =
+    let at-end = c .before .before in
+    let at-charge = at-end .before .before .before .before .before in
+    let at-charged = at-charge .before .before .before .before in
+    let at-count = at-charged .before .before .before .before .before in
+    let at-issues = at-count .before .before .before .before in
+    let at-bytes = at-issues .before .before .before .before .before in
+    let at-text = at-bytes .before .before .before .before in
+    let text = put-then (at-text .word .ensures) (at-bytes .decimal .ensures .0) in
+    let issues = put-then (put-then text (at-issues .word2 .ensures)) (at-count .decimal2 .ensures .0) in
+    put-then (put-then (put-then issues (at-charged .word3 .ensures)) (at-charge .decimal3 .ensures .0)) (at-end .word4 .ensures)
 
 pub first-line-spec : {M : Type 1} → statement M
 first-line-spec =
