@@ -10,8 +10,8 @@ use lib.Dec.{ltb}
 use lib.ListN.{length, getD, set, drop, length-append, drop-of-length-le}
 use lib.Seq.{drop-cons}
 use Rattle.ascii.specs.Ascii.{digit, decimalIn, decimal, hexadecimal}
-use Rattle.ascii.specs.Contracts.{Put}
-use Rattle.ascii.proofs.Writing.{put-one, put-then, Rest, rest-less}
+use Rattle.lent.specs.Put.{Put}
+use Rattle.lent.proofs.Putting.{put-one, put-then, Rest, rest-less}
 
 -- ---- decimal
 
@@ -69,7 +69,8 @@ unfolding hexadecimal
 hexadecimal-more bs i h = rw (add-one, drop-cons bs i 0)
 
 -- one more byte
-pub hexadecimal-turn : (bs : List ℕ) (i : ℕ) {l₀ l l₁ l₂ : List ℕ} {at n d e : ℕ} → Rest l₀ at (hexadecimal bs) l n (hexadecimal (drop i bs)) → i < length bs → d ≡ digit (getD bs i 0 / 16) → e ≡ digit (getD bs i 0 % 16)
+pub hexadecimal-turn : (bs : List ℕ) (i : ℕ) {l₀ l l₁ l₂ : List ℕ} {at n d e : ℕ} → Rest l₀ at (hexadecimal bs) l n (hexadecimal (drop i bs)) → i < length bs → d ≡ digit
+    (getD bs i 0 / 16) → e ≡ digit (getD bs i 0 % 16)
     → l₁ ≡ set l n d → l₂ ≡ set l₁ (n + 1) e → Rest l₀ at (hexadecimal bs) l₂ (n + 2) (hexadecimal (drop (i + 1) bs))
 hexadecimal-turn bs i {l₀} {l} {l₁} {l₂} {at} {n} {d} {e} r h p q x y =
     rest-less r

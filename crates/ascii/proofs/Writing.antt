@@ -1,55 +1,15 @@
--- Bytes written one after another. Assumes nothing.
-use Prim.Native.Nat.{ℕ, _+_, _≤_, _<_}
-use mathlib.Core.Path.{_≡_, refl, sym, subst}
-use mathlib.Core.List.{List, [], _∷_, _++_}
-use native.Mathlib.Nat.{add-zero}
-use native.Mathlib.Numerals.{add-one}
+-- What is printed, in other words. Assumes nothing.
+use Prim.Native.Nat.{ℕ, _+_, _≤_}
+use mathlib.Core.Path.{_≡_, sym, subst}
+use mathlib.Core.List.{List}
 use native.Mathlib.Omega.{arith}
-use lib.ListN.{length, getD, set, drop, length-append, drop-of-length-le}
-use lib.Seq.{drop-cons}
-use Rattle.utf8.proofs.Stores.{sets-append}
-use Rattle.ascii.specs.Contracts.{Put, Printed}
-
-pub put-none : (l : List ℕ) (n : ℕ) → Put l n [] l n
-put-none l n = record { written = refl; next = omega arith }
-
-pub put-one : (n x : ℕ) {l l′ : List ℕ} {r : ℕ} → l′ ≡ set l n x → r ≡ n + 1 → Put l n (x ∷ []) l′ r
-put-one n x e p = record { written = e; next = p }
-
--- ys behind xs
-pub put-then : {l xs l′ ys l″ : List ℕ} {n m r : ℕ} → Put l n xs l′ m → Put l′ m ys l″ r → Put l n (xs ++ ys) l″ r
-put-then {l} {xs} {l′} {ys} {l″} {n} {m} {r} p q = record {
-  written = rw (sets-append, ← (p .next), ← (p .written)) (q .written);
-  next = omega (arith, length-append xs ys, p .next, q .next);
-}
-
--- From l₀ at n₀ on, xs₀ is written by writing xs to l from n on: what a loop keeps that has the rest xs to write.
-pub record Rest (l₀ : List ℕ) (n₀ : ℕ) (xs₀ l : List ℕ) (n : ℕ) (xs : List ℕ) : Type 0 where
-  pub leads : {l′ : List ℕ} {r : ℕ} → Put l n xs l′ r → Put l₀ n₀ xs₀ l′ r
-
-pub rest-all : (l : List ℕ) (n : ℕ) (xs : List ℕ) → Rest l n xs l n xs
-rest-all l n xs = record { leads = λ p. p }
-
--- ys is written, and zs is left
-pub rest-less : {l₀ xs₀ l xs ys zs l₁ : List ℕ} {n₀ n m : ℕ} → Rest l₀ n₀ xs₀ l n xs → Put l n ys l₁ m → xs ≡ ys ++ zs → Rest l₀ n₀ xs₀ l₁ m zs
-rest-less {l₀} {xs₀} {l} {xs} {ys} {zs} {l₁} {n₀} {n} {m} w p e = record {
-  leads = λ {l′} {r} q. w .leads (subst (λ (x : List ℕ). Put l n x l′ r) (sym e) (put-then p q));
-}
-
--- nothing is left
-pub rest-none : {l₀ xs₀ l xs : List ℕ} {n₀ n : ℕ} → Rest l₀ n₀ xs₀ l n xs → xs ≡ [] → Put l₀ n₀ xs₀ l n
-rest-none {l₀} {xs₀} {l} {xs} {n₀} {n} w e = w .leads (subst (λ (x : List ℕ). Put l n x l n) (sym e) (put-none l n))
-
--- one more byte of w
-pub word-turn : (at i : ℕ) {l₀ w l l′ : List ℕ} → Rest l₀ at w l (at + i) (drop i w) → i < length w → l′ ≡ set l (at + i) (getD w i 0) → Rest l₀ at w l′ (at + (i + 1)) (drop (i + 1) w)
-word-turn at i {l₀} {w} r h e = rest-less r (put-one (at + i) (getD w i 0) e (omega arith)) (rw (add-one, drop-cons w i 0))
-
-pub word-start : (l : List ℕ) (at : ℕ) (w : List ℕ) → Rest l at w l (at + 0) w
-word-start l at w = rw add-zero (rest-all l at w)
-
-pub word-end : (at i : ℕ) {l₀ w l : List ℕ} → Rest l₀ at w l (at + i) (drop i w) → length w ≤ i → Put l₀ at w l (at + i)
-word-end at i {l₀} {w} r h = rest-none r (drop-of-length-le w h)
+use Rattle.lent.specs.Put.{Put}
+use Rattle.ascii.specs.Contracts.{Printed}
 
 -- the same bytes, in other words
 pub printed-as : {most : ℕ} {l xs ys l′ : List ℕ} {r : ℕ} → ys ≡ xs → Printed most l xs l′ r → Printed most l ys l′ r
 printed-as {most} {l} {xs} {ys} {l′} {r} e p = subst (λ (x : List ℕ). Printed most l x l′ r) (sym e) p
+
+-- a refusal, where more than its line may be printed
+pub printed-refused : (most : ℕ) {l xs ys l′ : List ℕ} {r : ℕ} → 50 ≤ most → ys ≡ xs → Put l 0 xs l′ r → r ≤ 0 + 50 → Printed most l ys l′ r
+printed-refused most g e p h = printed-as e (record { put = p; long = omega arith })

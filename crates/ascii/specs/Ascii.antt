@@ -38,6 +38,10 @@ abbrev pub refusedWord : List ℕ
 refusedWord = 0x72 ∷ 0x65 ∷ 0x66 ∷ 0x75 ∷ 0x73 ∷ 0x65 ∷ 0x64 ∷ 0x20 ∷ []
 
 -- "A refusal prints `refused`, number, place" (01)
-unfoldable pub refusedLine : ℕ → ℕ → List ℕ
+unfoldable pub refusal : ℕ → ℕ → List ℕ
 unfolding decimal
-refusedLine number place = refusedWord ++ decimal number ++ space ++ decimal place ++ newline
+refusal number place = refusedWord ++ decimal number ++ space ++ decimal place
+
+unfoldable pub refusedLine : ℕ → ℕ → List ℕ
+unfolding refusal
+refusedLine number place = refusal number place ++ newline

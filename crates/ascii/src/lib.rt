@@ -3,10 +3,10 @@
 ghost use Prim.Native.Nat.{_+_, _≤_, _<_};
 ghost use mathlib.Core.Path.{_≡_};
 ghost use lib.ListN.{length, set};
+ghost use Rattle.lent.specs.Put.{Put};
 ghost use Rattle.ascii.specs.Ascii.{digit, decimal, hexadecimal, refusedLine};
-ghost use Rattle.ascii.specs.Contracts.{Put};
 
-// One byte.
+/// One byte.
 fn put(out: &mut [u8], at: usize, x: u8)
     ensures { λ _. ⌜ now (out .exit) ≡ set (now (out .entry)) at x ⌝ }
 {
@@ -15,6 +15,7 @@ fn put(out: &mut [u8], at: usize, x: u8)
     }
 }
 
+/// The bytes of a word.
 pub fn word(out: &mut [u8], at: usize, w: &[u8]) -> usize
     requires { ⌜ at ≤ 0x100000 ⌝ }
     ensures { λ r. ⌜ Put (now (out .entry)) at (now (w .entry)) (now (out .exit)) r ⌝ }
@@ -27,7 +28,7 @@ pub fn word(out: &mut [u8], at: usize, w: &[u8]) -> usize
     at + i
 }
 
-// 0 to 9, then A to F.
+/// 0 to 9, then A to F.
 fn digit(d: usize) -> u8
     requires { ⌜ d < 16 ⌝ }
     ensures { λ r. ⌜ r ≡ digit d ⌝ }
@@ -35,7 +36,7 @@ fn digit(d: usize) -> u8
     if d < 10 { 48 + d as u8 } else { 55 + d as u8 }
 }
 
-// A number in decimal: the last digit behind those of the rest.
+/// A number in decimal: the last digit behind those of the rest.
 pub fn decimal(out: &mut [u8], at: usize, n: usize) -> usize
     requires { ⌜ at ≤ 0x100000 ⌝ }
     ensures { λ r. ⌜ Put (now (out .entry)) at (decimal n) (now (out .exit)) r ⌝ }
@@ -50,7 +51,7 @@ pub fn decimal(out: &mut [u8], at: usize, n: usize) -> usize
     next + 1
 }
 
-// Bytes in hexadecimal.
+/// Bytes in hexadecimal.
 pub fn hexadecimal(out: &mut [u8], at: usize, bytes: &[u8]) -> usize
     requires { ⌜ (at ≤ 0x100000) × (length (now bytes) ≤ 65536) ⌝ }
     ensures { λ r. ⌜ Put (now (out .entry)) at (hexadecimal (now (bytes .entry))) (now (out .exit)) r ⌝ }
@@ -67,14 +68,15 @@ pub fn hexadecimal(out: &mut [u8], at: usize, bytes: &[u8]) -> usize
     next
 }
 
-// The line of a refusal, at the front: its number and its place.
-pub fn refused(out: &mut [u8], number: u32, place: usize) -> usize
-    ensures { λ r. ⌜ Put (now (out .entry)) 0 (refusedLine number place) (now (out .exit)) r ⌝ }
-    ensures { λ r. ⌜ r ≤ 50 ⌝ }
+/// The line of a refusal: its number and its place.
+pub fn refused(out: &mut [u8], at: usize, number: u32, place: usize) -> usize
+    requires { ⌜ at ≤ 0x80000 ⌝ }
+    ensures { λ r. ⌜ Put (now (out .entry)) at (refusedLine number place) (now (out .exit)) r ⌝ }
+    ensures { λ r. ⌜ r ≤ at + 50 ⌝ }
 {
-    let mut at = word(out, 0, b"refused ");
-    at = decimal(out, at, number as usize);
-    at = word(out, at, b" ");
-    at = decimal(out, at, place);
-    word(out, at, b"\n")
+    let mut next = word(out, at, b"refused ");
+    next = decimal(out, next, number as usize);
+    next = word(out, next, b" ");
+    next = decimal(out, next, place);
+    word(out, next, b"\n")
 }

@@ -3,14 +3,15 @@ use Prim.Native.Nat.{ℕ, zero, suc, _+_, _-_, _%_, _≤_, _<_}
 use mathlib.Core.Path.{_≡_, refl, sym, ap, _∙_, subst}
 use mathlib.Core.Bool.{Bool, true, false, cond, _&&_, _||_}
 use mathlib.Core.List.{List, [], _∷_, _++_}
-use native.Mathlib.Nat.{add-zero, zero-add}
+use native.Mathlib.Nat.{zero-add}
 use native.Mathlib.Numerals.{add-one}
 use native.Mathlib.Omega.{arith}
 use borrow.Author.Tests.{eq-eqb, ne-eqb, eqb-true, eqb-false, lt-ltb, le-ltb, le-leb, leb-true}
 use lib.Dec.{T, eqb, leb, eqb→eq}
-use lib.ListN.{length, take, drop, getD, set, replicate, length-append, length-drop, drop-of-length-le}
-use lib.Seq.{sets, sets-eq, length-sets, length-take-le, take-suc, take-append-seam, drop-append-seam, drop-cons}
+use lib.ListN.{length, take, drop, getD, replicate, length-append, length-drop, drop-of-length-le}
+use lib.Seq.{sets-eq, length-sets, length-take-le, take-append-seam, drop-append-seam, drop-cons}
 use Rattle.base.proofs.Table.{at}
+use Rattle.lent.specs.Put.{Put}
 use Rattle.sets.specs.Sets.{designation, Holds}
 use Rattle.sets.specs.declared.Sequence.{Sequence}
 use Rattle.issues.specs.declared.IssueKind.the-variants.{MalformedControl}
@@ -18,29 +19,7 @@ use Rattle.reading.specs.State.{Given, State, took, issue, truncated}
 use Rattle.reading.specs.Macros.{Run, builtinSets, builtinOf, builtin, endOf, defined, definition, macroCmd}
 use Rattle.decode_macros.specs.declared.Command.{Command}
 use Rattle.decode_macros.specs.declared.Command.the-variants.{Ends, Defines}
-use Rattle.decode_macros.specs.Contracts.{Put, Built, Ended, Defined, Within}
-
--- ---- bytes written one after another
-
-sets-append : (xs ys l : List ℕ) (n : ℕ) → sets l n (xs ++ ys) ≡ sets (sets l n xs) (n + length xs) ys
-sets-append [] ys l n = ap (λ (k : ℕ). sets l k ys) (sym (add-zero n))
-sets-append (a ∷ xs) ys l n =
-    let e : suc n + length xs ≡ n + suc (length xs) = omega arith in
-    sets-append xs ys (set l n a) (suc n) ∙ ap (λ (k : ℕ). sets (sets (set l n a) (suc n) xs) k ys) e
-
--- one byte more of s
-pub put-more : (l s t : List ℕ) (n i : ℕ) → i < length s → t ≡ sets l n (take i s) → set t (n + i) (getD s i 0) ≡ sets l n (take (i + 1) s)
-put-more l s t n i h p =
-    let e : length (take i s) ≡ i = length-take-le i s (omega arith) in
-    rw (p, add-one, take-suc s i 0 h, sets-append) (rw e)
-
--- ys behind xs
-pub put-then : {l xs l′ ys l″ : List ℕ} {n m r : ℕ} → Put l n xs l′ m → Put l′ m ys l″ r → Put l n (xs ++ ys) l″ r
-put-then {l} {xs} {l′} {ys} {l″} {n} {m} {r} p q =
-    record {
-      written = rw (sets-append, ← (p .next), ← (p .written)) (q .written);
-      next = omega (arith, length-append xs ys, p .next, q .next);
-    }
+use Rattle.decode_macros.specs.Contracts.{Built, Ended, Defined, Within}
 
 -- ---- the bytes of a sequence
 

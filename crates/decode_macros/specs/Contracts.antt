@@ -5,17 +5,11 @@ use mathlib.Core.Bool.{true, false, cond, _&&_}
 use mathlib.Core.List.{List}
 use lib.Dec.{leb}
 use lib.ListN.{length, take, drop, getD}
-use lib.Seq.{sets}
 use Rattle.issues.specs.declared.IssueKind.the-variants.{MalformedControl}
 use Rattle.reading.specs.State.{Given, State, Step, took, issue, truncated}
 use Rattle.reading.specs.Macros.{Run, builtin, endOf, defined}
 use Rattle.decode_macros.specs.declared.Command.{Command}
 use Rattle.decode_macros.specs.declared.Command.the-variants.{Cut, Ends, Malformed, Defines}
-
--- the bytes xs stand in l′ from the place n on, and the rest is as in l; r is the place behind them
-pub record Put (l : List ℕ) (n : ℕ) (xs l′ : List ℕ) (r : ℕ) : Type 0 where
-  pub written : l′ ≡ sets l n xs
-  pub next : r ≡ n + length xs
 
 -- the first n bytes of l′ are the built-in body of a code from 60 to 6F, and n is 0 for any other code; the rest is as in l
 pub record Built (l : List ℕ) (code : ℕ) (l′ : List ℕ) (n : ℕ) : Type 0 where

@@ -6,11 +6,12 @@ ghost use mathlib.Core.Path.{_≡_};
 ghost use mathlib.Core.Bool.{cond};
 ghost use mathlib.Core.List.{[], _∷_};
 ghost use lib.ListN.{length, drop};
+ghost use Rattle.lent.specs.Put.{Put};
 ghost use Rattle.sets.specs.Sets.{designation};
 ghost use Rattle.reading.specs.State.{Given, State};
 ghost use Rattle.reading.specs.Macros.{Run, builtinOf, endOf, macroCmd};
 ghost use Rattle.reading.specs.Macros.{definition as defines};
-ghost use Rattle.decode_macros.specs.Contracts.{Put, Built, commanded, Within};
+ghost use Rattle.decode_macros.specs.Contracts.{Built, commanded, Within};
 
 /// Table 7-18, codes 60 to 6F: the sets that go to G0, G1 and G2, by 01's numbers. G3 is always the
 /// macro set.

@@ -6,7 +6,7 @@ use native.Mathlib.Nat.{zero-add, not-suc-le-zero, ne-of-gt, ne-of-lt}
 use native.Mathlib.Omega.{arith}
 use lib.ListN.{length, take, drop, getD, set, length-append, length-take, length-drop, drop-of-length-le}
 use lib.Seq.{sets, length-sets, set-comm, getD-set-other, getD-take, drop-cons, take-all, take-append-seam, drop-append-seam}
-use Rattle.utf8.proofs.Stores.{sets-append, sets-out}
+use Rattle.lent.proofs.Stores.{sets-append, sets-out}
 
 -- b behind what was written
 pub sets-end : (a b l : List ℕ) {t : List ℕ} {n : ℕ} → t ≡ sets l 0 a → n ≡ length a → sets t n b ≡ sets l 0 (a ++ b)

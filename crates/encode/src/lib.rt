@@ -1,2 +1,3 @@
 // Text to the eight-unit code: encode.rs.
 pub mod call;
+pub mod values;

@@ -23,7 +23,17 @@ use Rattle.encoding_lines.specs.Laws.{NeverEight}
 abbrev answers : ℕ → Text → Option ℕ → Option ℕ → Bool → Bool → Refusal
 answers q t b w store room =
     elim q [
-      | zero ↦ elim t [ FaultAt p ↦ refuse 4 p | WellFormed ↦ elim b [ some p ↦ refuse 5 p | none ↦ elim w [ some p ↦ refuse 6 p | none ↦ cond store (cond room (refuse 0 0) (refuse 8 0)) (refuse 7 0) ] ] ]
+      | zero ↦ elim t [
+        | FaultAt p ↦ refuse 4 p
+        | WellFormed ↦ elim b [
+          | some p ↦ refuse 5 p
+          | none ↦ elim w [
+            | some p ↦ refuse 6 p
+            | none ↦ cond store
+                (cond room (refuse 0 0) (refuse 8 0)) (refuse 7 0)
+          ]
+        ]
+      ]
       | suc q ↦ refuse (suc q) 0
     ]
 
@@ -51,7 +61,8 @@ room : (c : Lent) → outcome c .refused ≡ 8 → (firstRefusal (c .cells) (c .
 unfolding outcome refusal question4 question5 question6 question7 question8 firstRefusal
 room c e =
     eight (firstRefusal (c .cells) (c .initial) (c .width) encodeLimit (length (c .text))) (firstFault (c .text)) (baseless false (tokens (c .text))) (without (ordering c) (choices c))
-    (leb (coding c .states) (c .storeRoom / 4)) (leb (length (coding c .out)) (c .codingRoom)) (three (cellsHold (c .cells)) (optionsHold (c .initial) (c .width)) (lengthHolds encodeLimit (length (c .text))))
+    (leb (coding c .states) (c .storeRoom / 4)) (leb (length (coding c .out)) (c .codingRoom))
+    (three (cellsHold (c .cells)) (optionsHold (c .initial) (c .width)) (lengthHolds encodeLimit (length (c .text))))
     (sym (number-is (refusal c .number) (refusal c .place) c) ∙ e)
 
 pub never-eight : NeverEight

@@ -1,10 +1,10 @@
 -- What a coding call gives, in lines: its numbers are bounded, and each way out prints the definition's lines. Assumes nothing.
-use Prim.Native.Nat.{ℕ, zero, suc, _+_, _*_, _≤_, _<_}
+use Prim.Native.Nat.{ℕ, zero, suc, _≤_, _<_}
 use mathlib.Core.Path.{_≡_, refl, sym, ap, _∙_, subst}
 use mathlib.Core.Bool.{Bool}
-use mathlib.Core.List.{List, _++_}
+use mathlib.Core.List.{List}
 use native.Mathlib.Omega.{arith}
-use lib.ListN.{length, take, replicate, length-append, length-replicate}
+use lib.ListN.{length, take, replicate, length-replicate}
 use Rattle.coding.specs.Search.{Run, begin, run, gapOf, finish, code}
 use Rattle.coding.specs.Call.{Lent, Outcome, choices, coding, outcomeOf, outcome}
 use Rattle.laws_coding.proofs.Answers.{passes}
@@ -12,12 +12,9 @@ use Rattle.encode.specs.declared.call.Answer.{Answer}
 use Rattle.encode.specs.Answers.{numberOf, placeOf, lengthOf, lent, Answered}
 use Rattle.encode.specs.Answers as answers
 use Rattle.jis_tab.specs.CellTable.{cellTable}
-use Rattle.ascii.specs.Ascii.{hexadecimal, newline, refusedLine}
-use Rattle.ascii.specs.Contracts.{Put, Printed}
-use Rattle.ascii.proofs.Writing.{printed-as}
-use Rattle.ascii.proofs.Digits.{decimal-few}
-use Rattle.encoding_lines.specs.Lines.{firstLine, answerLines, call, codedLines, encoding}
-use Rattle.encoding_lines.specs.Contracts.{greatest}
+use Rattle.ascii.specs.Ascii.{refusedLine}
+use Rattle.encoding_form.specs.Lines.{codingLines}
+use Rattle.encoding_lines.specs.Lines.{answerLines, call, codedLines, encoding}
 
 -- ---- bounds
 
@@ -44,15 +41,7 @@ within c e =
       gap = omega (arith, ap (λ (o : Outcome). o .gap) (p .given), p .fits, gap-most c);
     }
 
-pub first-few : (n gap : ℕ) → n ≤ 65529 → gap ≤ 65529 → length (firstLine n gap) ≤ 23
-unfolding firstLine
-first-few n gap p q = simp length-append (omega (arith, decimal-few 4 n (omega arith), decimal-few 4 gap (omega arith)))
-
 -- ---- lines
-
--- a refusal
-pub printed-refused : {l xs ys l′ : List ℕ} {r : ℕ} → ys ≡ xs → Put l 0 xs l′ r → r ≤ 50 → Printed greatest l ys l′ r
-printed-refused e p h = printed-as e (record { put = p; long = omega arith })
 
 -- buffer and store of the program's rooms
 pub answered-as : (cells text store : List ℕ) {a : Answer} {s b : List ℕ} → length store ≡ 1048576 → Answered (lent cells 0 0 text store (replicate 65529 0)) a s b → Answered (call cells text) a s b
@@ -61,13 +50,18 @@ answered-as cells text store {a} {s} {b} h v =
     (subst (λ (n : ℕ). Answered (record { cells = cells; initial = 0; width = 0; text = text; storeRoom = length store; codingRoom = n }) a s b) (length-replicate {A = ℕ} 65529 0) v)
 
 -- an outcome that is no refusal
-shown : (o : Outcome) → o .refused ≡ 0 → answerLines (o .refused) o ≡ firstLine (o .length) (o .gap) ++ hexadecimal (take (o .length) (o .buffer)) ++ newline
+shown : (o : Outcome) → o .refused ≡ 0 → answerLines (o .refused) o ≡ codingLines (o .length) (o .gap) (take (o .length) (o .buffer))
 unfolding answerLines
 shown o e = ap (λ (n : ℕ). answerLines n o) e
 
 lines-of : (cells text : List ℕ) → codedLines cells text ≡ answerLines (outcome (call cells text) .refused) (outcome (call cells text))
 unfolding codedLines
 lines-of cells text = refl
+
+-- what the lines of a coding ask
+pub record Few (n g : ℕ) : Type 0 where
+  pub length : n ≤ 65529
+  pub gap : g ≤ 65529
 
 module _ (cells text : List ℕ) {a : Answer} {s b : List ℕ} (v : Answered (call cells text) a s b) where
   -- the call refuses
@@ -83,14 +77,13 @@ module _ (cells text : List ℕ) {a : Answer} {s b : List ℕ} (v : Answered (ca
   accepted m j = omega (arith, m ∙ v .number)
 
   -- the call codes
-  pub lines-coded : {z n g : ℕ} → z ≡ numberOf a → z ≤ 0 → n ≡ lengthOf a → g ≡ answers.gapOf a → codedLines cells text ≡ firstLine n g ++ hexadecimal (take n b) ++ newline
+  pub lines-coded : {z n g : ℕ} → z ≡ numberOf a → z ≤ 0 → n ≡ lengthOf a → g ≡ answers.gapOf a → codedLines cells text ≡ codingLines n g (take n b)
   lines-coded {z} {n} {g} m j x y = lines-of cells text ∙ shown (outcome (call cells text)) (accepted m j) ∙ sym (rw (x ∙ v .counted, y ∙ v .gap, v .written) refl)
 
-  pub length-within : {z n : ℕ} → z ≡ numberOf a → z ≤ 0 → n ≡ lengthOf a → n ≤ 65529
-  length-within m j x = omega (arith, x ∙ v .counted, within (call cells text) (accepted m j) .long)
-
-  pub gap-within : {z g : ℕ} → z ≡ numberOf a → z ≤ 0 → g ≡ answers.gapOf a → g ≤ 65529
-  gap-within m j y = omega (arith, y ∙ v .gap, within (call cells text) (accepted m j) .gap)
+  pub few-counts : {z n g : ℕ} → z ≡ numberOf a → z ≤ 0 → n ≡ lengthOf a → g ≡ answers.gapOf a → Few n g
+  few-counts m j x y =
+      let w = within (call cells text) (accepted m j) in
+      record { length = omega (arith, x ∙ v .counted, w .long); gap = omega (arith, y ∙ v .gap, w .gap) }
 
 -- a cell table
 pub encoding-as : (present : Bool) (table text cells : List ℕ) → cells ≡ cellTable present table → encoding present table text ≡ codedLines cells text

@@ -1,4 +1,3 @@
 pub mod Lines
-pub mod Contracts
 pub mod Laws
 pub mod Examples

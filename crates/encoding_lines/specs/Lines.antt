@@ -1,28 +1,17 @@
 -- What the program `encoding` prints. A text is the list of its ASCII codes.
 use Prim.Native.Nat.{ℕ, zero, suc}
 use mathlib.Core.Bool.{Bool}
-use mathlib.Core.List.{List, [], _∷_, _++_}
+use mathlib.Core.List.{List}
 use lib.ListN.{take}
 use Rattle.coding.specs.Call.{Lent, Outcome, outcome}
-use Rattle.ascii.specs.Ascii.{decimal, hexadecimal, newline, refusedLine}
+use Rattle.ascii.specs.Ascii.{refusedLine}
 use Rattle.jis_tab.specs.CellTable.{cellTable}
+use Rattle.encoding_form.specs.Lines.{codingLines}
 
--- `coding ` and ` gap `
-abbrev pub codingWord : List ℕ
-codingWord = 0x63 ∷ 0x6F ∷ 0x64 ∷ 0x69 ∷ 0x6E ∷ 0x67 ∷ 0x20 ∷ []
-
-abbrev pub gapWord : List ℕ
-gapWord = 0x20 ∷ 0x67 ∷ 0x61 ∷ 0x70 ∷ 0x20 ∷ []
-
--- the coding's length and its gap
-unfoldable pub firstLine : ℕ → ℕ → List ℕ
-unfolding decimal
-firstLine n gap = codingWord ++ decimal n ++ gapWord ++ decimal gap ++ newline
-
--- what a call gave, in lines: the second is the coding in hexadecimal
+-- what a call gave, in lines
 unfoldable pub answerLines : ℕ → Outcome → List ℕ
-unfolding firstLine hexadecimal refusedLine
-answerLines zero o = firstLine (o .length) (o .gap) ++ hexadecimal (take (o .length) (o .buffer)) ++ newline
+unfolding codingLines refusedLine
+answerLines zero o = codingLines (o .length) (o .gap) (take (o .length) (o .buffer))
 answerLines (suc q) o = refusedLine (suc q) (o .place)
 
 -- Si, CharacterSize; a store of 262,144 states, of four numbers each, and nine bytes of coding for each of 7,281 bytes of text

@@ -1,31 +1,32 @@
 -- The key call, from the answer of the decoding. Assumes nothing.
 use Prim.Native.Nat.{ℕ, zero, suc, _+_, _-_, _≤_, _<_}
 use mathlib.Core.Path.{_≡_, refl, sym, ap, ap₂, _∙_, subst}
-use mathlib.Core.Bool.{Bool, true, false, cond, _&&_}
+use mathlib.Core.Bool.{Bool, true, false, cond}
 use mathlib.Core.List.{List, [], _∷_, _++_}
 use native.Mathlib.Nat.{zero-add, suc-add, sub-zero}
 use native.Mathlib.Omega.{arith}
-use borrow.Author.Tests.{ne-eqb, eqb-true, eqb-false, leb-true, lt-leb}
+use borrow.Author.Tests.{leb-true}
 use lib.Dec.{eqb, leb, T}
 use lib.ListN.{length, take, drop, getD, length-append}
 use Rattle.utf8.specs.Utf8.{areScalars, utf8, utf8s, scalars}
 use Rattle.utf8.proofs.Bytes.{length-utf8}
 use Rattle.utf8.proofs.Texts.{scalars-utf8s}
-use Rattle.questions.specs.Questions.{cellsHold, firstRefusal, decodeLimit}
+use Rattle.questions.specs.Questions.{firstRefusal, decodeLimit}
 use Rattle.questions.specs.Buffer.{padded}
 use Rattle.questions.proofs.Buffers.{take-padded}
 use Rattle.questions.proofs.Refusals.{passed}
-use Rattle.issues.specs.Issue.{Issue, issueNumbers, issuesNumbers}
 use Rattle.reading.specs.Call as decoding
 use Rattle.decode.specs.declared.call.Answer.{Answer}
 use Rattle.decode.specs.declared.call.Answer.the-variants.{Decoded, Refused}
 use Rattle.decode.specs.Answers as decode
 use Rattle.key.specs.declared.KeyAnswer.{KeyAnswer}
 use Rattle.key.specs.declared.KeyAnswer.the-variants as key
-use Rattle.key.specs.Key.{keyChar, kept, keyText, Lent, decodingOf, reading, textBytes, keyBytes, fits, refusal, Outcome, outcomeOf, outcome}
+use Rattle.key.specs.Key.{Lent, decodingOf, reading, textBytes, keyBytes, questionOf, refusal, Outcome, outcomeOf, outcome}
 use Rattle.laws_scalars.proofs.Scalars.{text-scalars}
-use Rattle.key.proofs.Characters.{no-longer, first-bytes}
-use Rattle.key.specs.Contracts.{Removed, Decodes, answerOf, questionOf, refusedOf, lent, Answered}
+use Rattle.key_text.specs.KeyText.{keyChar, kept, keyText}
+use Rattle.key_text.specs.Contracts.{Removed}
+use Rattle.key_text.proofs.Characters.{no-longer, first-bytes}
+use Rattle.key.specs.Contracts.{numberOf, placeOf, lenOf, chargedOf, Decodes, answerOf, refusedOf, lent, Answered}
 
 -- ---- the buffer
 
@@ -42,43 +43,6 @@ unfolding padded
 drop-padded n [] h = ap (λ (k : ℕ). padded k []) (sym (sub-zero n))
 drop-padded zero (v ∷ vs) h = absurd (omega arith)
 drop-padded (suc n) (v ∷ vs) h = drop-padded n vs (omega arith) ∙ ap (λ (k : ℕ). padded k []) (let e : n - length vs ≡ suc n - suc (length vs) = omega arith in e)
-
--- ---- the number
-
--- each issue has numbers
-none-counted : (l : List Issue) → leb (length (issuesNumbers l)) 0 ≡ eqb (length l) 0
-unfolding issuesNumbers issueNumbers
-none-counted [] = refl
-none-counted (i ∷ l) = lt-leb (length (issuesNumbers (i ∷ l))) 0 (omega arith) ∙ sym (ne-eqb (length (i ∷ l)) 0 (λ z. omega arith))
-
--- the first three questions have numbers up to 3
-first-few : (t : List ℕ) (initial width limit len : ℕ) → firstRefusal t initial width limit len ≤ 3
-unfolding firstRefusal
-first-few t initial width limit len = go (cellsHold t) (leb initial 1 && leb width 1) (leb len limit)
-  where
-    go : (a b c : Bool) → cond a (cond b (cond c 0 3) 2) 1 ≤ 3
-    go true true true = omega arith
-    go true true false = omega arith
-    go true false c = omega arith
-    go false b c = omega arith
-
-module _ (c : Lent) where
-  fits-as : fits c ≡ questionOf (decoding.fits (decodingOf c))
-  unfolding fits decoding.fits textBytes reading decoding.textBytes decoding.issueList
-  fits-as = rw (none-counted (decoding.reading (decodingOf c) .out .issues)) (go (leb (length (utf8s (decoding.reading (decodingOf c) .out .text))) (c .room)) (eqb (length (decoding.reading (decodingOf c) .out .issues)) 0))
-    where
-      go : (a b : Bool) → _≡_ {A = ℕ} (cond a (cond b 0 10) 8) (questionOf (cond a (cond b 0 9) 8))
-      go true true = refl
-      go true false = refl
-      go false b = refl
-
-  refusal-as : refusal c ≡ questionOf (decoding.refusal (decodingOf c))
-  unfolding refusal decoding.refusal
-  refusal-as = go (firstRefusal (c .cells) (c .initial) (c .width) decodeLimit (length (c .input))) refl (first-few (c .cells) (c .initial) (c .width) decodeLimit (length (c .input)))
-    where
-      go : (q : ℕ) → firstRefusal (c .cells) (c .initial) (c .width) decodeLimit (length (c .input)) ≡ q → q ≤ 3 → refusal c ≡ questionOf (decoding.refusal (decodingOf c))
-      go zero e h = rw e fits-as
-      go (suc q) e h = rw e (rw (ne-eqb (suc q) 9 (λ z. omega arith)))
 
 -- ---- the answer
 
@@ -109,8 +73,8 @@ module _ (c : Lent) where
 
   -- both outcomes by the decoding's number
   outcome-as : (q : ℕ) → number ≡ q → outcome c ≡ outcomeOf (questionOf q) c
-  unfolding outcome
-  outcome-as q e = ap (λ (n : ℕ). outcomeOf n c) (refusal-as c ∙ ap questionOf e)
+  unfolding outcome refusal
+  outcome-as q e = ap (λ (n : ℕ). outcomeOf (questionOf n) c) e
 
   decoded-as : (q : ℕ) → number ≡ q → decoding.outcome (decodingOf c) ≡ decoding.outcomeOf q (decodingOf c)
   unfolding decoding.outcome
@@ -125,7 +89,8 @@ module _ (c : Lent) where
       fitting true b e f = leb-true _ _ e
       fitting false b e f = absurd (omega arith)
 
-      go : (q : ℕ) → firstRefusal (c .cells) (c .initial) (c .width) decodeLimit (length (c .input)) ≡ q → (firstRefusal (c .cells) (c .initial) (c .width) decodeLimit (length (c .input)) ≡ 0) × (length (textBytes c) ≤ c .room)
+      go : (q : ℕ) → firstRefusal (c .cells) (c .initial) (c .width) decodeLimit (length (c .input)) ≡ q →
+          (firstRefusal (c .cells) (c .initial) (c .width) decodeLimit (length (c .input)) ≡ 0) × (length (textBytes c) ≤ c .room)
       go zero e = (e, fitting (leb (length (textBytes c)) (c .room)) (leb (length (decoding.issueList (decodingOf c))) 0) refl (rw e at z))
       go (suc q) e = absurd (omega (arith, rw e at z))
 
@@ -236,7 +201,7 @@ module _ (c : Lent) (r : Answer) (b : List ℕ) (d : Decodes c r b) where
 -- ---- a key lies in the buffer
 
 pub len-inside : (c : Lent) → outcome c .len ≤ c .room
-unfolding outcome outcomeOf keyBytes textBytes
+unfolding outcome outcomeOf keyBytes textBytes refusal
 len-inside c = go (refusal c) refl
   where
     none : (q : ℕ) → questionOf q ≡ 0 → q ≡ 0
@@ -247,7 +212,7 @@ len-inside c = go (refusal c) refl
         by false f = f
 
     go : (m : ℕ) → refusal c ≡ m → outcomeOf m c .len ≤ c .room
-    go zero e = omega (arith, passed-0 c (none (decoding.refusal (decodingOf c)) (sym (refusal-as c) ∙ e)) .1, key-shorter (reading c .out .text))
+    go zero e = omega (arith, passed-0 c (none (decoding.refusal (decodingOf c)) e) .1, key-shorter (reading c .out .text))
     go (suc m) e = omega arith
 
 -- and stands at its beginning
@@ -259,12 +224,32 @@ key-bytes c e = go (refusal c) e (len-inside c)
     go zero f h = take-padded (c .room) (keyBytes c) h
     go (suc m) f h = absurd (omega arith)
 
+-- ---- the values of an answer
+
+-- its number, its place and its counts are those of an outcome
+pub record Values (o : Outcome) (r : KeyAnswer) : Type 0 where
+  pub number : numberOf r ≡ o .refused
+  pub place : placeOf r ≡ 0
+  pub counted : lenOf r ≡ o .len
+  pub charged : chargedOf r ≡ o .charged
+
+values-of : (q : ℕ) (c : Lent) → Values (outcomeOf q c) (answerOf (outcomeOf q c .refused) (outcomeOf q c))
+unfolding outcomeOf
+values-of zero c = record { number = refl; place = refl; counted = refl; charged = refl }
+values-of (suc q) c = record { number = refl; place = refl; counted = refl; charged = refl }
+
+pub values : {c : Lent} {r : KeyAnswer} {b : List ℕ} → Answered c r b → Values (outcome c) r
+unfolding outcome
+values {c} {r} v = subst (λ (x : KeyAnswer). Values (outcome c) x) (sym (v .answer)) (values-of (refusal c) c)
+
 -- ---- what the decoding of a lent table gives
 
 module _ (cells : List ℕ) (initial width : ℕ) (input buffer : List ℕ) (numbers : (k : ℕ) → getD cells k 0 < 0x10000) where
   lent-scalars : firstRefusal cells initial width decodeLimit (length input) ≡ 0 → T (areScalars (reading (lent cells initial width input buffer) .out .text))
   unfolding reading decoding.reading
-  lent-scalars z = text-scalars (record { cells = cells; annexE = eqb width 1; input = input }) initial (record { admitted = passed cells initial width decodeLimit (length input) z .table; numbers = numbers })
+  lent-scalars z = text-scalars (record { cells = cells; annexE = eqb width 1; input = input }) initial
+      (record { admitted = passed cells initial width decodeLimit (length input) z .table; numbers = numbers })
 
-  pub decodes : (r : Answer) (t i : List ℕ) → length t ≡ length buffer → decode.Answered (decodingOf (lent cells initial width input buffer)) r t i → Decodes (lent cells initial width input buffer) r t
+  pub decodes : (r : Answer) (t i : List ℕ) → length t ≡ length buffer → decode.Answered (decodingOf (lent cells initial width input buffer)) r t i → Decodes
+      (lent cells initial width input buffer) r t
   decodes r t i h a = record { room = h; scalars = lent-scalars; issues = i; answered = a }

@@ -1,30 +1,57 @@
--- The laws of keys, by name: specs/Laws.antt states them. Assumes nothing.
-use mathlib.Core.Path.{_≡_, refl, ap, _∙_}
-use mathlib.Core.Bool.{Bool, true, false, cond, _||_}
+-- The questions of a key call in the paper's words: specs/Laws.antt states them. Assumes nothing.
+use Prim.Native.Nat.{ℕ, zero, suc, _≤_}
+use mathlib.Core.Path.{_≡_, refl, sym, _∙_}
+use mathlib.Core.Bool.{Bool, true, false, cond, _&&_}
 use mathlib.Core.List.{List, [], _∷_}
-use mathlib.Core.Option.{Option, none, some}
-use Prim.Native.Nat.{ℕ}
-use borrow.Author.Tests.{eqb-false}
-use lib.Dec.{eqb}
-use Rattle.key.specs.Key.{keyChar, kept, keyText}
-use Rattle.key.specs.Laws.{Without, KeyWithout, OwnKey, KeyOfKey}
-use Rattle.key.proofs.Characters.{stays}
+use native.Mathlib.Omega.{arith}
+use borrow.Author.Tests.{ne-eqb, lt-leb}
+use lib.Dec.{eqb, leb}
+use lib.ListN.{length}
+use Rattle.questions.specs.Questions.{cellsHold, firstRefusal, decodeLimit}
+use Rattle.issues.specs.Issue.{Issue, issueNumbers, issuesNumbers}
+use Rattle.reading.specs.Call as decoding
+use Rattle.key.specs.Key.{Lent, decodingOf, reading, textBytes, questionOf, refusal}
+use Rattle.key.specs.Laws.{firstOf, Questions, KeyQuestions}
 
-pub key-without : KeyWithout
-unfolding keyText keyChar kept
-key-without [] = tt
-key-without (c ∷ cs) = go (eqb c 0x0A) (eqb c 0x20) (eqb c 0x3000) refl refl refl (key-without cs)
+-- each issue has numbers
+none-counted : (l : List Issue) → leb (length (issuesNumbers l)) 0 ≡ eqb (length l) 0
+unfolding issuesNumbers issueNumbers
+none-counted [] = refl
+none-counted (i ∷ l) = lt-leb (length (issuesNumbers (i ∷ l))) 0 (omega arith) ∙ sym (ne-eqb (length (i ∷ l)) 0 (λ z. omega arith))
+
+-- the first three questions have numbers up to 3
+first-few : (t : List ℕ) (initial width limit len : ℕ) → firstRefusal t initial width limit len ≤ 3
+unfolding firstRefusal
+first-few t initial width limit len = go (cellsHold t) (leb initial 1 && leb width 1) (leb len limit)
   where
-    go : (a b d : Bool) → eqb c 0x0A ≡ a → eqb c 0x20 ≡ b → eqb c 0x3000 ≡ d → Without (keyText cs) → Without (kept (cond (a || b || d) none (some c)) (keyText cs))
-    go true b d p q r w = w
-    go false true d p q r w = w
-    go false false true p q r w = w
-    go false false false p q r w = (eqb-false c 0x0A p, eqb-false c 0x20 q, eqb-false c 0x3000 r, w)
+    go : (a b c : Bool) → cond a (cond b (cond c 0 3) 2) 1 ≤ 3
+    go true true true = omega arith
+    go true true false = omega arith
+    go true false c = omega arith
+    go false b c = omega arith
 
-pub own-key : OwnKey
-unfolding keyText kept
-own-key [] h = refl
-own-key (c ∷ cs) h = rw (stays c (h .0) (h .1) (h .2)) (ap (λ (l : List ℕ). c ∷ l) (own-key cs (h .3)))
+module _ (c : Lent) where
+  -- a decoding with no room for issues
+  fits-as : questionOf (decoding.fits (decodingOf c)) ≡ cond (leb (length (textBytes c)) (c .room)) (cond (eqb (length (reading c .out .issues)) 0) 0 10) 8
+  unfolding decoding.fits textBytes reading decoding.textBytes decoding.issueList
+  fits-as =
+      rw (none-counted (decoding.reading (decodingOf c) .out .issues))
+      (go (leb (length (decoding.textBytes (decodingOf c))) (c .room)) (eqb (length (decoding.reading (decodingOf c) .out .issues)) 0))
+    where
+      go : (a b : Bool) → _≡_ {A = ℕ} (questionOf (cond a (cond b 0 9) 8)) (cond a (cond b 0 10) 8)
+      go true true = refl
+      go true false = refl
+      go false b = refl
 
-pub key-of-key : KeyOfKey
-key-of-key text = own-key (keyText text) (key-without text)
+  none-fails : firstOf c ≡ 0 → refusal c ≡ questionOf (decoding.fits (decodingOf c))
+  unfolding refusal decoding.refusal
+  none-fails e = rw e
+
+  one-fails : (q : ℕ) → firstOf c ≡ suc q → refusal c ≡ suc q
+  unfolding refusal decoding.refusal
+  one-fails q e =
+      let h : suc q ≤ 3 = omega (arith, e, first-few (c .cells) (c .initial) (c .width) decodeLimit (length (c .input))) in
+      rw e (rw (ne-eqb (suc q) 9 (λ z. omega arith)))
+
+pub key-questions : KeyQuestions
+key-questions c = record { first = one-fails c; rest = λ e. none-fails c e ∙ fits-as c }

@@ -1,4 +1,2 @@
-pub mod Characters
-pub mod Moving
 pub mod Calls
 pub mod Laws

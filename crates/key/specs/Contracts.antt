@@ -1,47 +1,40 @@
 -- What the functions of the key call promise.
-use Prim.Native.Nat.{ℕ, zero, suc, _+_}
+use Prim.Native.Nat.{ℕ, zero, suc}
 use mathlib.Core.Path.{_≡_}
-use mathlib.Core.Bool.{cond}
-use mathlib.Core.List.{List, []}
-use mathlib.Core.Option.{Option, none, some}
-use lib.Dec.{T, eqb}
+use mathlib.Core.List.{List}
+use lib.Dec.{T}
 use lib.ListN.{length}
-use lib.Seq.{sets}
-use Rattle.utf8.specs.Utf8.{areScalars, utf8s, scalars}
+use Rattle.utf8.specs.Utf8.{areScalars}
 use Rattle.questions.specs.Questions.{firstRefusal, decodeLimit}
-use Rattle.questions.specs.Buffer.{padded}
 use Rattle.decode.specs.declared.call.Answer.{Answer}
 use Rattle.decode.specs.Answers as decode
-use Rattle.key.specs.Key.{keyChar, kept, keyText, Lent, decodingOf, reading, Outcome, outcome}
-use Rattle.key.specs.declared.Kept.{Kept}
-use Rattle.key.specs.declared.Kept.the-variants.{Char, Nothing}
+use Rattle.key.specs.Key.{Lent, decodingOf, reading, questionOf, Outcome, outcome}
 use Rattle.key.specs.declared.KeyAnswer.{KeyAnswer}
 use Rattle.key.specs.declared.KeyAnswer.the-variants.{Keyed, Refused}
 
--- what a key has for a character, as the code answers it
-abbrev pub keptOf : Option ℕ → Kept
-keptOf none = Nothing
-keptOf (some c) = Char c
+-- an answer's values by case: the number of the refusal, 0 where there is none, and its place; the key's length and the charge, 0 in a refusal
+abbrev pub numberOf : KeyAnswer → ℕ
+numberOf (Keyed len charged) = 0
+numberOf (Refused number place) = number
 
--- what a key has for a character is put from a place on, and the place behind it is answered
-pub record Put (before : List ℕ) (at c : ℕ) (after : List ℕ) (r : ℕ) : Type 0 where
-  pub bytes : after ≡ sets before at (utf8s (kept (keyChar c) []))
-  pub behind : r ≡ at + length (utf8s (kept (keyChar c) []))
+abbrev pub placeOf : KeyAnswer → ℕ
+placeOf (Keyed len charged) = 0
+placeOf (Refused number place) = place
 
--- a text's key takes its place: the text up to its first fault, if it has one
-pub record Removed (text : List ℕ) (r : ℕ) (after : List ℕ) : Type 0 where
-  pub len : r ≡ length (utf8s (keyText (scalars text)))
-  pub bytes : after ≡ padded (length text) (utf8s (keyText (scalars text)))
+abbrev pub lenOf : KeyAnswer → ℕ
+lenOf (Keyed len charged) = len
+lenOf (Refused number place) = 0
+
+abbrev pub chargedOf : KeyAnswer → ℕ
+chargedOf (Keyed len charged) = charged
+chargedOf (Refused number place) = 0
 
 -- the answer by the number of the refusal: with 0 the key's length and the charge, else that number, and its place, which is 0
 abbrev pub answerOf : ℕ → Outcome → KeyAnswer
 answerOf zero o = Keyed (o .len) (o .charged)
 answerOf (suc q) o = Refused (suc q) 0
 
--- A decoding's refusal as a key's: with no room for issues its 9 is a key's 10.
-abbrev pub questionOf : ℕ → ℕ
-questionOf q = cond (eqb q 9) 10 q
-
+-- a decoding's refusal as a key's
 abbrev pub refusedOf : ℕ → ℕ → KeyAnswer
 refusedOf q place = Refused (questionOf q) place
 

@@ -1,34 +1,14 @@
 -- The key call: 01, "Keys" and "The questions, put in this order".
 use Prim.Native.Nat.{ℕ, zero, suc}
-use mathlib.Core.Bool.{cond, _||_}
-use mathlib.Core.List.{List, [], _∷_}
-use mathlib.Core.Option.{Option, none, some}
-use lib.Dec.{eqb, leb}
+use mathlib.Core.Bool.{cond}
+use mathlib.Core.List.{List, []}
+use lib.Dec.{eqb}
 use lib.ListN.{length}
 use Rattle.utf8.specs.Utf8.{utf8s}
-use Rattle.questions.specs.Questions.{firstRefusal, decodeLimit}
 use Rattle.questions.specs.Buffer.{padded}
 use Rattle.reading.specs.State.{State}
 use Rattle.reading.specs.Call as decoding
-
--- ---- "A key is the decoded text without newline, U+0020 and U+3000"
-
--- what a key has for a character: nothing, or a character. A rule on letters would change this definition alone.
-unfoldable pub keyChar : ℕ → Option ℕ
-keyChar c = cond (eqb c 0x0A || eqb c 0x20 || eqb c 0x3000) none (some c)
-
--- a character, if it is one, before the others
-unfoldable pub kept : Option ℕ → List ℕ → List ℕ
-kept none k = k
-kept (some c) k = c ∷ k
-
--- the key of a text
-unfoldable pub keyText : List ℕ → List ℕ
-unfolding keyChar kept
-keyText [] = []
-keyText (c ∷ cs) = kept (keyChar c) (keyText cs)
-
--- ---- the call
+use Rattle.key_text.specs.KeyText.{keyText}
 
 -- what the caller lends: the cell table, the two options, the input, and how many bytes the buffer holds
 pub record Lent : Type 0 where
@@ -48,27 +28,24 @@ unfolding decoding.reading
 reading c = decoding.reading (decodingOf c)
 
 unfoldable pub textBytes : Lent → List ℕ
-unfolding reading utf8s
-textBytes c = utf8s (reading c .out .text)
+unfolding decoding.textBytes
+textBytes c = decoding.textBytes (decodingOf c)
 
 -- the key's bytes
 unfoldable pub keyBytes : Lent → List ℕ
 unfolding reading keyText utf8s
 keyBytes c = utf8s (keyText (reading c .out .text))
 
--- "Does the whole text .. fit its buffer (for a key, the text before removal)? If no, 8." "For a key, is the decoding free of issues? If no, 10."
-unfoldable pub fits : Lent → ℕ
-unfolding textBytes reading
-fits c = cond (leb (length (textBytes c)) (c .room)) (cond (eqb (length (reading c .out .issues)) 0) 0 10) 8
+-- The number of a decoding's refusal as a key's. With no room for issues the decoding's 9 says that there is one: "For a key, is the decoding free of
+-- issues? If no, 10."
+abbrev pub questionOf : ℕ → ℕ
+questionOf q = cond (eqb q 9) 10 q
 
--- the number of the first question that fails, of 1, 2, 3, 8 and 10; 0 where none does
+-- The number of the first question that fails, of 1, 2, 3, 8 and 10; 0 where none does. Question 8 is the decoding's: "for a key, the text before
+-- removal". specs/Laws.antt has 8 and 10 in the paper's words.
 unfoldable pub refusal : Lent → ℕ
-unfolding firstRefusal fits
-refusal c = first (firstRefusal (c .cells) (c .initial) (c .width) decodeLimit (length (c .input)))
-  where
-    first : ℕ → ℕ
-    first zero = fits c
-    first (suc q) = suc q
+unfolding decoding.refusal
+refusal c = questionOf (decoding.refusal (decodingOf c))
 
 -- What the call gives: the number of the refusal (0: none), the key's length, the charge, and the buffer.
 pub record Outcome : Type 0 where

@@ -1,22 +1,20 @@
--- The laws of keys, as statements. proofs/Laws.antt proves each under its name.
-use Prim.Native.Nat.{ℕ}
+-- The questions of a key call in the paper's words, as a statement. proofs/Laws.antt proves it.
+use Prim.Native.Nat.{ℕ, suc}
 use mathlib.Core.Path.{_≡_}
-use mathlib.Core.List.{List, [], _∷_}
-use Rattle.key.specs.Key.{keyText}
+use mathlib.Core.Bool.{cond}
+use lib.Dec.{eqb, leb}
+use lib.ListN.{length}
+use Rattle.questions.specs.Questions.{firstRefusal, decodeLimit}
+use Rattle.key.specs.Key.{Lent, reading, textBytes, refusal}
 
--- none of newline, U+0020 and U+3000 stands in a text
-abbrev pub Without : List ℕ → Type 0
-Without [] = Unit {0}
-Without (c ∷ cs) = (c ≡ 0x0A → ⊥) × (c ≡ 0x20 → ⊥) × (c ≡ 0x3000 → ⊥) × Without cs
+-- the first of questions 1, 2 and 3 that fails
+abbrev pub firstOf : Lent → ℕ
+firstOf c = firstRefusal (c .cells) (c .initial) (c .width) decodeLimit (length (c .input))
 
--- a key holds none of the three
-abbrev pub KeyWithout : Type 0
-KeyWithout = (text : List ℕ) → Without (keyText text)
+-- "Does the whole text .. fit its buffer (for a key, the text before removal)? If no, 8." "For a key, is the decoding free of issues? If no, 10."
+pub record Questions (c : Lent) : Type 0 where
+  pub first : (q : ℕ) → firstOf c ≡ suc q → refusal c ≡ suc q
+  pub rest : firstOf c ≡ 0 → refusal c ≡ cond (leb (length (textBytes c)) (c .room)) (cond (eqb (length (reading c .out .issues)) 0) 0 10) 8
 
--- a text without them is its own key
-abbrev pub OwnKey : Type 0
-OwnKey = (text : List ℕ) → Without text → keyText text ≡ text
-
--- removing them again changes nothing
-abbrev pub KeyOfKey : Type 0
-KeyOfKey = (text : List ℕ) → keyText (keyText text) ≡ keyText text
+abbrev pub KeyQuestions : Type 0
+KeyQuestions = (c : Lent) → Questions c

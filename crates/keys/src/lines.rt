@@ -4,7 +4,7 @@ ghost use mathlib.Core.Bool.{true};
 ghost use Prim.Native.Nat.{_≤_};
 ghost use lib.ListN.{length};
 ghost use Rattle.questions.specs.Questions.{cellsHold};
-ghost use Rattle.keys_lines.specs.Contracts.{Room};
+ghost use Rattle.keys_lines.specs.Contracts.{PrintRoom};
 ghost use Rattle.keys.specs.Contracts.{Buffers, Within};
 use keys_lines::Printed;
 use libc::STDIN_FILENO;
@@ -63,7 +63,7 @@ fn print(
     title: &mut [u8],
     out: &mut [u8],
 ) -> usize
-    requires { ⌜ Room (now cells) admitted (length (now title)) (length (now out)) ⌝ }
+    requires { ⌜ PrintRoom (now cells) admitted (length (now title)) (length (now out)) ⌝ }
     ensures { λ r. ⌜ r ≤ length (now (out .exit)) ⌝ }
 {
     if len > line.len() {

@@ -12,13 +12,16 @@ use lib.Seq.{length-take-le}
 use Rattle.utf8.specs.Utf8.{utf8, utf8s}
 use Rattle.utf8.proofs.Bytes.{Row, in1, in2, in3, in4, row, row1, row2, row3, row4}
 use Rattle.questions.specs.Questions.{all}
-use Rattle.key.specs.Key.{keyText, Lent, reading, keyBytes, outcome}
-use Rattle.key.specs.Laws.{Without}
-use Rattle.key.proofs.Laws.{key-without}
+use Rattle.ascii.specs.Ascii.{digit, decimalIn, decimal, space, refusedWord, refusal}
+use Rattle.key_text.specs.KeyText.{keyText}
+use Rattle.key_text.specs.Laws.{Without}
+use Rattle.key_text.proofs.Laws.{key-without}
+use Rattle.key.specs.Key.{Lent, reading, keyBytes, outcome}
 use Rattle.key.proofs.Calls.{key-bytes}
-use Rattle.keys_lines.specs.Line.{isDecimal, isNumber, isHex, bytesOf, trimmed, tabAt, isLine, decimal, refusedWord, refusalText, call, answerText, lineText, printed}
+use Rattle.keys_form.specs.Line.{isDecimal, isNumber, isHex, bytesOf, trimmed, tabAt, isLine, answerText, lineOf}
+use Rattle.keys_form.proofs.Reading.{decimal-range, rest-all, Formed, formed}
+use Rattle.keys_lines.specs.Line.{call, lineText, printed}
 use Rattle.keys_lines.specs.Laws.{Lacks, LongMalformed, Line, OneLine, KeyLacksSpace}
-use Rattle.keys_lines.proofs.Reading.{decimal-range, rest-all, Formed, formed}
 use Rattle.keys_lines.proofs.Writing.{malformed, well-formed}
 
 -- ---- long lines
@@ -68,15 +71,15 @@ space-lacks [] w = tt
 space-lacks (c ∷ cs) w = lacks-append 0x20 (utf8 c) (utf8s cs) (utf8-lacks 0x20 c (omega arith) (w .1)) (space-lacks cs (w .3))
 
 module _ (c : Lent) (e : outcome c .refused ≡ 0) where
-  answer-key : answerText (outcome c .refused) (outcome c) ≡ keyBytes c
+  answer-key : answerText (outcome c .refused) (take (outcome c .len) (outcome c .buffer)) ≡ keyBytes c
   unfolding answerText
-  answer-key = ap (λ (q : ℕ). answerText q (outcome c)) e ∙ key-bytes c e
+  answer-key = ap (λ (q : ℕ). answerText q (take (outcome c .len) (outcome c .buffer))) e ∙ key-bytes c e
 
-  key-newline : Lacks 0x0A (answerText (outcome c .refused) (outcome c))
+  key-newline : Lacks 0x0A (answerText (outcome c .refused) (take (outcome c .len) (outcome c .buffer)))
   unfolding keyBytes
   key-newline = subst (Lacks 0x0A) (sym answer-key) (newline-lacks (keyText (reading c .out .text)) (key-without (reading c .out .text)))
 
-  key-space : Lacks 0x20 (answerText (outcome c .refused) (outcome c))
+  key-space : Lacks 0x20 (answerText (outcome c .refused) (take (outcome c .len) (outcome c .buffer)))
   unfolding keyBytes
   key-space = subst (Lacks 0x20) (sym answer-key) (space-lacks (keyText (reading c .out .text)) (key-without (reading c .out .text)))
 
@@ -85,26 +88,40 @@ key-lacks-space c e = key-space c e
 
 -- ---- one line
 
+digit-lacks : (n : ℕ) → digit n ≡ 0x0A → ⊥
+digit-lacks n = go (ltb n 10)
+  where
+    go : (b : Bool) → cond b (48 + n) (55 + n) ≡ 0x0A → ⊥
+    go true e = omega arith
+    go false e = omega arith
+
+decimal-in-lacks : (turns n : ℕ) → Lacks 0x0A (decimalIn turns n)
+unfolding decimalIn
+decimal-in-lacks zero n = tt
+decimal-in-lacks (suc turns) n = go (ltb n 10) (decimal-in-lacks turns (n / 10))
+  where
+    go : (b : Bool) → Lacks 0x0A (decimalIn turns (n / 10)) → Lacks 0x0A (elim b [ true ↦ digit n ∷ [] | false ↦ decimalIn turns (n / 10) ++ (digit (n % 10) ∷ []) ])
+    go true w = (digit-lacks n, tt)
+    go false w = lacks-append 0x0A (decimalIn turns (n / 10)) (digit (n % 10) ∷ []) w (digit-lacks (n % 10), tt)
+
 decimal-lacks : (n : ℕ) → Lacks 0x0A (decimal n)
 unfolding decimal
-decimal-lacks n = go (ltb n 10)
-  where
-    go : (b : Bool) → Lacks 0x0A (cond b ((0x30 + n) ∷ []) ((0x30 + n / 10 % 10) ∷ (0x30 + n % 10) ∷ []))
-    go true = ((λ e. omega arith), tt)
-    go false = ((λ e. omega arith), ((λ e. omega arith), tt))
+decimal-lacks n = decimal-in-lacks (suc n) n
 
-refusal-lacks : (q : ℕ) → Lacks 0x0A (refusalText q)
-unfolding refusalText
+word-lacks : Lacks 0x0A refusedWord
+word-lacks = ((λ e. omega arith), ((λ e. omega arith), ((λ e. omega arith), ((λ e. omega arith), ((λ e. omega arith), ((λ e. omega arith), ((λ e. omega arith), ((λ e. omega arith), tt))))))))
+
+refusal-lacks : (q : ℕ) → Lacks 0x0A (refusal q 0)
+unfolding refusal
 refusal-lacks q =
-    lacks-append 0x0A refusedWord (decimal q ++ (0x20 ∷ 0x30 ∷ []))
-    ((λ e. omega arith), ((λ e. omega arith), ((λ e. omega arith), ((λ e. omega arith), ((λ e. omega arith), ((λ e. omega arith), ((λ e. omega arith), ((λ e. omega arith), tt))))))))
-    (lacks-append 0x0A (decimal q) (0x20 ∷ 0x30 ∷ []) (decimal-lacks q) ((λ e. omega arith), ((λ e. omega arith), tt)))
+    let number = lacks-append 0x0A refusedWord (decimal q) word-lacks (decimal-lacks q) in
+    lacks-append 0x0A (refusedWord ++ decimal q ++ space) (decimal 0) (lacks-append 0x0A (refusedWord ++ decimal q) space number ((λ e. omega arith), tt)) (decimal-lacks 0)
 
-answer-lacks : (c : Lent) → Lacks 0x0A (answerText (outcome c .refused) (outcome c))
+answer-lacks : (c : Lent) → Lacks 0x0A (answerText (outcome c .refused) (take (outcome c .len) (outcome c .buffer)))
 unfolding answerText
 answer-lacks c = go (outcome c .refused) refl
   where
-    go : (q : ℕ) → outcome c .refused ≡ q → Lacks 0x0A (answerText (outcome c .refused) (outcome c))
+    go : (q : ℕ) → outcome c .refused ≡ q → Lacks 0x0A (answerText (outcome c .refused) (take (outcome c .len) (outcome c .buffer)))
     go zero e = key-newline c e
     go (suc q) e = rw e (refusal-lacks (suc q))
 
@@ -125,12 +142,13 @@ line-digits l e =
     and-eq-true-iff (all isDecimal (take (tabAt l) l)) _ .0 d .0
 
 line-text : (cells l : List ℕ) → isLine l ≡ true → Line (lineText cells l)
-unfolding lineText
+unfolding lineText lineOf
 line-text cells l e =
     let c = call cells (bytesOf (drop (tabAt l + 1) l)) in
+    let answer = answerText (outcome c .refused) (take (outcome c .len) (outcome c .buffer)) in
     record {
-      front = take (tabAt l) l ++ (0x09 ∷ answerText (outcome c .refused) (outcome c));
-      ends = sym (append-assoc (take (tabAt l) l) (0x09 ∷ answerText (outcome c .refused) (outcome c)) (0x0A ∷ []));
+      front = take (tabAt l) l ++ (0x09 ∷ answer);
+      ends = sym (append-assoc (take (tabAt l) l) (0x09 ∷ answer) (0x0A ∷ []));
       only = lacks-append 0x0A (take (tabAt l) l) _ (digits-lack (take (tabAt l) l) (line-digits l e)) ((λ z. omega arith), answer-lacks c);
     }
 

@@ -31,4 +31,17 @@ record Worked : Type 0 where
 worked : Worked
 unfolding printed zeros cellsHold all
 worked =
-    record { key = refl; empty = refl; issue = refl; table = refl; malformed-0 = refl; malformed-1 = refl; malformed-2 = refl; malformed-3 = refl; malformed-4 = refl; malformed-5 = refl; malformed-6 = refl }
+    record {
+      key = refl;
+      empty = refl;
+      issue = refl;
+      table = refl;
+      malformed-0 = refl;
+      malformed-1 = refl;
+      malformed-2 = refl;
+      malformed-3 = refl;
+      malformed-4 = refl;
+      malformed-5 =
+          refl;
+      malformed-6 = refl;
+    }

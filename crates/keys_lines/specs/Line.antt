@@ -1,87 +1,11 @@
--- A line that the program `keys` reads, and the line that it prints for it. A line is the list of its bytes without the newline:
--- NUMBER TAB HEX, a number of the customer's own and a title's bytes. A carriage return at its end is dropped.
-use Prim.Native.Nat.{ℕ, zero, suc, _+_, _-_, _*_, _/_, _%_, min}
-use mathlib.Core.Bool.{Bool, true, false, cond, _&&_}
-use mathlib.Core.List.{List, [], _∷_, _++_}
+-- What the program `keys` prints for a line that it reads. A line is the list of its bytes without the newline.
+use Prim.Native.Nat.{ℕ, _*_, min}
+use mathlib.Core.Bool.{true, false}
+use mathlib.Core.List.{List}
 use mathlib.Core.Option.{Option, none, some}
-use lib.Dec.{eqb, ltb, leb}
-use lib.ListN.{length, take, drop, getD}
-use Rattle.questions.specs.Questions.{all}
-use Rattle.key.specs.Key.{Lent, Outcome, outcome}
-
--- ---- NUMBER
-
--- 0 to 9
-unfoldable pub isDecimal : ℕ → Bool
-isDecimal x = leb 0x30 x && leb x 0x39
-
--- the number that decimal digits make behind those of v
-unfoldable pub valueFrom : ℕ → List ℕ → ℕ
-valueFrom v [] = v
-valueFrom v (x ∷ xs) = valueFrom (v * 10 + (x - 0x30)) xs
-
--- one to ten decimal digits that make a number of 32 bits
-unfoldable pub isNumber : List ℕ → Bool
-unfolding all isDecimal valueFrom
-isNumber ds = leb 1 (length ds) && (leb (length ds) 10 && (all isDecimal ds && leb (valueFrom 0 ds) 0xFFFFFFFF))
-
--- ---- HEX
-
--- the value of a hexadecimal digit in either case; 16 for any other byte
-unfoldable pub hexValue : ℕ → ℕ
-hexValue x =
-    cond (leb 0x30 x && leb x 0x39) (x - 0x30)
-    (cond (leb 0x41 x && leb x 0x46) (x - 0x37)
-    (cond (leb 0x61 x && leb x 0x66) (x - 0x57) 16))
-
-unfoldable pub isHexDigit : ℕ → Bool
-unfolding hexValue
-isHexDigit x = ltb (hexValue x) 16
-
--- an even count of hexadecimal digits, for 65,535 bytes at most
-unfoldable pub isHex : List ℕ → Bool
-unfolding all isHexDigit
-isHex ds = leb (length ds) 131070 && (eqb (length ds % 2) 0 && all isHexDigit ds)
-
--- two digits a byte
-unfoldable pub bytesOf : List ℕ → List ℕ
-unfolding hexValue
-bytesOf [] = []
-bytesOf (a ∷ []) = []
-bytesOf (a ∷ (b ∷ ds)) = (hexValue a * 16 + hexValue b) ∷ bytesOf ds
-
--- ---- a line
-
--- the line without a carriage return at its end
-unfoldable pub trimmed : List ℕ → List ℕ
-trimmed l = cond (eqb (getD l (length l - 1) 0) 0x0D) (take (length l - 1) l) l
-
--- the place of the first TAB; the length where there is none
-unfoldable pub tabAt : List ℕ → ℕ
-tabAt [] = 0
-tabAt (x ∷ xs) = cond (eqb x 0x09) 0 (suc (tabAt xs))
-
--- what stands before the TAB and behind it
-abbrev pub numberOf : List ℕ → List ℕ
-numberOf l = take (tabAt l) l
-
-abbrev pub hexOf : List ℕ → List ℕ
-hexOf l = drop (tabAt l + 1) l
-
--- NUMBER TAB HEX
-unfoldable pub isLine : List ℕ → Bool
-unfolding tabAt isNumber isHex
-isLine l = ltb (tabAt l) (length l) && (isNumber (numberOf l) && isHex (hexOf l))
-
--- ---- what is printed
-
--- a number below 100 in decimal
-unfoldable pub decimal : ℕ → List ℕ
-decimal n = cond (ltb n 10) ((0x30 + n) ∷ []) ((0x30 + n / 10 % 10) ∷ (0x30 + n % 10) ∷ [])
-
--- `refused `
-abbrev pub refusedWord : List ℕ
-refusedWord = 0x72 ∷ 0x65 ∷ 0x66 ∷ 0x75 ∷ 0x73 ∷ 0x65 ∷ 0x64 ∷ 0x20 ∷ []
+use lib.ListN.{length, take}
+use Rattle.key.specs.Key.{Lent, outcome}
+use Rattle.keys_form.specs.Line.{bytesOf, trimmed, numberOf, hexOf, isLine, lineOf}
 
 -- the room that a title of n bytes has for its text before removal: 64 bytes a byte, 196,608 at most
 unfoldable pub roomFor : ℕ → ℕ
@@ -91,23 +15,12 @@ roomFor n = min (n * 64) 196608
 abbrev pub call : List ℕ → List ℕ → Lent
 call cells bytes = record { cells = cells; initial = 0; width = 0; input = bytes; room = roomFor (length bytes) }
 
--- `refused`, the number and the place, which is 0
-unfoldable pub refusalText : ℕ → List ℕ
-unfolding decimal
-refusalText q = refusedWord ++ (decimal q ++ (0x20 ∷ 0x30 ∷ []))
-
--- a key, or a refusal
-unfoldable pub answerText : ℕ → Outcome → List ℕ
-unfolding refusalText
-answerText zero o = take (o .len) (o .buffer)
-answerText (suc q) o = refusalText (suc q)
-
--- NUMBER as it was given, TAB, and the answer
+-- NUMBER, TAB, and the key of HEX or a refusal
 unfoldable pub lineText : List ℕ → List ℕ → List ℕ
-unfolding tabAt bytesOf roomFor outcome answerText
+unfolding bytesOf roomFor outcome lineOf
 lineText cells l =
     let o = outcome (call cells (bytesOf (hexOf l))) in
-    numberOf l ++ (0x09 ∷ (answerText (o .refused) o ++ (0x0A ∷ [])))
+    lineOf (numberOf l) (o .refused) (take (o .len) (o .buffer))
 
 -- the line printed for a line; none where that is malformed
 unfoldable pub printed : List ℕ → List ℕ → Option (List ℕ)

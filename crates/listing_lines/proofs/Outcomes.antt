@@ -2,29 +2,27 @@
 use Prim.Native.Nat.{ℕ, zero, suc, _+_, _*_, _≤_, _<_}
 use mathlib.Core.Path.{_≡_, refl, sym, ap, _∙_, subst}
 use mathlib.Core.Bool.{Bool, true, false}
-use mathlib.Core.List.{List, _++_}
+use mathlib.Core.List.{List}
 use native.Mathlib.Omega.{arith}
-use borrow.Author.Tests.{leb-true}
+use borrow.Author.Tests.{le-leb, leb-true}
 use lib.Dec.{eqb, leb}
 use lib.ListN.{length, take, replicate, length-replicate}
-use Rattle.questions.specs.Questions.{firstRefusal, decodeLimit}
+use Rattle.questions.specs.Questions.{cellsHold, firstRefusal, decodeLimit}
+use Rattle.questions.proofs.Refusals.{passed}
 use Rattle.reading.specs.Call.{Lent, Outcome, reading, textBytes, issueList, fits, refusal, outcomeOf, outcome}
 use Rattle.laws_reading.proofs.Reading.{charge-bound, question-8-9}
 use Rattle.decode.specs.declared.call.Answer.{Answer}
 use Rattle.decode.specs.Answers.{numberOf, textOf, issuesOf, chargedOf, lent, Answered}
-use Rattle.questions.proofs.Refusals.{passed}
 use Rattle.jis_tab.specs.CellTable.{cellTable}
-use Rattle.ascii.proofs.Writing.{printed-as}
-use Rattle.ascii.specs.Ascii.{hexadecimal, newline, refusedLine}
-use Rattle.ascii.specs.Contracts.{Put, Printed}
-use Rattle.listing_lines.specs.Lines.{firstLine, issueLines, answerLines, call, decodedLines, listing}
-use Rattle.listing_lines.specs.Contracts.{greatest}
+use Rattle.ascii.specs.Ascii.{refusedLine}
+use Rattle.listing_form.specs.Lines.{numbers, decodingLines}
+use Rattle.listing_lines.specs.Lines.{answerLines, call, decodedLines, listing}
 
 -- ---- counts
 
 pub record Bounds (c : Lent) : Type 0 where
   pub text : outcome c .text ≤ c .textRoom
-  pub issues : outcome c .issues * 4 ≤ c .issueRoom
+  pub issues : outcome c .issues * numbers ≤ c .issueRoom
   pub charged : outcome c .charged ≤ 64 * length (c .input) + 4096
 
 refused-bounds : (c : Lent) (q : ℕ) → refusal c ≡ suc q → Bounds c
@@ -60,72 +58,66 @@ bounds c = go (firstRefusal (c .cells) (c .initial) (c .width) decodeLimit (leng
 
 -- ---- lines
 
--- a refusal
-pub printed-refused : {l xs ys l′ : List ℕ} {r : ℕ} → ys ≡ xs → Put l 0 xs l′ r → r ≤ 50 → Printed greatest l ys l′ r
-printed-refused e p h = printed-as e (record { put = p; long = omega arith })
-
 -- buffers of the program's rooms
-pub answered-as : (cells input : List ℕ) {a : Answer} {t i : List ℕ} → Answered (lent cells 0 0 input (replicate 65536 0) (replicate 1024 0)) a t i → Answered (call cells input) a t i
+pub answered-as : (cells input : List ℕ) {a : Answer} {t i : List ℕ} → Answered (lent cells 0 0 input (replicate 65536 0) (replicate (256 * numbers) 0)) a t i → Answered (call cells input) a t i
 answered-as cells input {a} {t} {i} v =
-    subst (λ (n : ℕ). Answered (record { cells = cells; initial = 0; width = 0; input = input; textRoom = 65536; issueRoom = n }) a t i) (length-replicate {A = ℕ} 1024 0)
-    (subst (λ (n : ℕ). Answered (record { cells = cells; initial = 0; width = 0; input = input; textRoom = n; issueRoom = length {A = ℕ} (replicate 1024 0) }) a t i) (length-replicate {A = ℕ} 65536 0) v)
+    subst (λ (n : ℕ). Answered (record { cells = cells; initial = 0; width = 0; input = input; textRoom = 65536; issueRoom = n }) a t i) (length-replicate {A = ℕ} (256 * numbers) 0)
+    (subst (λ (n : ℕ). Answered (record { cells = cells; initial = 0; width = 0; input = input; textRoom = n; issueRoom = length {A = ℕ} (replicate (256 * numbers) 0) }) a t i)
+    (length-replicate {A = ℕ} 65536 0) v)
+
+-- what passes with 4,096 bytes passes with more
+pub passes-more : (cells input : List ℕ) → firstRefusal cells 0 0 4096 (length input) ≡ 0 → firstRefusal cells 0 0 65535 (length input) ≡ 0
+unfolding firstRefusal
+passes-more cells input e =
+    let p = passed cells 0 0 4096 (length input) e in
+    rw (p .table, le-leb (length input) 65535 (omega (arith, p .within)))
+
+-- question 1, or more than 4,096 bytes
+pub lines-first : (cells input : List ℕ) (q : ℕ) → q ≡ firstRefusal cells 0 0 4096 (length input) → 0 < q → decodedLines cells input ≡ refusedLine q 0
+unfolding decodedLines
+lines-first cells input zero e h = absurd (omega arith)
+lines-first cells input (suc q) e h = rw (sym e)
 
 -- an outcome that is no refusal
-shown : (o : Outcome) → o .refused ≡ 0
-    → answerLines (o .refused) o ≡ firstLine (o .text) (o .issues) (o .charged) ++ hexadecimal (take (o .text) (o .textBuffer)) ++ newline ++ issueLines (take (o .issues * 4) (o .issueBuffer))
+shown : (o : Outcome) → o .refused ≡ 0 → answerLines (o .refused) o ≡ decodingLines (o .text) (o .issues) (o .charged) (take (o .text) (o .textBuffer)) (o .issueBuffer)
 unfolding answerLines
 shown o e = ap (λ (n : ℕ). answerLines n o) e
 
 -- what the lines of a decoding ask
-pub record Within (n k g : ℕ) (t i : List ℕ) : Type 0 where
+pub record Within (n k g : ℕ) : Type 0 where
   pub text : n ≤ 65536
   pub issues : k ≤ 256
   pub charge : g ≤ 266240
-  pub text-long : length t ≡ 65536
-  pub issues-long : length i ≡ 1024
 
-module _ (cells input : List ℕ) where
-  -- question 1, or more than 4,096 bytes
-  pub lines-first : (q : ℕ) → q ≡ firstRefusal cells 0 0 4096 (length input) → 0 < q → decodedLines cells input ≡ refusedLine q 0
+-- the questions are passed
+module _ (cells input : List ℕ) (e : firstRefusal cells 0 0 4096 (length input) ≡ 0) {a : Answer} {t i : List ℕ} (v : Answered (call cells input) a t i) where
+  lines-next : decodedLines cells input ≡ answerLines (outcome (call cells input) .refused) (outcome (call cells input))
   unfolding decodedLines
-  lines-first zero e h = absurd (omega arith)
-  lines-first (suc q) e h = rw (sym e)
-
-  -- neither
-  lines-next : (q : ℕ) → q ≡ firstRefusal cells 0 0 4096 (length input) → q ≤ 0 → decodedLines cells input ≡ answerLines (outcome (call cells input) .refused) (outcome (call cells input))
-  unfolding decodedLines
-  lines-next zero e h = rw (sym e)
-  lines-next (suc q) e h = absurd (omega arith)
+  lines-next = rw e
 
   -- the call refuses
-  pub lines-refused : {q n : ℕ} {a : Answer} {t i : List ℕ} → q ≡ firstRefusal cells 0 0 4096 (length input) → q ≤ 0 → Answered (call cells input) a t i → n ≡ numberOf a → 0 < n → decodedLines cells input ≡ refusedLine n 0
+  pub lines-refused : {n : ℕ} → n ≡ numberOf a → 0 < n → decodedLines cells input ≡ refusedLine n 0
   unfolding answerLines
-  lines-refused {q} {n} {a} e h v m k = lines-next q e h ∙ go n (m ∙ v .number) k
+  lines-refused {n} m k = lines-next ∙ go n (m ∙ v .number) k
     where
       go : (n : ℕ) → n ≡ outcome (call cells input) .refused → 0 < n → answerLines (outcome (call cells input) .refused) (outcome (call cells input)) ≡ refusedLine n 0
       go zero x y = absurd (omega arith)
       go (suc n) x y = rw (sym x)
 
   -- the call decodes
-  pub lines-decoded : {q z n k g : ℕ} {a : Answer} {t i : List ℕ} → q ≡ firstRefusal cells 0 0 4096 (length input) → q ≤ 0 → Answered (call cells input) a t i → z ≡ numberOf a → z ≤ 0
-      → n ≡ textOf a → k ≡ issuesOf a → g ≡ chargedOf a
-      → decodedLines cells input ≡ firstLine n k g ++ hexadecimal (take n t) ++ newline ++ issueLines (take (k * 4) i)
-  lines-decoded {q} {z} {n} {k} {g} {a} {t} {i} e h v m j x y w =
+  pub lines-decoded : {z n k g : ℕ} → z ≡ numberOf a → z ≤ 0 → n ≡ textOf a → k ≡ issuesOf a → g ≡ chargedOf a → decodedLines cells input ≡ decodingLines n k g (take n t) i
+  lines-decoded m j x y w =
       let r : outcome (call cells input) .refused ≡ 0 = omega (arith, m ∙ v .number) in
-      lines-next q e h ∙ shown (outcome (call cells input)) r ∙ sym (rw (x ∙ v .counted, y ∙ v .reported, w ∙ v .charged, v .written, v .listed) refl)
+      lines-next ∙ shown (outcome (call cells input)) r ∙ sym (rw (x ∙ v .counted, y ∙ v .reported, w ∙ v .charged, v .written, v .listed) refl)
 
-  pub within : {q n k g : ℕ} {a : Answer} {t i : List ℕ} → q ≡ firstRefusal cells 0 0 4096 (length input) → q ≤ 0 → Answered (call cells input) a t i
-      → n ≡ textOf a → k ≡ issuesOf a → g ≡ chargedOf a → length t ≡ 65536 → length i ≡ 1024 → Within n k g t i
-  within {q} e h v x y w p r =
+  pub within : {n k g : ℕ} → n ≡ textOf a → k ≡ issuesOf a → g ≡ chargedOf a → Within n k g
+  within x y w =
       let b = bounds (call cells input) in
-      let s : firstRefusal cells 0 0 4096 (length input) ≡ 0 = omega arith in
-      let l : length input ≤ 4096 = passed cells 0 0 4096 (length input) s .within in
+      let l : length input ≤ 4096 = passed cells 0 0 4096 (length input) e .within in
       record {
         text = omega (arith, x ∙ v .counted, b .text);
         issues = omega (arith, y ∙ v .reported, b .issues);
         charge = omega (arith, w ∙ v .charged, b .charged);
-        text-long = p;
-        issues-long = r;
       }
 
 -- a cell table

@@ -5,11 +5,7 @@ use mathlib.Core.List.{List, [], _∷_}
 use lib.ListN.{replicate}
 use Rattle.questions.specs.Questions.{all, cellsHold}
 use Rattle.reading.specs.Call.{Lent, outcome}
-use Rattle.text.specs.Calls.{fronted, counts, escapeStart}
-
--- a slice of two counts and one of five
-reaches : (fronted (7 ∷ 8 ∷ []) (1 ∷ 2 ∷ 3 ∷ 4 ∷ []) ≡ 1 ∷ 2 ∷ []) × (fronted (5 ∷ 6 ∷ 7 ∷ 8 ∷ 9 ∷ []) (1 ∷ 2 ∷ 3 ∷ 4 ∷ []) ≡ 1 ∷ 2 ∷ 3 ∷ 4 ∷ 9 ∷ [])
-reaches = (refl, refl)
+use Rattle.text.specs.Calls.{counts}
 
 lent : List ℕ → ℕ → Lent
 lent input textRoom = record { cells = replicate 8836 0; initial = 0; width = 0; input = input; textRoom = textRoom; issueRoom = 4 }
@@ -18,8 +14,3 @@ lent input textRoom = record { cells = replicate 8836 0; initial = 0; width = 0;
 truncated : (counts (outcome (lent (0x24 ∷ 0xA2 ∷ []) 3)) ≡ 0 ∷ 3 ∷ 1 ∷ 0 ∷ []) × (counts (outcome (lent (0x24 ∷ 0xA2 ∷ []) 2)) ≡ 0 ∷ 0 ∷ 0 ∷ 0 ∷ [])
 unfolding counts outcome lent cellsHold all
 truncated = (refl, refl)
-
--- within an input of five bytes, at its end, past it, and too long
-starts : escapeStart 5 1 3 ∷ escapeStart 5 5 0 ∷ escapeStart 5 6 0 ∷ escapeStart 5 3 3 ∷ [] ≡ 1 ∷ 5 ∷ 0 ∷ 0 ∷ []
-unfolding escapeStart
-starts = refl

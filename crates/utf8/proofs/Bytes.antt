@@ -10,7 +10,7 @@ use borrow.Author.Tests.{lt-ltb, le-ltb}
 use lib.ListN.{length, getD, length-append, List·getD-append}
 use lib.Seq.{sets, getD-append-add}
 use Rattle.utf8.specs.Utf8.{utf8, utf8s, trailing}
-use Rattle.utf8.proofs.Stores.{sets-append}
+use Rattle.lent.proofs.Stores.{sets-append}
 
 -- ---- the rows of Table 3-6
 

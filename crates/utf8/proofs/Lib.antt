@@ -1,4 +1,3 @@
-pub mod Stores
 pub mod Bytes
 pub mod Reading
 pub mod Texts

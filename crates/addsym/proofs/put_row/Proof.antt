@@ -1,26 +1,13 @@
 -- `addsym::put_row` meets its contract. The invariant: the first i numbers of the row are written. Assumes nothing.
-use Prim.Native.Nat.{ℕ, suc, _+_, _-_, _≤_, _<_}
-use mathlib.Core.Path.{_≡_, refl, sym, ap, _∙_}
-use mathlib.Core.List.{List, [], _∷_, _++_}
-use native.Mathlib.Nat.{add-zero}
-use native.Mathlib.Numerals.{add-one}
+use Prim.Native.Nat.{_-_, _≤_}
+use mathlib.Core.Path.{_≡_, refl, _∙_}
 use native.Mathlib.Omega.{arith}
 use borrow.Author.Needs.{needs}
-use lib.ListN.{length, take, getD, set, length-set}
-use lib.Seq.{sets, take-all, take-suc, length-take-le}
+use lib.ListN.{length, take, length-set}
+use lib.Seq.{sets, take-all}
+use Rattle.lent.proofs.Stores.{sets-more}
 use Rattle.addsym.proofs.put_row.Statement.{statement}
 use Rattle.addsym.proofs.put_row.Tie as tie
-
-sets-append : (xs ys l : List ℕ) (n : ℕ) → sets l n (xs ++ ys) ≡ sets (sets l n xs) (n + length xs) ys
-sets-append [] ys l n = ap (λ (k : ℕ). sets l k ys) (sym (add-zero n))
-sets-append (a ∷ xs) ys l n =
-    let e : suc n + length xs ≡ n + suc (length xs) = omega arith in
-    sets-append xs ys (set l n a) (suc n) ∙ ap (λ (k : ℕ). sets (sets (set l n a) (suc n) xs) k ys) e
-
-more : (l s t : List ℕ) (n i : ℕ) → i < length s → t ≡ sets l n (take i s) → set t (n + i) (getD s i 0) ≡ sets l n (take (i + 1) s)
-more l s t n i h p =
-    let e : length (take i s) ≡ i = length-take-le i s (omega arith) in
-    rw (p, add-one, take-suc s i 0 h, sets-append) (rw e)
 
 abbrev Inv-loop : tie.InvT-loop
 Inv-loop all₀ at row i₀ all i = (i ≤ length row) × (all ≡ sets all₀ at (take i row)) × (length all ≡ length all₀)
@@ -54,7 +41,7 @@ loop-less c = search needs
 
 loop-again : tie.Need-loop-again Inv-loop μ-loop
 loop-again c =
-    let e = more _ _ _ _ _ (c .before .loop-test .taken) (c .before .before .loop .inv .1) in
+    let e = sets-more _ _ _ _ _ (c .before .loop-test .taken) (c .before .before .loop .inv .1) in
     (omega arith, e, simp length-set (c .before .before .loop .inv .2))
 
 same-length : tie.Need-same-length Inv-loop μ-loop

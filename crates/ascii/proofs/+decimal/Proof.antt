@@ -110,7 +110,10 @@ decimal-add-result-2 : (t : ℕ) → decimal-lts.Need-add-result-2 (
   decimal-below t,
   decimal.Post,
 ) (decimal-at t) decimal.Post
-decimal-add-result-2 t c = omega (arith, c .before .before .before .before .before .before .before .decimal .ensures .0 .next, decimal-few 19 (c .before .before .before .before .before .before .before .before .before .before .before .args .n / 10) (omega arith))
+decimal-add-result-2 t c =
+    let at-decimal = c .before .before .before .before .before .before .before in
+    let at-start = at-decimal .before .before .before .before in
+    omega (arith, at-decimal .decimal .ensures .0 .next, decimal-few 19 (at-start .args .n / 10) (omega arith))
 
 decimal-same-length-2 : (t : ℕ) → decimal-lts.Need-same-length-2 (
   digit-reads.Asked,
@@ -130,7 +133,15 @@ decimal-returns-2 : (t : ℕ) → decimal-lts.Need-returns-2 (
   decimal-below t,
   decimal.Post,
 ) (decimal-at t) decimal.Post
-decimal-returns-2 t c = (decimal-last (c .before .before .before .before .before .before .before .before .before .if1 .left) (c .before .before .before .before .before .before .before .decimal .ensures .0) (c .before .before .before .digit2 .ensures) (c .before .before .put2 .ensures), omega (arith, c .before .before .before .before .before .before .before .decimal .ensures .0 .next, decimal-few 18 (c .before .before .before .before .before .before .before .before .before .before .before .args .n / 10) (omega arith)))
+decimal-returns-2 t c =
+    let at-digit = c .before .before .before in
+    let at-decimal = at-digit .before .before .before .before in
+    let at-if = at-decimal .before .before in
+    let at-start = at-if .before .before in (
+      decimal-last (at-if .if1 .left) (at-decimal .decimal .ensures .0) (at-digit .digit2 .ensures) (c .before .before .put2 .ensures),
+      omega
+          (arith, at-decimal .decimal .ensures .0 .next, decimal-few 18 (at-start .args .n / 10) (omega arith)),
+    )
 
 pub +decimal-spec : {M : Type 1} → statement M
 +decimal-spec = close μ-decimal λ t. decimal-lts.spec (

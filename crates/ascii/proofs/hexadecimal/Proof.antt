@@ -5,7 +5,7 @@ use native.Mathlib.Omega.{arith}
 use borrow.Author.Needs.{needs}
 use lib.ListN.{length, drop}
 use Rattle.ascii.specs.Ascii.{hexadecimal}
-use Rattle.ascii.proofs.Writing.{Rest, rest-all, rest-none}
+use Rattle.lent.proofs.Putting.{Rest, rest-all, rest-none}
 use Rattle.ascii.proofs.Digits.{hexadecimal-turn, hexadecimal-none}
 use Rattle.ascii.proofs.hexadecimal.Statement.{statement}
 use Rattle.ascii.proofs.hexadecimal.Tie as tie
@@ -50,7 +50,18 @@ loop-less : tie.Need-loop-less Inv-loop μ-loop
 loop-less c = omega arith
 
 loop-again : tie.Need-loop-again Inv-loop μ-loop
-loop-again c = (c .before .before .put2 .kept .0 ∙ c .before .before .before .before .before .before .before .put .kept .0 ∙ c .before .before .before .before .before .before .before .before .before .before .before .before .loop .inv .0, omega arith, omega arith, hexadecimal-turn _ _ (c .before .before .before .before .before .before .before .before .before .before .before .before .loop .inv .3) (c .before .before .before .before .before .before .before .before .before .before .before .loop-test .taken) (c .before .before .before .before .before .before .before .before .digit .ensures) (c .before .before .before .digit2 .ensures) (c .before .before .before .before .before .before .before .put .ensures) (c .before .before .put2 .ensures))
+loop-again c =
+    let at-digit = c .before .before .before in
+    let at-put = at-digit .before .before .before .before in
+    let at-digit-1 = at-put .before in
+    let at-test = at-digit-1 .before .before .before in
+    let at-loop = at-test .before in (
+      c .before .before .put2 .kept .0 ∙ at-put .put .kept .0 ∙ at-loop .loop .inv .0,
+      omega arith,
+      omega arith,
+      hexadecimal-turn _ _ (at-loop .loop .inv .3) (at-test .loop-test .taken)
+          (at-digit-1 .digit .ensures) (at-digit .digit2 .ensures) (at-put .put .ensures) (c .before .before .put2 .ensures),
+    )
 
 same-length : tie.Need-same-length Inv-loop μ-loop
 same-length c = search needs

@@ -1,7 +1,7 @@
 -- `refused` meets its contract: words and numbers stand one after another. Assumes nothing.
 use native.Mathlib.Omega.{arith}
+use Rattle.lent.proofs.Putting.{put-then}
 use Rattle.ascii.specs.Ascii.{refusedLine}
-use Rattle.ascii.proofs.Writing.{put-then}
 use borrow.Author.Needs.{needs}
 use Rattle.ascii.proofs.refused.Statement.{statement}
 use Rattle.ascii.proofs.refused.Tie as tie
@@ -35,7 +35,16 @@ same-length c = search needs
 
 returns : tie.Need-returns
 unfolding refusedLine
-returns c = (put-then (put-then (put-then (put-then (c .before .before .before .before .before .before .before .before .before .before .before .before .before .before .before .before .before .before .before .before .word .ensures) (c .before .before .before .before .before .before .before .before .before .before .before .before .before .before .before .before .decimal .ensures .0)) (c .before .before .before .before .before .before .before .before .before .before .before .word2 .ensures)) (c .before .before .before .before .before .before .before .decimal2 .ensures .0)) (c .before .before .word3 .ensures), omega (arith, c .before .before .word3 .ensures, c .before .before .before .before .before .before .before .before .before .before .before .word2 .ensures, c .before .before .before .before .before .before .before .before .before .before .before .before .before .before .before .before .before .before .before .before .word .ensures, c .before .before .before .before .before .before .before .decimal2 .ensures .1, c .before .before .before .before .before .before .before .before .before .before .before .before .before .before .before .before .decimal .ensures .1))
+returns c =
+    let at-end = c .before .before in
+    let at-place = at-end .before .before .before .before .before in
+    let at-space = at-place .before .before .before .before in
+    let at-number = at-space .before .before .before .before .before in
+    let at-word = at-number .before .before .before .before in
+    let words = put-then (put-then (at-word .word .ensures) (at-number .decimal .ensures .0)) (at-space .word2 .ensures) in (
+      put-then (put-then words (at-place .decimal2 .ensures .0)) (at-end .word3 .ensures),
+      omega (arith, at-end .word3 .ensures, at-space .word2 .ensures, at-word .word .ensures, at-place .decimal2 .ensures .1, at-number .decimal .ensures .1),
+    )
 
 pub refused-spec : {M : Type 1} → statement M
 refused-spec =

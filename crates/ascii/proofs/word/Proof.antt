@@ -4,7 +4,7 @@ use mathlib.Core.Path.{_≡_, refl, _∙_}
 use native.Mathlib.Omega.{arith}
 use borrow.Author.Needs.{needs}
 use lib.ListN.{length, drop}
-use Rattle.ascii.proofs.Writing.{Rest, word-start, word-turn, word-end}
+use Rattle.lent.proofs.Putting.{Rest, run-start, run-turn, run-end}
 use Rattle.ascii.proofs.word.Statement.{statement}
 use Rattle.ascii.proofs.word.Tie as tie
 
@@ -15,7 +15,7 @@ abbrev μ-loop : tie.MeasureT-loop
 μ-loop out₀ at w i₀ out i = length w - i
 
 loop-holds : tie.Need-loop-holds Inv-loop μ-loop
-loop-holds c = (refl, omega arith, word-start _ _ _)
+loop-holds c = (refl, omega arith, run-start _ _ _)
 
 add-put : tie.Need-add-put Inv-loop μ-loop
 add-put c = omega arith
@@ -33,7 +33,10 @@ loop-less : tie.Need-loop-less Inv-loop μ-loop
 loop-less c = omega arith
 
 loop-again : tie.Need-loop-again Inv-loop μ-loop
-loop-again c = (c .before .before .put .kept .0 ∙ c .before .before .before .before .before .before .loop .inv .0, omega arith, word-turn _ _ (c .before .before .before .before .before .before .loop .inv .2) (c .before .before .before .before .before .loop-test .taken) (c .before .before .put .ensures))
+loop-again c =
+    let at-put = c .before .before in
+    let at-loop = at-put .before .before .before .before in
+    (at-put .put .kept .0 ∙ at-loop .loop .inv .0, omega arith, run-turn _ _ (at-loop .loop .inv .2) (at-put .before .before .before .loop-test .taken) (at-put .put .ensures))
 
 add-result : tie.Need-add-result Inv-loop μ-loop
 add-result c = omega arith
@@ -42,7 +45,7 @@ same-length : tie.Need-same-length Inv-loop μ-loop
 same-length c = search needs
 
 returns : tie.Need-returns Inv-loop μ-loop
-returns c = word-end _ _ (c .before .loop .inv .2) (c .loop-test .left)
+returns c = run-end _ _ (c .before .loop .inv .2) (c .loop-test .left)
 
 pub word-spec : {M : Type 1} → statement M
 word-spec =

@@ -51,8 +51,11 @@ same-length c = search needs
 returns-3 : tie.Need-returns-3
 unfolding builtin
 returns-3 c =
-    let t = c .before .before .before .before .before .before .before .before .before .before in
-    built (t .args .code) (c .before .before .before .before .before .before .before .before .if1 .left) (c .before .before .before .before .before .before .before .if2 .left) (t .pre) (c .before .before .put-body .ensures)
+    let at-body = c .before .before in
+    let at-above = at-body .before .before .before .before .before in
+    let at-below = at-above .before in
+    let at-start = at-below .before .before in
+    built (at-start .args .code) (at-below .if1 .left) (at-above .if2 .left) (at-start .pre) (at-body .put-body .ensures)
 
 pub default-macro-spec : {M : Type 1} → statement M
 default-macro-spec =

@@ -2,7 +2,8 @@
 use mathlib.Core.List.{[], _∷_}
 use native.Mathlib.Omega.{arith}
 use Rattle.reading.specs.Macros.{builtinOf}
-use Rattle.decode_macros.proofs.Laws.{parts, put-then}
+use Rattle.lent.proofs.Putting.{put-then}
+use Rattle.decode_macros.proofs.Laws.{parts}
 use borrow.Author.Needs.{needs}
 use Rattle.decode_macros.proofs.put_body.Statement.{statement}
 use Rattle.decode_macros.proofs.put_body.Tie as tie
@@ -41,10 +42,13 @@ same-length c = search needs
 returns : tie.Need-returns
 unfolding builtinOf
 returns c =
-    put-then (c .before .before .before .before .before .before .before .before .before .before .before .before .before .before .before .before .before .before .before .put-designation .ensures)
-    (put-then (c .before .before .before .before .before .before .before .before .before .before .before .before .before .before .before .put-designation2 .ensures)
-    (put-then (c .before .before .before .before .before .before .before .before .before .before .before .put-designation3 .ensures)
-    (put-then (c .before .before .before .before .before .before .before .put-designation4 .ensures) (c .before .before .put-bytes .ensures))))
+    let at-end = c .before .before in
+    let at-macro = at-end .before .before .before .before .before in
+    let at-g2 = at-macro .before .before .before .before in
+    let at-g1 = at-g2 .before .before .before .before in
+    let at-g0 = at-g1 .before .before .before .before in
+    put-then (at-g0 .put-designation .ensures)
+    (put-then (at-g1 .put-designation2 .ensures) (put-then (at-g2 .put-designation3 .ensures) (put-then (at-macro .put-designation4 .ensures) (at-end .put-bytes .ensures))))
 
 pub put-body-spec : {M : Type 1} → statement M
 put-body-spec =

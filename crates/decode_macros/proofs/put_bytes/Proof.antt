@@ -5,7 +5,7 @@ use native.Mathlib.Omega.{arith}
 use borrow.Author.Needs.{needs}
 use lib.ListN.{length, take, length-set}
 use lib.Seq.{sets, take-all}
-use Rattle.decode_macros.proofs.Laws.{put-more}
+use Rattle.lent.proofs.Stores.{sets-more}
 use Rattle.decode_macros.proofs.put_bytes.Statement.{statement}
 use Rattle.decode_macros.proofs.put_bytes.Tie as tie
 
@@ -35,7 +35,7 @@ loop-less c = search needs
 
 loop-again : tie.Need-loop-again Inv-loop μ-loop
 loop-again c =
-    let e = put-more _ _ _ _ _ (c .before .loop-test .taken) (c .before .before .loop .inv .1) in
+    let e = sets-more _ _ _ _ _ (c .before .loop-test .taken) (c .before .before .loop .inv .1) in
     (omega arith, e, simp length-set (c .before .before .loop .inv .2))
 
 add-result : tie.Need-add-result Inv-loop μ-loop

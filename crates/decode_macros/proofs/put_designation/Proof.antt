@@ -31,8 +31,12 @@ same-length c = search needs
 
 returns : tie.Need-returns
 returns c =
-    let e = holds-take (c .before .before .before .before .before .before .before .before .before .args .n % 4) (c .before .before .before .before .before .before .designation .ensures) (c .before .before .before .before .before .before .before .from-number .ensures) in
-    rw e at (c .before .before .put-bytes .ensures)
+    let at-bytes = c .before .before in
+    let at-designation = at-bytes .before .before .before .before in
+    let at-set = at-designation .before in
+    let at-start = at-set .before .before in
+    let e = holds-take (at-start .args .n % 4) (at-designation .designation .ensures) (at-set .from-number .ensures) in
+    rw e at (at-bytes .put-bytes .ensures)
 
 pub put-designation-spec : {M : Type 1} → statement M
 put-designation-spec =

@@ -1,11 +1,11 @@
--- `lines_in` meets its contract: each way out prints the lines of the definition at the tests that led there. Assumes nothing.
-use Prim.Native.Nat.{ℕ, _≤_}
+-- `lines_in` meets its contract: each way out prints the lines of the definition at the test that led there. Assumes nothing.
+use Prim.Native.Nat.{ℕ}
 use mathlib.Core.Path.{_≡_, sym, _∙_}
 use native.Mathlib.Omega.{arith}
 use lib.ListN.{length, length-replicate}
 use lib.Seq.{length-take-le}
-use Rattle.ascii.proofs.Writing.{printed-as}
-use Rattle.encoding_lines.proofs.Outcomes.{printed-refused, answered-as, lines-refused, lines-coded, length-within, gap-within}
+use Rattle.ascii.proofs.Writing.{printed-as, printed-refused}
+use Rattle.encoding_lines.proofs.Outcomes.{answered-as, lines-refused, lines-coded, Few, few-counts}
 use borrow.Author.Needs.{needs}
 use Rattle.encoding_lines.proofs.lines_in.Statement.{statement}
 use Rattle.encoding_lines.proofs.lines_in.Tie as tie
@@ -32,7 +32,14 @@ same-length-2 : tie.Need-same-length-2
 same-length-2 c = search needs
 
 returns : tie.Need-returns
-returns c = printed-refused (lines-refused _ _ (answered-as _ _ (c .before .before .before .before .before .before .before .before .before .before .before .before .before .before .before .before .before .args .store .now) (c .before .before .before .before .before .before .before .before .before .before .before .before .before .before .before .before .before .pre) (c .before .before .before .before .before .before .before .before .before .before .encode-with .ensures)) (c .before .before .before .before .before .before .number .ensures) (c .before .before .before .before .before .if1 .taken) (c .before .before .before .place .ensures)) (c .before .before .refused .ensures .0) (c .before .before .refused .ensures .1)
+returns c =
+    let at-refused = c .before .before in
+    let at-test = at-refused .before .before .before in
+    let at-call = at-test .before .before .before .before .before in
+    let at-start = at-call .before .before .before .before .before .before .before in
+    let answered = answered-as _ _ (at-start .args .store .now) (at-start .pre) (at-call .encode-with .ensures) in
+    let lines = lines-refused _ _ answered (at-test .before .number .ensures) (at-test .if1 .taken) (at-refused .before .place .ensures) in
+    printed-refused _ (omega arith) lines (at-refused .refused .ensures .0) (at-refused .refused .ensures .1)
 
 length-requires : tie.Need-length-requires
 length-requires c κs = search needs
@@ -40,24 +47,33 @@ length-requires c κs = search needs
 gap-requires : tie.Need-gap-requires
 gap-requires c κs = search needs
 
--- length and gap are within the buffer
-short : (c : tie.After-gap) → c .before .before .length .result ≤ 65529
-short c = length-within _ _ (answered-as _ _ (c .before .before .before .before .before .before .before .before .before .before .before .before .before .before .before .args .store .now) (c .before .before .before .before .before .before .before .before .before .before .before .before .before .before .before .pre) (c .before .before .before .before .before .before .before .before .encode-with .ensures)) (c .before .before .before .before .number .ensures) (c .before .before .before .if1 .left) (c .before .before .length .ensures)
-
-small : (c : tie.After-gap) → c .gap .result ≤ 65529
-small c = gap-within _ _ (answered-as _ _ (c .before .before .before .before .before .before .before .before .before .before .before .before .before .before .before .args .store .now) (c .before .before .before .before .before .before .before .before .before .before .before .before .before .before .before .pre) (c .before .before .before .before .before .before .before .before .encode-with .ensures)) (c .before .before .before .before .number .ensures) (c .before .before .before .if1 .left) (c .gap .ensures)
+-- length and gap are within the buffer, which keeps its length
+few : (c : tie.After-gap) → Few (c .before .before .length .result) (c .gap .result)
+few c =
+    let at-test = c .before .before .before in
+    let at-call = at-test .before .before .before .before .before in
+    let at-start = at-call .before .before .before .before .before .before .before in
+    let answered = answered-as _ _ (at-start .args .store .now) (at-start .pre) (at-call .encode-with .ensures) in
+    few-counts _ _ answered (at-test .before .number .ensures) (at-test .if1 .left) (c .before .before .length .ensures) (c .gap .ensures)
 
 long : (c : tie.After-gap) → length (c .before .before .before .before .before .before .before .before .encode-with .last .1 .1 .1 .1 .1 .0) ≡ 65529
-long c = c .before .before .before .before .before .before .before .before .encode-with .kept .1 .1 .1 .1 .1 .0 ∙ length-replicate {A = ℕ} 65529 0
+long c =
+    let at-call = c .before .before .before .before .before .before .before .before in
+    at-call .encode-with .kept .1 .1 .1 .1 .1 .0 ∙ length-replicate {A = ℕ} 65529 0
 
 array-share-prefix-coding : tie.Need-array-share-prefix-coding
-array-share-prefix-coding c = omega (arith, short c, long c)
+array-share-prefix-coding c = omega (arith, few c .length, long c)
 
 slice-aggregate-coded : tie.Need-slice-aggregate-coded
-slice-aggregate-coded c = sym (length-take-le _ _ (omega (arith, short (c .before), long (c .before))))
+slice-aggregate-coded c = sym (length-take-le _ _ (omega (arith, few (c .before) .length, long (c .before))))
 
 coded-requires : tie.Need-coded-requires
-coded-requires c κs = (short (c .before), small (c .before), omega (arith, short (c .before), length-take-le (c .before .before .before .length .result) (c .before .before .before .before .before .before .before .before .before .encode-with .last .1 .1 .1 .1 .1 .0) (omega (arith, short (c .before), long (c .before)))))
+coded-requires c κs =
+    let at-counts = c .before in
+    let w = few at-counts in
+    let at-call = at-counts .before .before .before .before .before .before .before .before in
+    let t = length-take-le (at-counts .before .before .length .result) (at-call .encode-with .last .1 .1 .1 .1 .1 .0) (omega (arith, w .length, long at-counts)) in
+    (w .length, w .gap, omega (arith, w .length, t))
 
 same-length-3 : tie.Need-same-length-3
 same-length-3 c = search needs
@@ -66,7 +82,16 @@ same-length-4 : tie.Need-same-length-4
 same-length-4 c = search needs
 
 returns-2 : tie.Need-returns-2
-returns-2 c = printed-as (lines-coded _ _ (answered-as _ _ (c .before .before .before .before .before .before .before .before .before .before .before .before .before .before .before .before .before .before .before .args .store .now) (c .before .before .before .before .before .before .before .before .before .before .before .before .before .before .before .before .before .before .before .pre) (c .before .before .before .before .before .before .before .before .before .before .before .before .encode-with .ensures)) (c .before .before .before .before .before .before .before .before .number .ensures) (c .before .before .before .before .before .before .before .if1 .left) (c .before .before .before .before .before .before .length .ensures) (c .before .before .before .before .gap .ensures)) (c .before .before .coded .ensures)
+returns-2 c =
+    let at-coded = c .before .before in
+    let at-counts = at-coded .before .before in
+    let at-test = at-counts .before .before .before in
+    let at-call = at-test .before .before .before .before .before in
+    let at-start = at-call .before .before .before .before .before .before .before in
+    let answered = answered-as _ _ (at-start .args .store .now) (at-start .pre) (at-call .encode-with .ensures) in
+    printed-as
+    (lines-coded _ _ answered (at-test .before .number .ensures) (at-test .if1 .left) (at-counts .before .before .length .ensures) (at-counts .gap .ensures))
+    (at-coded .coded .ensures)
 
 pub lines-in-spec : {M : Type 1} → statement M
 lines-in-spec =

@@ -9,10 +9,6 @@ use Rattle.decode.specs.Answers.{textOf}
 use Rattle.key.proofs.Calls.{keyed-as, refused-as}
 use Rattle.key.proofs.finish.Statement.{statement}
 use Rattle.key.proofs.finish.Tie as tie
-use Rattle.key.proofs.finish.Reads as reads
-use Rattle.key.proofs.finish.Lts as lts
-use Rattle.key.proofs.refuse.Reads as refuse-reads
-use Rattle.key.proofs.remove.Reads as remove-reads
 
 enum-known-r : tie.Need-enum-known-r
 enum-known-r c = search needs

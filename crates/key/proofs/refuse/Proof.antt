@@ -4,8 +4,6 @@ use mathlib.Core.Logic.{inl, inr}
 use borrow.Author.Tests.{ne-eqb}
 use Rattle.key.proofs.refuse.Statement.{statement}
 use Rattle.key.proofs.refuse.Tie as tie
-use Rattle.key.proofs.refuse.Reads as reads
-use Rattle.key.proofs.refuse.Lts as lts
 
 returns : tie.Need-returns
 returns c = rw (c .match .keys1)

@@ -1,4 +1,4 @@
--- `keyline::print` meets its contract. Assumes nothing.
+-- `print` meets its contract. Assumes nothing.
 use mathlib.Core.Path.{sym, ap, _∙_}
 use mathlib.Core.Bool.{Bool, true, false}
 use mathlib.Core.Option.{Option, none, some}
@@ -21,7 +21,11 @@ returns : tie.Need-returns
 returns c = malformed _ _ _ (c .before .before .before .trimmed .ensures) (sym (c .before .is-line .ensures) ∙ not-true _ (c .if1 .taken))
 
 print-line-requires : tie.Need-print-line-requires
-print-line-requires c κs = ((sym (c .before .before .before .is-line .ensures) ∙ not-false _ (c .before .before .if1 .left), c .before .before .before .before .tab-at .ensures), c .before .before .before .before .before .before .before .before .before .before .pre)
+print-line-requires c κs =
+    let at-is-line = c .before .before .before in
+    let at-tab-at = at-is-line .before in
+    let at-start = at-tab-at .before .before .before .before .before .before in
+    ((sym (at-is-line .is-line .ensures) ∙ not-false _ (c .before .before .if1 .left), at-tab-at .tab-at .ensures), at-start .pre)
 
 same-length : tie.Need-same-length
 same-length c = search needs
@@ -30,7 +34,15 @@ same-length-2 : tie.Need-same-length-2
 same-length-2 c = search needs
 
 returns-2 : tie.Need-returns-2
-returns-2 c = (c .before .before .before .before .print-line .ensures .0, well-formed _ _ _ (c .before .before .before .before .before .before .before .before .before .before .trimmed .ensures) (sym (c .before .before .before .before .before .before .before .before .is-line .ensures) ∙ not-false _ (c .before .before .before .before .before .before .before .if1 .left)) ∙ c .before .before .before .before .print-line .ensures .1)
+returns-2 c =
+    let at-print-line = c .before .before .before .before in
+    let at-if = at-print-line .before .before .before in
+    let at-is-line = at-if .before in
+    let at-trimmed = at-is-line .before .before in (
+      at-print-line .print-line .ensures .0,
+      well-formed _ _ _ (at-trimmed .trimmed .ensures)
+          (sym (at-is-line .is-line .ensures) ∙ not-false _ (at-if .if1 .left)) ∙ at-print-line .print-line .ensures .1,
+    )
 
 pub print-spec : {M : Type 1} → statement M
 print-spec =

@@ -1,4 +1,4 @@
--- `keyline::room_for` meets its contract. Assumes nothing.
+-- `room_for` meets its contract. Assumes nothing.
 use native.Mathlib.Omega.{arith}
 use borrow.Author.Needs.{needs}
 use Rattle.keys_lines.proofs.Writing.{room-less, room-most}

@@ -1,4 +1,4 @@
--- `keyline::title_key` meets its contract. Assumes nothing.
+-- `title_key` meets its contract. Assumes nothing.
 use borrow.Author.Needs.{needs}
 use Rattle.keys_lines.proofs.Writing.{passes}
 use Rattle.keys_lines.proofs.title_key.Statement.{statement}

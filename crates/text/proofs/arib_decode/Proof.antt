@@ -1,5 +1,6 @@
 -- `arib_decode` meets its contract: the answer is that of `decode_with`, reported. Assumes nothing.
 use Rattle.text.proofs.Counts.{decodes}
+use Rattle.decode.specs.Answers.{lent}
 use borrow.Author.Needs.{needs}
 use Rattle.text.proofs.arib_decode.Statement.{statement}
 use Rattle.text.proofs.arib_decode.Tie as tie
@@ -7,8 +8,26 @@ use Rattle.text.proofs.arib_decode.Tie as tie
 decode-with-requires : tie.Need-decode-with-requires
 decode-with-requires c κs = search needs
 
+text-requires : tie.Need-text-requires
+text-requires c κs = search needs
+
+issues-requires : tie.Need-issues-requires
+issues-requires c κs = search needs
+
+charged-requires : tie.Need-charged-requires
+charged-requires c κs = search needs
+
+place-requires : tie.Need-place-requires
+place-requires c κs = search needs
+
+slice-aggregate-report : tie.Need-slice-aggregate-report
+slice-aggregate-report c = search needs
+
 report-requires : tie.Need-report-requires
 report-requires c κs = search needs
+
+number-requires : tie.Need-number-requires
+number-requires c κs = search needs
 
 same-length : tie.Need-same-length
 same-length c = search needs
@@ -20,9 +39,29 @@ same-length-3 : tie.Need-same-length-3
 same-length-3 c = search needs
 
 returns : tie.Need-returns
-returns c = decodes (c .before .before .before .before .before .before .before .before .decode-with .ensures) (c .before .before .report .ensures)
+returns c =
+    let at-report = c .before .before .before in
+    let at-place = at-report .before .before in
+    let at-charged = at-place .before .before in
+    let at-call = at-charged .before .before .before .before .before .before .before in
+    let a = at-call .before .before .before .before .before .before .before .before .args in
+    let lends = lent (a .cells .now) (a .initial) (a .width) (a .input .now) (a .text .now) (a .issues .now) in
+    decodes {c = lends} (at-call .decode-with .ensures) (c .number .ensures) (at-place .place .ensures) (at-charged .before .before .text2 .ensures)
+    (at-charged .before .issues2 .ensures) (at-charged .charged .ensures) (at-report .report .ensures)
 
 pub arib-decode-spec : {M : Type 1} → statement M
 arib-decode-spec =
     tie.close
-    (tie.spec decode-with-requires report-requires same-length same-length-2 same-length-3 returns)
+    (tie.spec
+    decode-with-requires
+    text-requires
+    issues-requires
+    charged-requires
+    place-requires
+    slice-aggregate-report
+    report-requires
+    number-requires
+    same-length
+    same-length-2
+    same-length-3
+    returns)

@@ -10,17 +10,20 @@ unknown-escape-requires c κs = search needs
 escape-start-requires : tie.Need-escape-start-requires
 escape-start-requires c κs = search needs
 
-put-requires : tie.Need-put-requires
-put-requires c κs = search needs
+slice-aggregate-report : tie.Need-slice-aggregate-report
+slice-aggregate-report c = search needs
 
-put-requires-2 : tie.Need-put-requires-2
-put-requires-2 c κs = search needs
+report-requires : tie.Need-report-requires
+report-requires c κs = search needs
 
 same-length : tie.Need-same-length
 same-length c = search needs
 
 returns : tie.Need-returns
-returns c = escapes (c .before .before .before .before .before .before .before .before .before .unknown-escape .ensures) (c .before .before .before .before .before .before .before .escape-start .ensures) (c .before .before .before .before .before .before .put .ensures) (c .before .before .put2 .ensures)
+returns c =
+    let at-report = c .before .before in
+    let at-start = at-report .before .before .before in
+    escapes (at-start .before .unknown-escape .ensures) (at-start .escape-start .ensures) (at-report .report .ensures)
 
 pub arib-unknown-escape-spec : {M : Type 1} → statement M
 arib-unknown-escape-spec =
@@ -28,7 +31,7 @@ arib-unknown-escape-spec =
     (tie.spec
     unknown-escape-requires
     escape-start-requires
-    put-requires
-    put-requires-2
+    slice-aggregate-report
+    report-requires
     same-length
     returns)

@@ -2,7 +2,7 @@
 use mathlib.Core.List.{[], _∷_}
 use mathlib.Core.Path.{sym}
 use borrow.Author.Needs.{needs}
-use Rattle.utf8.proofs.Stores.{sets-out}
+use Rattle.lent.proofs.Stores.{sets-out}
 use Rattle.utf8.proofs.put1.Statement.{statement}
 use Rattle.utf8.proofs.put1.Tie as tie
 

@@ -5,7 +5,7 @@ use native.Mathlib.Numerals.{towards-suc}
 use native.Mathlib.Omega.{arith}
 use borrow.Author.Needs.{needs}
 use lib.ListN.{length-set}
-use Rattle.utf8.proofs.Stores.{sets-out, sets-cut}
+use Rattle.lent.proofs.Stores.{sets-out, sets-cut}
 use Rattle.utf8.proofs.put2.Statement.{statement}
 use Rattle.utf8.proofs.put2.Tie as tie
 

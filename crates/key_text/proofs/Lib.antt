@@ -1,0 +1,3 @@
+pub mod Characters
+pub mod Moving
+pub mod Laws

@@ -1,0 +1,3 @@
+pub mod KeyText
+pub mod Contracts
+pub mod Laws
