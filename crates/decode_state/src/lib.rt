@@ -37,28 +37,3 @@ pub struct Far {
     pub at: usize,
     pub core: Core,
 }
-
-/// Where a run of steps that concern no macro stops.
-pub enum Stop {
-    /// Nowhere before the body's end.
-    End,
-    /// At MACRO.
-    Macro,
-    /// At a character of the macro set, in this code element.
-    Char(usize),
-    /// At a single shift with a character of the macro set behind it, in this code element.
-    Shifted(usize),
-}
-
-/// After such a run.
-pub struct Stretched {
-    pub at: usize,
-    pub stop: Stop,
-    pub core: Core,
-}
-
-/// After a step outside every body, where macros are defined.
-pub struct Outer {
-    pub used: usize,
-    pub decoder: Decoder,
-}

@@ -19,10 +19,10 @@ module _ (t : ℕ) where
       (omega (arith, entry .pre .0), entry .pre .1)
 
   same-length : lts.Need-same-length claims (char1-at t) char1.Post
-  same-length c = search needs
+  same-length c = c .before .before .before .before .run-macro .kept .1 .1 .1 .1 .1 .1 .1 .0
 
   same-length-2 : lts.Need-same-length-2 claims (char1-at t) char1.Post
-  same-length-2 c = search needs
+  same-length-2 c = c .before .before .before .before .run-macro .kept .1 .1 .1 .1 .1 .1 .1 .1 .0
 
   returns : lts.Need-returns claims (char1-at t) char1.Post
   returns c =

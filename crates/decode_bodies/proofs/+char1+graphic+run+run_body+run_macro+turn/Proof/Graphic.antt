@@ -22,10 +22,10 @@ module _ (t : ℕ) where
       (omega (arith, entry .pre .0), (entry .pre .1 .0, omega arith))
 
   same-length : lts.Need-same-length claims (graphic-at t) graphic.Post
-  same-length c = search needs
+  same-length c = c .before .before .before .before .char1 .kept .1 .1 .1 .1 .1 .1 .1 .0
 
   same-length-2 : lts.Need-same-length-2 claims (graphic-at t) graphic.Post
-  same-length-2 c = search needs
+  same-length-2 c = c .before .before .before .before .char1 .kept .1 .1 .1 .1 .1 .1 .1 .1 .0
 
   returns : lts.Need-returns claims (graphic-at t) graphic.Post
   returns c =

@@ -23,7 +23,7 @@ module _ (t : ℕ) where
       ready-good (entry .pre .1 .0 .ready)
 
   same-length : lts.Need-same-length claims (run-body-at t) run-body.Post
-  same-length c = search needs
+  same-length c = c .before .before .report .kept .1 .1 .1 .0
 
   returns : lts.Need-returns claims (run-body-at t) run-body.Post
   returns c =
@@ -56,7 +56,7 @@ module _ (t : ℕ) where
       ready-good (entry .pre .1 .0 .ready)
 
   same-length-2 : lts.Need-same-length-2 claims (run-body-at t) run-body.Post
-  same-length-2 c = search needs
+  same-length-2 c = c .before .before .report2 .kept .1 .1 .1 .0
 
   returns-2 : lts.Need-returns-2 claims (run-body-at t) run-body.Post
   returns-2 c =
@@ -93,10 +93,10 @@ module _ (t : ℕ) where
       )
 
   same-length-3 : lts.Need-same-length-3 claims (run-body-at t) run-body.Post
-  same-length-3 c = search needs
+  same-length-3 c = c .before .before .before .before .run .kept .1 .1 .1 .1 .1 .1 .1 .0
 
   same-length-4 : lts.Need-same-length-4 claims (run-body-at t) run-body.Post
-  same-length-4 c = search needs
+  same-length-4 c = c .before .before .before .before .run .kept .1 .1 .1 .1 .1 .1 .1 .1 .0
 
   returns-4 : lts.Need-returns-4 claims (run-body-at t) run-body.Post
   returns-4 c =

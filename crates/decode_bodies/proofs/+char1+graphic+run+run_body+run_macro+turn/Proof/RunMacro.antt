@@ -80,10 +80,10 @@ module _ (t : ℕ) where
       )
 
   same-length : lts.Need-same-length claims (run-macro-at t) run-macro.Post
-  same-length c = search needs
+  same-length c = c .before .before .before .before .run-body .kept .1 .1 .1 .1 .1 .1 .1 .0
 
   same-length-2 : lts.Need-same-length-2 claims (run-macro-at t) run-macro.Post
-  same-length-2 c = search needs
+  same-length-2 c = c .before .before .before .before .run-body .kept .1 .1 .1 .1 .1 .1 .1 .1 .0
 
   returns : lts.Need-returns claims (run-macro-at t) run-macro.Post
   returns c =
@@ -126,10 +126,10 @@ module _ (t : ℕ) where
   report-requires c κs = ready-good (c .before .before .before .before .before .before .before .before .before .before .before .pre .1 .0 .ready)
 
   same-length-3 : lts.Need-same-length-3 claims (run-macro-at t) run-macro.Post
-  same-length-3 c = search needs
+  same-length-3 c = c .before .before .before .before .run-body2 .kept .1 .1 .1 .1 .1 .1 .1 .0
 
   same-length-4 : lts.Need-same-length-4 claims (run-macro-at t) run-macro.Post
-  same-length-4 c = search needs
+  same-length-4 c = c .before .before .before .before .run-body2 .kept .1 .1 .1 .1 .1 .1 .1 .1 .0
 
   returns-2 : lts.Need-returns-2 claims (run-macro-at t) run-macro.Post
   returns-2 c =
@@ -145,7 +145,7 @@ module _ (t : ℕ) where
       ran-as (λ g y s h. macro-built-in g _ _ _ _ s (ap at-code (h .starts) ∙ none) test ∙ rw (← built .has test)) (at-call .run-body2 .ensures)
 
   same-length-5 : lts.Need-same-length-5 claims (run-macro-at t) run-macro.Post
-  same-length-5 c = search needs
+  same-length-5 c = c .before .before .report .kept .1 .1 .1 .0
 
   returns-3 : lts.Need-returns-3 claims (run-macro-at t) run-macro.Post
   returns-3 c =

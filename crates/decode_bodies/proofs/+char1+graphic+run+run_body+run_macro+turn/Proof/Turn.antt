@@ -63,10 +63,10 @@ module _ (t : ℕ) where
   enum-told-4 c = search needs
 
   same-length : lts.Need-same-length claims (turn-at t) turn.Post
-  same-length c = search needs
+  same-length c = c .before .before .before .before .graphic .kept .1 .1 .1 .1 .1 .1 .1 .1 .0
 
   same-length-2 : lts.Need-same-length-2 claims (turn-at t) turn.Post
-  same-length-2 c = search needs
+  same-length-2 c = c .before .before .before .before .graphic .kept .1 .1 .1 .1 .1 .1 .1 .1 .1 .0
 
   returns : lts.Need-returns claims (turn-at t) turn.Post
   returns c =
@@ -77,10 +77,10 @@ module _ (t : ℕ) where
       step-as (λ g s k. step-char g _ _ _ _ _ _ s _ _ (k .gl) (k .gr) (h .char)) (at-call .graphic .ensures _ (h .macros))
 
   same-length-3 : lts.Need-same-length-3 claims (turn-at t) turn.Post
-  same-length-3 c = search needs
+  same-length-3 c = c .before .before .before .before .before .before .graphic2 .kept .1 .1 .1 .1 .1 .1 .1 .1 .0
 
   same-length-4 : lts.Need-same-length-4 claims (turn-at t) turn.Post
-  same-length-4 c = search needs
+  same-length-4 c = c .before .before .before .before .before .before .graphic2 .kept .1 .1 .1 .1 .1 .1 .1 .1 .1 .0
 
   returns-2 : lts.Need-returns-2 claims (turn-at t) turn.Post
   returns-2 c =
@@ -92,7 +92,7 @@ module _ (t : ℕ) where
       (shift-step (at-call .graphic2 .ensures _ (h .macros)))
 
   same-length-5 : lts.Need-same-length-5 claims (turn-at t) turn.Post
-  same-length-5 c = search needs
+  same-length-5 c = c .before .before .macro-cmd .kept .1 .1 .1 .1 .0
 
   returns-3 : lts.Need-returns-3 claims (turn-at t) turn.Post
   returns-3 c =
