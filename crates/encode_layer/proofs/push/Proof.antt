@@ -1,7 +1,8 @@
+-- `push` meets its contract: by where the index says that the state stands. Assumes nothing.
 use mathlib.Core.Path.{refl}
 use mathlib.Core.Logic.{⊎-elim}
 use native.Mathlib.Omega.{arith}
-use Rattle.encode_layer.specs.Entries.{entry}
+use Rattle.encode_layer.specs.Layer.{Sound}
 use Rattle.encode_layer.proofs.Standing.{full, stays, replaces, overflows, adds}
 use borrow.Author.Needs.{needs}
 use Rattle.encode_layer.proofs.push.Statement.{statement}
@@ -12,9 +13,15 @@ use Rattle.encode_layer.proofs.put_node.Reads as put-node-reads
 
 returns : tie.Need-returns
 returns c =
-    let a = c .before .before .before .args in
+    let start = c .before .before .before in
+    let area = start .args .area in
+    let node = start .args .node in
     λ cs most h.
-    full cs (a .from) (a .cap) (a .back) most (a .store .now) (a .index .now) (a .count) (entry (a .state) (a .cost) (a .link) (a .back)) (c .before .before .before .pre .0 .store) (record { proper = c .before .before .before .pre .1; cheap = h; linked = refl }) (c .if1 .taken)
+    let sound : Sound (node .back) most node = record { proper = start .pre .1; cheap = h; linked = refl } in
+    full cs (area .from) (area .cap) (node .back) most (start .args .store .now) (start .args .index .now) (start .args .count) node (start .pre .0 .store) sound (c .if1 .taken)
+
+cast-key : tie.Need-cast-key
+cast-key c = search needs
 
 mul-place : tie.Need-mul-place
 mul-place c = search needs
@@ -23,7 +30,7 @@ slice-read-place : tie.Need-slice-read-place
 slice-read-place c = search needs
 
 cast-place : tie.Need-cast-place
-cast-place c = omega (arith, c .slice-known3 .given (c .before .before .before .before .args .state))
+cast-place c = omega (arith, c .slice-known3 .given (c .before .before .before .before .before .args .node .state))
 
 add-at : tie.Need-add-at
 add-at c = search needs
@@ -57,24 +64,36 @@ same-length c = search needs
 
 returns-2 : tie.Need-returns-2
 returns-2 c =
-    let a = c .before .before .before .before .before .before .before .before .before .before .before .before .before .args in
+    let start = c .before .before .before .before .before .before .before .before .before .before .before .before .before .before .before .before in
+    let area = start .args .area in
+    let node = start .args .node in
     λ cs most h.
-    replaces cs (a .from) (a .cap) (a .back) most (a .store .now) (a .index .now) (a .count) (entry (a .state) (a .cost) (a .link) (a .back)) (c .before .before .before .before .before .before .before .before .before .before .before .before .before .pre .0 .store) (record { proper = c .before .before .before .before .before .before .before .before .before .before .before .before .before .pre .1; cheap = h; linked = refl }) _ (c .before .before .before .before .before .before .before .before .before .before .if1 .left) refl (c .before .before .before .before .before .before .before .before .if2 .taken) (c .before .before .before .before .before .before .if3 .taken) _ (c .before .before .put-node .ensures) (c .before .before .before .before .if4 .taken)
+    let sound : Sound (node .back) most node = record { proper = start .pre .1; cheap = h; linked = refl } in
+    replaces cs (area .from) (area .cap) (node .back) most (start .args .store .now) (start .args .index .now) (start .args .count) node (start .pre .0 .store) sound _ (c .before .before .before .before .before .before .before .before .before .before .before .before .before .if1 .left) refl
+    (c .before .before .before .before .before .before .before .before .before .before .if2 .taken) (c .before .before .before .before .before .before .before .if3 .taken) _ (c .before .before .put-node .ensures) (c .before .before .before .before .if4 .taken)
 
 returns-3 : tie.Need-returns-3
 returns-3 c =
-    let a = c .before .before .before .before .before .before .before .before .before .args in
+    let start = c .before .before .before .before .before .before .before .before .before .before .before .before in
+    let area = start .args .area in
+    let node = start .args .node in
     λ cs most h.
-    stays cs (a .from) (a .cap) (a .back) most (a .store .now) (a .index .now) (a .count) (entry (a .state) (a .cost) (a .link) (a .back)) (c .before .before .before .before .before .before .before .before .before .pre .0 .store) (record { proper = c .before .before .before .before .before .before .before .before .before .pre .1; cheap = h; linked = refl }) _ (c .before .before .before .before .before .before .if1 .left) refl (c .before .before .before .before .if2 .taken) (c .before .before .if3 .taken) (c .if4 .left)
+    let sound : Sound (node .back) most node = record { proper = start .pre .1; cheap = h; linked = refl } in
+    stays cs (area .from) (area .cap) (node .back) most (start .args .store .now) (start .args .index .now) (start .args .count) node (start .pre .0 .store) sound _ (c .before .before .before .before .before .before .before .before .before .if1 .left) refl
+    (c .before .before .before .before .before .before .if2 .taken) (c .before .before .before .if3 .taken) (c .if4 .left)
 
 add-result : tie.Need-add-result
 add-result c = search needs
 
 returns-4 : tie.Need-returns-4
 returns-4 c =
-    let a = c .before .before .before .before .before .before .args in
+    let start = c .before .before .before .before .before .before .before in
+    let area = start .args .area in
+    let node = start .args .node in
     λ cs most h.
-    overflows cs (a .from) (a .cap) (a .back) most (a .store .now) (a .index .now) (a .count) (entry (a .state) (a .cost) (a .link) (a .back)) (c .before .before .before .before .before .before .pre .0 .store) (record { proper = c .before .before .before .before .before .before .pre .1; cheap = h; linked = refl }) _ (c .before .before .before .if1 .left) refl (⊎-elim (λ w. λ x. w .2 .left) (λ w. λ x. absurd (omega arith)) (c .before .if2 .came)) (c .if5 .taken)
+    let sound : Sound (node .back) most node = record { proper = start .pre .1; cheap = h; linked = refl } in
+    overflows cs (area .from) (area .cap) (node .back) most (start .args .store .now) (start .args .index .now) (start .args .count) node (start .pre .0 .store) sound _ (c .before .before .before .before .if1 .left) refl
+    (⊎-elim (λ w. λ x. w .3 .left) (λ w. λ x. absurd (omega arith)) (c .before .if2 .came)) (c .if5 .taken)
 
 cast-index : tie.Need-cast-index
 cast-index c = search needs
@@ -102,15 +121,20 @@ same-length-3 c = search needs
 
 returns-5 : tie.Need-returns-5
 returns-5 c =
-    let a = c .before .before .before .before .before .before .before .before .before .before .args in
+    let start = c .before .before .before .before .before .before .before .before .before .before .before in
+    let area = start .args .area in
+    let node = start .args .node in
     λ cs most h.
-    adds cs (a .from) (a .cap) (a .back) most (a .store .now) (a .index .now) (a .count) (entry (a .state) (a .cost) (a .link) (a .back)) (c .before .before .before .before .before .before .before .before .before .before .pre .0 .store) (record { proper = c .before .before .before .before .before .before .before .before .before .before .pre .1; cheap = h; linked = refl }) _ (c .before .before .before .before .before .before .before .if1 .left) refl (⊎-elim (λ w. λ x. w .2 .left) (λ w. λ x. absurd (omega arith)) (c .before .before .before .before .before .if2 .came)) _ _ (omega arith) (c .before .before .before .before .before .before .before .before .before .before .pre .0 .index) refl (c .before .before .put-node2 .ensures)
+    let sound : Sound (node .back) most node = record { proper = start .pre .1; cheap = h; linked = refl } in
+    adds cs (area .from) (area .cap) (node .back) most (start .args .store .now) (start .args .index .now) (start .args .count) node (start .pre .0 .store) sound _ (c .before .before .before .before .before .before .before .before .if1 .left) refl
+    (⊎-elim (λ w. λ x. w .3 .left) (λ w. λ x. absurd (omega arith)) (c .before .before .before .before .before .if2 .came)) _ _ (omega arith) (start .pre .0 .index) refl (c .before .before .put-node2 .ensures)
 
 pub push-spec : {M : Type 1} → statement M
 push-spec =
     tie.close
     (tie.spec
     returns
+    cast-key
     mul-place
     slice-read-place
     cast-place

@@ -1,39 +1,40 @@
+-- `by_candidate` meets its contract: a graphic candidate, or SP or APR. Assumes nothing.
+use Prim.Native.Nat.{_≤_}
 use native.Mathlib.Omega.{arith}
 use Rattle.encode_ways.proofs.Choosing.{few-bytes, as-plain, as-graphic}
 use borrow.Author.Needs.{needs}
 use Rattle.encode_ways.proofs.by_candidate.Statement.{statement}
 use Rattle.encode_ways.proofs.by_candidate.Tie as tie
-use Rattle.encode_ways.proofs.by_candidate.Reads as reads
-use Rattle.encode_ways.proofs.by_candidate.Lts as lts
-use Rattle.encode_layer.proofs.push.Reads as push-reads
-use Rattle.encode_ways.proofs.by_ways.Reads as by-ways-reads
-use Rattle.encode_ways.proofs.control_length.Reads as control-length-reads
-use Rattle.encode_ways.proofs.size_control.Reads as size-control-reads
-use Rattle.encode_ways.proofs.sized.Reads as sized-reads
-
-sized-requires : tie.Need-sized-requires
-sized-requires c κs = search needs
 
 size-control-requires : tie.Need-size-control-requires
 size-control-requires c κs = search needs
+
+sized-requires : tie.Need-sized-requires
+sized-requires c κs = search needs
 
 control-length-requires : tie.Need-control-length-requires
 control-length-requires c κs = search needs
 
 add-control : tie.Need-add-control
-add-control c = omega (arith, c .control-length .ensures, few-bytes (c .before .size-control .result))
+add-control c = omega (arith, c .before .control-length .ensures, few-bytes (c .before .before .before .size-control .result))
 
-mul-k : tie.Need-mul-k
-mul-k c = search needs
+mul-link : tie.Need-mul-link
+mul-link c = search needs
 
-add-k : tie.Need-add-k
-add-k c = search needs
+add-link : tie.Need-add-link
+add-link c = search needs
 
-add-by-ways : tie.Need-add-by-ways
-add-by-ways c = omega (arith, c .before .before .before .control-length .ensures, few-bytes (c .before .before .before .before .size-control .result))
+add-cost : tie.Need-add-cost
+add-cost c = omega (arith, c .before .before .before .before .before .control-length .ensures, few-bytes (c .before .before .before .before .before .before .before .size-control .result))
 
 by-ways-requires : tie.Need-by-ways-requires
-by-ways-requires c κs = (record { store = omega arith; index = omega arith; few = c .before .before .before .before .before .before .before .before .pre .0 .few }, c .before .before .before .before .before .sized .ensures .proper, record { cost-small = omega (arith, c .before .before .before .control-length .ensures, few-bytes (c .before .before .before .before .size-control .result)); link-small = omega (arith, c .before .before .before .before .size-control .ensures .small) }, c .before .before .if1 .taken)
+by-ways-requires c κs =
+    let few = few-bytes (c .before .before .before .before .before .before .before .before .before .size-control .result) in (
+      record { store = omega arith; index = omega arith; few = c .before .before .before .before .before .before .before .before .before .before .before .before .pre .0 .few },
+      c .before .before .before .before .before .before .before .before .sized .ensures .proper,
+      record { cost-small = omega (arith, c .before .before .before .before .before .before .before .control-length .ensures, few); link-small = omega (arith, c .before .before .before .before .before .before .before .before .before .size-control .ensures .small) },
+      c .before .before .before .if1 .taken,
+    )
 
 same-length : tie.Need-same-length
 same-length c = search needs
@@ -43,12 +44,19 @@ same-length-2 c = search needs
 
 returns : tie.Need-returns
 returns c =
-    let a = c .before .before .before .before .before .before .before .before .before .before .before .before .before .args in
+    let start = c .before .before .before .before .before .before .before .before .before .before .before .before .before .before .before .before .before in
+    let node = start .args .node in
+    let choice = start .args .choice in
+    let state = c .before .before .before .before .before .before .before .before .before .before .before .before .before .sized in
+    let control = c .before .before .before .before .before .before .before .before .before .before .before .before .before .before .size-control in
+    let len = c .before .before .before .before .before .before .before .before .before .before .before .before .control-length in
     λ cs k ks most n at m i h.
-    as-graphic cs ks n (a .a) (c .before .before .before .before .before .before .before .before .before .before .sized .result) (a .x) (a .size) (a .len) (a .cost) (a .link) (c .before .before .before .before .before .before .before .before .before .size-control .result) (c .before .before .before .before .before .before .before .before .control-length .result) (a .back) (c .before .before .before .before .before .before .before .before .before .before .before .before .before .pre .4) i (c .before .before .before .before .before .before .before .before .before .size-control .ensures) (c .before .before .before .before .before .before .before .before .control-length .ensures) (c .before .before .before .before .before .before .before .before .before .before .sized .ensures .is) k at m (c .before .before .before .before .before .before .before .if1 .taken) (λ t w. c .before .before .before .before .by-ways .ensures cs most t w (omega (arith, c .before .before .before .before .before .before .before .before .control-length .ensures, few-bytes (c .before .before .before .before .before .before .before .before .before .size-control .result))))
+    let few : len .result ≤ 1 = omega (arith, len .ensures, few-bytes (control .result)) in
+    as-graphic cs ks n (node .state) (state .result) (choice .set) (choice .size) (choice .len) (node .cost) (node .link) (control .result) (len .result) (node .back) (start .pre .4) i
+    (control .ensures) (len .ensures) (state .ensures .is) k at m (c .before .before .before .before .before .before .before .before .if1 .taken) (λ t w. c .before .before .before .before .by-ways .ensures cs most t w (omega (arith, few, h, start .pre .3)))
 
-add-push : tie.Need-add-push
-add-push c = omega (arith, c .before .before .before .control-length .ensures, few-bytes (c .before .before .before .before .size-control .result))
+add-t15 : tie.Need-add-t15
+add-t15 c = omega (arith, c .before .before .before .before .control-length .ensures, few-bytes (c .before .before .before .before .before .before .size-control .result))
 
 push-requires : tie.Need-push-requires
 push-requires c κs = search needs
@@ -61,26 +69,33 @@ same-length-4 c = search needs
 
 returns-2 : tie.Need-returns-2
 returns-2 c =
-    let a = c .before .before .before .before .before .before .before .before .before .before .before .before .before .args in
+    let start = c .before .before .before .before .before .before .before .before .before .before .before .before .before .before .before .before in
+    let node = start .args .node in
+    let choice = start .args .choice in
+    let state = c .before .before .before .before .before .before .before .before .before .before .before .before .sized in
+    let control = c .before .before .before .before .before .before .before .before .before .before .before .before .before .size-control in
+    let len = c .before .before .before .before .before .before .before .before .before .before .before .control-length in
     λ cs k ks most n at m i h.
-    as-plain cs ks n (a .a) (c .before .before .before .before .before .before .before .before .before .before .sized .result) (a .x) (a .size) (a .len) (a .cost) (a .link) (c .before .before .before .before .before .before .before .before .before .size-control .result) (c .before .before .before .before .before .before .before .before .control-length .result) (a .back) (c .before .before .before .before .before .before .before .before .before .before .before .before .before .pre .4) i (c .before .before .before .before .before .before .before .before .before .size-control .ensures) (c .before .before .before .before .before .before .before .before .control-length .ensures) (c .before .before .before .before .before .before .before .before .before .before .sized .ensures .is) k at m (c .before .before .before .before .before .before .before .if1 .left) (c .before .before .before .before .push .ensures cs most (omega (arith, c .before .before .before .before .before .before .before .before .control-length .ensures, few-bytes (c .before .before .before .before .before .before .before .before .before .size-control .result))))
+    let few : len .result ≤ 1 = omega (arith, len .ensures, few-bytes (control .result)) in
+    as-plain cs ks n (node .state) (state .result) (choice .set) (choice .size) (choice .len) (node .cost) (node .link) (control .result) (len .result) (node .back) (start .pre .4) i
+    (control .ensures) (len .ensures) (state .ensures .is) k at m (c .before .before .before .before .before .before .before .if1 .left) (c .before .before .before .before .push .ensures cs most (omega (arith, few, h)))
 
 pub by-candidate-spec : {M : Type 1} → statement M
 by-candidate-spec =
     tie.close
     (tie.spec
-    sized-requires
     size-control-requires
+    sized-requires
     control-length-requires
     add-control
-    mul-k
-    add-k
-    add-by-ways
+    mul-link
+    add-link
+    add-cost
     by-ways-requires
     same-length
     same-length-2
     returns
-    add-push
+    add-t15
     push-requires
     same-length-3
     same-length-4

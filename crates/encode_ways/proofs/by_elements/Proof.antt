@@ -1,41 +1,52 @@
-use mathlib.Core.Path.{_≡_, refl, _∙_}
-use mathlib.Core.List.{List, []}
+-- `by_elements` meets its contract: a code element more at each turn of the loop. Assumes nothing.
+use mathlib.Core.Path.{_≡_, refl, sym, ap, _∙_}
+use mathlib.Core.List.{List}
 use Prim.Native.Nat.{ℕ, _+_, _-_, _≤_}
 use native.Mathlib.Omega.{arith}
-use borrow.Author.Needs.{needs}
 use lib.ListN.{length}
 use Rattle.coding.specs.Candidates.{Cand}
 use Rattle.coding.specs.Search.{byWays}
 use Rattle.encode_states.specs.Packed.{setOf, unpack}
 use Rattle.encode_layer.specs.Layer.{bounds, Pushes}
 use Rattle.encode_ways.specs.Turn.{Turn, By, upTo}
-use Rattle.encode_ways.proofs.Chain.{none}
+use Rattle.encode_ways.proofs.Chain.{pushes-as}
 use Rattle.encode_ways.proofs.Reaching.{up-one, up-none}
+use borrow.Author.Needs.{needs}
 use Rattle.encode_ways.proofs.by_elements.Statement.{statement}
 use Rattle.encode_ways.proofs.by_elements.Tie as tie
-use Rattle.encode_ways.proofs.by_elements.Reads as reads
-use Rattle.encode_ways.proofs.by_elements.Lts as lts
-use Rattle.encode_states.proofs.gl.Reads as gl-reads
-use Rattle.encode_states.proofs.gr.Reads as gr-reads
-use Rattle.encode_ways.proofs.by_element.Reads as by-element-reads
 
 abbrev Inv-loop : tie.InvT-loop
-Inv-loop store₀ index₀ from cap count a x cost link back l r c₀ n₀ store index c n = (n ≤ 4) × (length store ≡ length store₀) × (length index ≡ length index₀) × ((cs : List Cand) (most : ℕ) (t : Turn) → By cs t x cost link → cost + 6 ≤ most → Pushes cs (bounds from cap back most) store₀ index₀ count store index c (byWays (t .base) (t .place) (t .pre) (t .code) (upTo (unpack a) (setOf x) n)))
+Inv-loop store₀ index₀ area count node x left right c₀ n₀ store index c n =
+    (n ≤ 4) × (length store ≡ length store₀) × (length index ≡ length index₀)
+    × ((cs : List Cand) (most : ℕ) (t : Turn) → By cs t x (node .cost) (node .link) → node .cost + 6 ≤ most
+    → Pushes cs (bounds (area .from) (area .cap) (node .back) most) store₀ index₀ count store index c (byWays (t .base) (t .place) (t .pre) (t .code) (upTo (unpack (node .state)) (setOf x) n)))
 
 abbrev μ-loop : tie.MeasureT-loop
-μ-loop store₀ index₀ from cap count a x cost link back l r c₀ n₀ store index c n = 4 - n
+μ-loop store₀ index₀ area count node x left right c₀ n₀ store index c n = 4 - n
 
 gl-requires : tie.Need-gl-requires Inv-loop μ-loop
-gl-requires c κs = search needs
+gl-requires c κs = omega arith
 
 gr-requires : tie.Need-gr-requires Inv-loop μ-loop
-gr-requires c κs = search needs
+gr-requires c κs = omega arith
 
 loop-holds : tie.Need-loop-holds Inv-loop μ-loop
-loop-holds c = (omega arith, refl, refl, λ cs most t w h. up-none cs (bounds (c .before .before .before .before .args .from) (c .before .before .before .before .args .cap) (c .before .before .before .before .args .back) most) (c .before .before .before .before .args .store .now) (c .before .before .before .before .args .index .now) (c .before .before .before .before .args .count) t (unpack (c .before .before .before .before .args .a)) (setOf (c .before .before .before .before .args .x)))
+loop-holds c =
+    let a = c .before .before .before .before .args in
+    (omega arith, refl, refl, λ cs most t w h. up-none cs (bounds (a .area .from) (a .area .cap) (a .node .back) most) (a .store .now) (a .index .now) (a .count) t (unpack (a .node .state)) (setOf (a .x)))
 
-by-element-requires : tie.Need-by-element-requires Inv-loop μ-loop
-by-element-requires c κs = (record { store = omega arith; index = omega arith; few = c .before .before .before .before .before .before .before .before .pre .0 .few }, c .before .before .before .before .before .before .before .before .pre .1, record { left = c .before .before .before .before .before .gl .ensures .is; right = c .before .before .before .before .gr .ensures .is }, c .before .before .before .before .before .before .before .before .pre .2, c .before .before .loop-test .taken, c .before .before .before .before .before .before .before .before .pre .3)
+designated-requires : tie.Need-designated-requires Inv-loop μ-loop
+designated-requires c κs = (c .before .before .before .before .before .before .pre .1, c .before .before .before .before .before .before .pre .2, c .loop-test .taken, c .before .before .before .before .before .before .pre .3)
+
+through-requires : tie.Need-through-requires Inv-loop μ-loop
+through-requires c κs =
+    let to = c .before .before .designated .ensures in (
+      record { store = omega arith; index = omega arith; few = c .before .before .before .before .before .before .before .before .before .pre .0 .few },
+      to .proper,
+      record { left = c .before .before .before .before .before .before .gl .ensures .is ∙ sym (to .left); right = c .before .before .before .before .before .gr .ensures .is ∙ sym (to .right) },
+      to .sized,
+      c .before .before .before .loop-test .taken,
+    )
 
 add-n : tie.Need-add-n Inv-loop μ-loop
 add-n c = omega arith
@@ -44,7 +55,21 @@ loop-less : tie.Need-loop-less Inv-loop μ-loop
 loop-less c = omega arith
 
 loop-again : tie.Need-loop-again Inv-loop μ-loop
-loop-again c = (omega arith, omega arith, omega arith, λ cs most t w h. up-one t (unpack (c .before .before .before .before .before .before .before .before .before .before .before .before .before .args .a)) (setOf (c .before .before .before .before .before .before .before .before .before .before .before .before .before .args .x)) (c .before .before .before .before .before .before .before .before .loop .n) (c .before .before .before .before .before .before .before .before .loop .inv .3 cs most t w h) (c .before .before .before .before .by-element .ensures cs most t w h))
+loop-again c =
+    let start = c .before .before .before .before .before .before .before .before .before .before .before .before .before .before in
+    let state = unpack (start .args .node .state) in
+    let x = setOf (start .args .x) in
+    let at = c .before .before .before .before .before .before .before .before .before .loop in
+    let to = c .before .before .before .before .before .before .before .designated .ensures in (
+      omega arith,
+      omega arith,
+      omega arith,
+      λ cs most t w h.
+          let way = to .way cs t w in
+          let pushed = c .before .before .before .before .through .ensures cs most t (way .before) (way .numbers) (omega (arith, to .few, h)) in
+          up-one t state x (at .n) (at .inv .3 cs most t w h)
+          (rw (to .back) at (pushes-as _ _ (ap (byWays (t .base) (t .place) (t .pre) (t .code)) (way .same)) pushed)),
+    )
 
 same-length : tie.Need-same-length Inv-loop μ-loop
 same-length c = c .before .loop .inv .1
@@ -64,7 +89,8 @@ by-elements-spec =
     gl-requires
     gr-requires
     loop-holds
-    by-element-requires
+    designated-requires
+    through-requires
     add-n
     loop-less
     loop-again

@@ -1,5 +1,6 @@
+-- `by_ways` meets its contract: by where the set is invoked. Assumes nothing.
 use mathlib.Core.Path.{_≡_, sym}
-use mathlib.Core.List.{List, [], _∷_}
+use mathlib.Core.List.{[], _∷_}
 use native.Mathlib.Omega.{arith}
 use Rattle.encode_states.specs.Packed.{unpack}
 use Rattle.encode_ways.proofs.Chain.{and, pushes-as, renamed, reached, stands, stands-right}
@@ -7,13 +8,6 @@ use Rattle.encode_ways.proofs.Reaching.{codes-at, through-none, set-bot
 use borrow.Author.Needs.{needs}
 use Rattle.encode_ways.proofs.by_ways.Statement.{statement}
 use Rattle.encode_ways.proofs.by_ways.Tie as tie
-use Rattle.encode_ways.proofs.by_ways.Reads as reads
-use Rattle.encode_ways.proofs.by_ways.Lts as lts
-use Rattle.encode_layer.proofs.push.Reads as push-reads
-use Rattle.encode_states.proofs.gl.Reads as gl-reads
-use Rattle.encode_states.proofs.gr.Reads as gr-reads
-use Rattle.encode_states.proofs.set_in.Reads as set-in-reads
-use Rattle.encode_ways.proofs.by_elements.Reads as by-elements-reads
 
 gl-requires : tie.Need-gl-requires
 gl-requires c κs = search needs
@@ -30,11 +24,11 @@ set-in-requires-2 c κs = search needs
 push-requires : tie.Need-push-requires
 push-requires c κs = search needs
 
-add-push : tie.Need-add-push
-add-push c = search needs
+in-gr-requires : tie.Need-in-gr-requires
+in-gr-requires c κs = search needs
 
 push-requires-2 : tie.Need-push-requires-2
-push-requires-2 c κs = search needs
+push-requires-2 c κs = (record { store = omega arith; index = omega arith; few = c .before .before .before .before .before .before .before .before .before .before .before .before .before .before .before .before .before .before .pre .0 .few }, rw (c .in-gr .ensures) (c .before .before .before .before .before .before .before .before .before .before .before .before .before .before .before .before .before .before .pre .1))
 
 same-length : tie.Need-same-length
 same-length c = search needs
@@ -44,15 +38,22 @@ same-length-2 c = search needs
 
 returns : tie.Need-returns
 returns c =
-    let a = c .before .before .before .before .before .before .before .before .before .before .before .before .before .before .before .before .before .before .before .before .before .before .args in
-    let b = unpack (a .a) in
-    let cl = codes-at (c .before .before .before .before .before .before .before .before .before .before .before .before .before .before .before .before .before .before .set-in .result) (c .before .before .before .before .before .before .before .before .before .before .before .before .before .before .before .before .before .before .before .gl .result) (b .gl) b (c .before .before .before .before .before .before .before .before .before .before .before .before .before .before .before .before .before .before .before .gl .ensures .is) (c .before .before .before .before .before .before .before .before .before .before .before .before .before .before .before .before .before .before .set-in .ensures) in
-    let cr = codes-at (c .before .before .before .before .before .before .before .before .before .before .before .before .before .before .before .before .set-in2 .result) (c .before .before .before .before .before .before .before .before .before .before .before .before .before .before .before .before .before .gr .result) (b .gr) b (c .before .before .before .before .before .before .before .before .before .before .before .before .before .before .before .before .before .gr .ensures .is) (c .before .before .before .before .before .before .before .before .before .before .before .before .before .before .before .before .set-in2 .ensures) in
+    let start = c .before .before .before .before .before .before .before .before .before .before .before .before .before .before .before .before .before .before .before .before .before .before .before in
+    let node = start .args .node in
+    let x = start .args .x in
+    let l = c .before .before .before .before .before .before .before .before .before .before .before .before .before .before .before .before .before .before .before .set-in in
+    let r = c .before .before .before .before .before .before .before .before .before .before .before .before .before .before .before .before .before .set-in2 in
+    let state = unpack (node .state) in
+    let cl = codes-at (l .result) (c .before .before .before .before .before .before .before .before .before .before .before .before .before .before .before .before .before .before .before .before .gl .result) (state .gl) state (c .before .before .before .before .before .before .before .before .before .before .before .before .before .before .before .before .before .before .before .before .gl .ensures .is) (l .ensures) in
+    let cr = codes-at (r .result) (c .before .before .before .before .before .before .before .before .before .before .before .before .before .before .before .before .before .before .gr .result) (state .gr) state (c .before .before .before .before .before .before .before .before .before .before .before .before .before .before .before .before .before .before .gr .ensures .is) (r .ensures) in
+    let b = unpack (node .state) in
     λ cs most t w h.
-    let v = through-none cs t (a .x) (a .cost) (a .link) w in
-    let p1 = renamed _ (reached t [] b 0) (stands cs t [] 0 (a .cost) (a .link) v (a .a) (a .back)) (c .before .before .before .before .before .before .before .before .before .before .before .before .push .ensures cs most (omega arith)) in
-    let p2 = renamed _ (reached t [] b 128) (stands-right cs t [] 0 (a .cost) (a .link) v (a .a) (a .back)) (c .before .before .before .before .push2 .ensures cs most (omega arith)) in
-    pushes-as _ _ (sym (set-both t b (a .x) (c .before .before .before .before .before .before .before .before .before .before .before .before .before .before .before .before .before .before .set-in .result) (c .before .before .before .before .before .before .before .before .before .before .before .before .before .before .before .before .set-in2 .result) cl cr (c .before .before .before .before .before .before .before .before .before .before .before .before .before .before .before .if1 .taken) (c .before .before .before .before .before .before .before .if2 .taken))) (and (_ ∷ []) (_ ∷ []) p1 p2)
+    let v = through-none cs t x (node .cost) (node .link) w in
+    let p1 = renamed _ (reached t [] b 0) (stands cs t [] 0 (node .cost) (node .link) v (node .state) (node .back)) (c .before .before .before .before .before .before .before .before .before .before .before .before .before .push .ensures cs most (omega arith)) in
+    let pushed = rw (c .before .before .before .before .before .in-gr .ensures) at (c .before .before .before .before .push2 .ensures cs most) in
+    let p2 = renamed _ (reached t [] b 128) (stands-right cs t [] 0 (node .cost) (node .link) v (node .state) (node .back)) (pushed (omega arith)) in
+    pushes-as _ _ (sym (set-both t b x (l .result) (r .result) cl cr (c .before .before .before .before .before .before .before .before .before .before .before .before .before .before .before .before .if1 .taken) (c .before .before .before .before .before .before .before .before .if2 .taken)))
+    (and (_ ∷ []) (_ ∷ []) p1 p2)
 
 same-length-3 : tie.Need-same-length-3
 same-length-3 c = search needs
@@ -62,20 +63,25 @@ same-length-4 c = search needs
 
 returns-2 : tie.Need-returns-2
 returns-2 c =
-    let a = c .before .before .before .before .before .before .before .before .before .before .before .before .before .before .before .args in
-    let b = unpack (a .a) in
-    let cl = codes-at (c .before .before .before .before .before .before .before .before .before .before .before .set-in .result) (c .before .before .before .before .before .before .before .before .before .before .before .before .gl .result) (b .gl) b (c .before .before .before .before .before .before .before .before .before .before .before .before .gl .ensures .is) (c .before .before .before .before .before .before .before .before .before .before .before .set-in .ensures) in
-    let cr = codes-at (c .before .before .before .before .before .before .before .before .before .set-in2 .result) (c .before .before .before .before .before .before .before .before .before .before .gr .result) (b .gr) b (c .before .before .before .before .before .before .before .before .before .before .gr .ensures .is) (c .before .before .before .before .before .before .before .before .before .set-in2 .ensures) in
+    let start = c .before .before .before .before .before .before .before .before .before .before .before .before .before .before .before in
+    let node = start .args .node in
+    let x = start .args .x in
+    let l = c .before .before .before .before .before .before .before .before .before .before .before .set-in in
+    let r = c .before .before .before .before .before .before .before .before .before .set-in2 in
+    let state = unpack (node .state) in
+    let cl = codes-at (l .result) (c .before .before .before .before .before .before .before .before .before .before .before .before .gl .result) (state .gl) state (c .before .before .before .before .before .before .before .before .before .before .before .before .gl .ensures .is) (l .ensures) in
+    let cr = codes-at (r .result) (c .before .before .before .before .before .before .before .before .before .before .gr .result) (state .gr) state (c .before .before .before .before .before .before .before .before .before .before .gr .ensures .is) (r .ensures) in
+    let b = unpack (node .state) in
     λ cs most t w h.
-    let v = through-none cs t (a .x) (a .cost) (a .link) w in
-    let p1 = renamed _ (reached t [] b 0) (stands cs t [] 0 (a .cost) (a .link) v (a .a) (a .back)) (c .before .before .before .before .before .push .ensures cs most (omega arith)) in
-    pushes-as _ _ (sym (set-left t b (a .x) (c .before .before .before .before .before .before .before .before .before .before .before .set-in .result) (c .before .before .before .before .before .before .before .before .before .set-in2 .result) cl cr (c .before .before .before .before .before .before .before .before .if1 .taken) (c .if2 .left))) p1
+    let v = through-none cs t x (node .cost) (node .link) w in
+    let p1 = renamed _ (reached t [] b 0) (stands cs t [] 0 (node .cost) (node .link) v (node .state) (node .back)) (c .before .before .before .before .before .push .ensures cs most (omega arith)) in
+    pushes-as _ _ (sym (set-left t b x (l .result) (r .result) cl cr (c .before .before .before .before .before .before .before .before .if1 .taken) (c .if2 .left))) p1
 
-add-push-2 : tie.Need-add-push-2
-add-push-2 c = search needs
+in-gr-requires-2 : tie.Need-in-gr-requires-2
+in-gr-requires-2 c κs = search needs
 
 push-requires-3 : tie.Need-push-requires-3
-push-requires-3 c κs = search needs
+push-requires-3 c κs = (record { store = omega arith; index = omega arith; few = c .before .before .before .before .before .before .before .before .before .before .before .pre .0 .few }, rw (c .in-gr2 .ensures) (c .before .before .before .before .before .before .before .before .before .before .before .pre .1))
 
 same-length-5 : tie.Need-same-length-5
 same-length-5 c = search needs
@@ -85,14 +91,20 @@ same-length-6 c = search needs
 
 returns-3 : tie.Need-returns-3
 returns-3 c =
-    let a = c .before .before .before .before .before .before .before .before .before .before .before .before .before .before .before .args in
-    let b = unpack (a .a) in
-    let cl = codes-at (c .before .before .before .before .before .before .before .before .before .before .before .set-in .result) (c .before .before .before .before .before .before .before .before .before .before .before .before .gl .result) (b .gl) b (c .before .before .before .before .before .before .before .before .before .before .before .before .gl .ensures .is) (c .before .before .before .before .before .before .before .before .before .before .before .set-in .ensures) in
-    let cr = codes-at (c .before .before .before .before .before .before .before .before .before .set-in2 .result) (c .before .before .before .before .before .before .before .before .before .before .gr .result) (b .gr) b (c .before .before .before .before .before .before .before .before .before .before .gr .ensures .is) (c .before .before .before .before .before .before .before .before .before .set-in2 .ensures) in
+    let start = c .before .before .before .before .before .before .before .before .before .before .before .before .before .before .before .before in
+    let node = start .args .node in
+    let x = start .args .x in
+    let l = c .before .before .before .before .before .before .before .before .before .before .before .before .set-in in
+    let r = c .before .before .before .before .before .before .before .before .before .before .set-in2 in
+    let state = unpack (node .state) in
+    let cl = codes-at (l .result) (c .before .before .before .before .before .before .before .before .before .before .before .before .before .gl .result) (state .gl) state (c .before .before .before .before .before .before .before .before .before .before .before .before .before .gl .ensures .is) (l .ensures) in
+    let cr = codes-at (r .result) (c .before .before .before .before .before .before .before .before .before .before .before .gr .result) (state .gr) state (c .before .before .before .before .before .before .before .before .before .before .before .gr .ensures .is) (r .ensures) in
+    let b = unpack (node .state) in
     λ cs most t w h.
-    let v = through-none cs t (a .x) (a .cost) (a .link) w in
-    let p2 = renamed _ (reached t [] b 128) (stands-right cs t [] 0 (a .cost) (a .link) v (a .a) (a .back)) (c .before .before .before .before .push3 .ensures cs most (omega arith)) in
-    pushes-as _ _ (sym (set-right t b (a .x) (c .before .before .before .before .before .before .before .before .before .before .before .set-in .result) (c .before .before .before .before .before .before .before .before .before .set-in2 .result) cl cr (c .before .before .before .before .before .before .before .before .if1 .left) (c .before .before .before .before .before .before .before .if3 .taken))) p2
+    let v = through-none cs t x (node .cost) (node .link) w in
+    let pushed = rw (c .before .before .before .before .before .in-gr2 .ensures) at (c .before .before .before .before .push3 .ensures cs most) in
+    let p2 = renamed _ (reached t [] b 128) (stands-right cs t [] 0 (node .cost) (node .link) v (node .state) (node .back)) (pushed (omega arith)) in
+    pushes-as _ _ (sym (set-right t b x (l .result) (r .result) cl cr (c .before .before .before .before .before .before .before .before .before .if1 .left) (c .before .before .before .before .before .before .before .before .if3 .taken))) p2
 
 by-elements-requires : tie.Need-by-elements-requires
 by-elements-requires c κs = search needs
@@ -105,13 +117,18 @@ same-length-8 c = search needs
 
 returns-4 : tie.Need-returns-4
 returns-4 c =
-    let a = c .before .before .before .before .before .before .before .before .before .before .before .before .before .before .before .args in
-    let b = unpack (a .a) in
-    let cl = codes-at (c .before .before .before .before .before .before .before .before .before .before .before .set-in .result) (c .before .before .before .before .before .before .before .before .before .before .before .before .gl .result) (b .gl) b (c .before .before .before .before .before .before .before .before .before .before .before .before .gl .ensures .is) (c .before .before .before .before .before .before .before .before .before .before .before .set-in .ensures) in
-    let cr = codes-at (c .before .before .before .before .before .before .before .before .before .set-in2 .result) (c .before .before .before .before .before .before .before .before .before .before .gr .result) (b .gr) b (c .before .before .before .before .before .before .before .before .before .before .gr .ensures .is) (c .before .before .before .before .before .before .before .before .before .set-in2 .ensures) in
+    let start = c .before .before .before .before .before .before .before .before .before .before .before .before .before .before .before in
+    let node = start .args .node in
+    let x = start .args .x in
+    let l = c .before .before .before .before .before .before .before .before .before .before .before .set-in in
+    let r = c .before .before .before .before .before .before .before .before .before .set-in2 in
+    let state = unpack (node .state) in
+    let cl = codes-at (l .result) (c .before .before .before .before .before .before .before .before .before .before .before .before .gl .result) (state .gl) state (c .before .before .before .before .before .before .before .before .before .before .before .before .gl .ensures .is) (l .ensures) in
+    let cr = codes-at (r .result) (c .before .before .before .before .before .before .before .before .before .before .gr .result) (state .gr) state (c .before .before .before .before .before .before .before .before .before .before .gr .ensures .is) (r .ensures) in
+    let b = unpack (node .state) in
     λ cs most t w h.
-    let v = through-none cs t (a .x) (a .cost) (a .link) w in
-    pushes-as _ _ (sym (set-apart t b (a .x) (c .before .before .before .before .before .before .before .before .before .before .before .set-in .result) (c .before .before .before .before .before .before .before .before .before .set-in2 .result) cl cr (c .before .before .before .before .before .before .before .before .if1 .left) (c .before .before .before .before .before .before .before .if3 .left))) (c .before .before .before .before .by-elements .ensures cs most t w h)
+    pushes-as _ _ (sym (set-apart t b x (l .result) (r .result) cl cr (c .before .before .before .before .before .before .before .before .if1 .left) (c .before .before .before .before .before .before .before .if3 .left)))
+    (c .before .before .before .before .by-elements .ensures cs most t w h)
 
 pub by-ways-spec : {M : Type 1} → statement M
 by-ways-spec =
@@ -122,7 +139,7 @@ by-ways-spec =
     gr-requires
     set-in-requires-2
     push-requires
-    add-push
+    in-gr-requires
     push-requires-2
     same-length
     same-length-2
@@ -130,7 +147,7 @@ by-ways-spec =
     same-length-3
     same-length-4
     returns-2
-    add-push-2
+    in-gr-requires-2
     push-requires-3
     same-length-5
     same-length-6

@@ -1,25 +1,21 @@
+-- `through` meets its contract: by where the code element is invoked. Assumes nothing.
 use mathlib.Core.Path.{_≡_, sym, _∙_}
-use mathlib.Core.List.{List, [], _∷_, _++_}
+use mathlib.Core.List.{[], _∷_}
 use native.Mathlib.Omega.{arith}
-use Rattle.coding.specs.State.{invokeGL, invokeGR, lockGL, lockGR, single}
 use Rattle.encode_states.specs.Packed.{unpack}
-use Rattle.encode_ways.proofs.Chain.{none, and, pushes-as, renamed, reached, locks, locks-right, shifts, stands, stands-right, in-both, in-left, in-right, by-one, by-two, by-three}
+use Rattle.encode_ways.proofs.Chain.{and, pushes-as, renamed, reached, stands, stands-right, in-both, in-left, in-right}
 use borrow.Author.Needs.{needs}
 use Rattle.encode_ways.proofs.through.Statement.{statement}
 use Rattle.encode_ways.proofs.through.Tie as tie
-use Rattle.encode_ways.proofs.through.Reads as reads
-use Rattle.encode_ways.proofs.through.Lts as lts
-use Rattle.encode_layer.proofs.push.Reads as push-reads
-use Rattle.encode_ways.proofs.by_shift.Reads as by-shift-reads
 
 push-requires : tie.Need-push-requires
 push-requires c κs = search needs
 
-add-push : tie.Need-add-push
-add-push c = search needs
+in-gr-requires : tie.Need-in-gr-requires
+in-gr-requires c κs = search needs
 
 push-requires-2 : tie.Need-push-requires-2
-push-requires-2 c κs = search needs
+push-requires-2 c κs = (record { store = omega arith; index = omega arith; few = c .before .before .before .before .before .before .before .before .before .before .before .before .before .before .before .before .pre .0 .few }, rw (c .in-gr .ensures) (c .before .before .before .before .before .before .before .before .before .before .before .before .before .before .before .before .pre .1))
 
 same-length : tie.Need-same-length
 same-length c = search needs
@@ -29,12 +25,16 @@ same-length-2 c = search needs
 
 returns : tie.Need-returns
 returns c =
-    let a = c .before .before .before .before .before .before .before .before .before .before .before .before .before .before .before .before .before .before .args in
+    let start = c .before .before .before .before .before .before .before .before .before .before .before .before .before .before .before .before .before .before .before .before .before in
+    let node = start .args .node in
+    let n = start .args .element .n in
+    let b = unpack (node .state) in
     λ cs most t p w h.
-    let b = unpack (a .a) in
-    let p1 = renamed _ (reached t p b 0) (stands cs t p (a .n) (a .cost) (a .link) w (a .a) (a .back)) (c .before .before .before .before .before .before .before .before .before .before .before .before .push .ensures cs most (omega arith)) in
-    let p2 = renamed _ (reached t p b 128) (stands-right cs t p (a .n) (a .cost) (a .link) w (a .a) (a .back)) (c .before .before .before .before .push2 .ensures cs most (omega arith)) in
-    pushes-as _ _ (sym (in-both t p b (a .n) (sym (c .before .before .before .before .before .before .before .before .before .before .before .before .before .before .before .before .before .before .pre .2 .left) ∙ c .before .before .before .before .before .before .before .before .before .before .before .before .before .before .before .if1 .taken) (sym (c .before .before .before .before .before .before .before .before .before .before .before .before .before .before .before .before .before .before .pre .2 .right) ∙ c .before .before .before .before .before .before .before .if2 .taken))) (and (_ ∷ []) (_ ∷ []) p1 p2)
+    let p1 = renamed _ (reached t p b 0) (stands cs t p n (node .cost) (node .link) w (node .state) (node .back)) (c .before .before .before .before .before .before .before .before .before .before .before .before .before .before .push .ensures cs most (omega arith)) in
+    let pushed = rw (c .before .before .before .before .before .in-gr .ensures) at (c .before .before .before .before .push2 .ensures cs most) in
+    let p2 = renamed _ (reached t p b 128) (stands-right cs t p n (node .cost) (node .link) w (node .state) (node .back)) (pushed (omega arith)) in
+    pushes-as _ _ (sym (in-both t p b n (sym (start .pre .2 .left) ∙ c .before .before .before .before .before .before .before .before .before .before .before .before .before .before .before .before .before .if1 .taken) (sym (start .pre .2 .right) ∙ c .before .before .before .before .before .before .before .before .if2 .taken)))
+    (and (_ ∷ []) (_ ∷ []) p1 p2)
 
 same-length-3 : tie.Need-same-length-3
 same-length-3 c = search needs
@@ -44,17 +44,19 @@ same-length-4 c = search needs
 
 returns-2 : tie.Need-returns-2
 returns-2 c =
-    let a = c .before .before .before .before .before .before .before .before .before .before .before .args in
+    let start = c .before .before .before .before .before .before .before .before .before .before .before .before .before in
+    let node = start .args .node in
+    let n = start .args .element .n in
+    let b = unpack (node .state) in
     λ cs most t p w h.
-    let b = unpack (a .a) in
-    let p1 = renamed _ (reached t p b 0) (stands cs t p (a .n) (a .cost) (a .link) w (a .a) (a .back)) (c .before .before .before .before .before .push .ensures cs most (omega arith)) in
-    pushes-as _ _ (sym (in-left t p b (a .n) (sym (c .before .before .before .before .before .before .before .before .before .before .before .pre .2 .left) ∙ c .before .before .before .before .before .before .before .before .if1 .taken) (λ e. c .if2 .left (c .before .before .before .before .before .before .before .before .before .before .before .pre .2 .right ∙ e)))) p1
+    let p1 = renamed _ (reached t p b 0) (stands cs t p n (node .cost) (node .link) w (node .state) (node .back)) (c .before .before .before .before .before .before .push .ensures cs most (omega arith)) in
+    pushes-as _ _ (sym (in-left t p b n (sym (start .pre .2 .left) ∙ c .before .before .before .before .before .before .before .before .before .if1 .taken) (λ e. c .if2 .left (start .pre .2 .right ∙ e)))) p1
 
-add-push-2 : tie.Need-add-push-2
-add-push-2 c = search needs
+in-gr-requires-2 : tie.Need-in-gr-requires-2
+in-gr-requires-2 c κs = search needs
 
 push-requires-3 : tie.Need-push-requires-3
-push-requires-3 c κs = search needs
+push-requires-3 c κs = (record { store = omega arith; index = omega arith; few = c .before .before .before .before .before .before .before .before .before .pre .0 .few }, rw (c .in-gr2 .ensures) (c .before .before .before .before .before .before .before .before .before .pre .1))
 
 same-length-5 : tie.Need-same-length-5
 same-length-5 c = search needs
@@ -64,11 +66,14 @@ same-length-6 c = search needs
 
 returns-3 : tie.Need-returns-3
 returns-3 c =
-    let a = c .before .before .before .before .before .before .before .before .before .before .before .args in
+    let start = c .before .before .before .before .before .before .before .before .before .before .before .before .before .before in
+    let node = start .args .node in
+    let n = start .args .element .n in
+    let b = unpack (node .state) in
     λ cs most t p w h.
-    let b = unpack (a .a) in
-    let p2 = renamed _ (reached t p b 128) (stands-right cs t p (a .n) (a .cost) (a .link) w (a .a) (a .back)) (c .before .before .before .before .push3 .ensures cs most (omega arith)) in
-    pushes-as _ _ (sym (in-right t p b (a .n) (λ e. c .before .before .before .before .before .before .before .before .if1 .left (c .before .before .before .before .before .before .before .before .before .before .before .pre .2 .left ∙ e)) (sym (c .before .before .before .before .before .before .before .before .before .before .before .pre .2 .right) ∙ c .before .before .before .before .before .before .before .if3 .taken))) p2
+    let pushed = rw (c .before .before .before .before .before .in-gr2 .ensures) at (c .before .before .before .before .push3 .ensures cs most) in
+    let p2 = renamed _ (reached t p b 128) (stands-right cs t p n (node .cost) (node .link) w (node .state) (node .back)) (pushed (omega arith)) in
+    pushes-as _ _ (sym (in-right t p b n (λ e. c .before .before .before .before .before .before .before .before .before .before .if1 .left (start .pre .2 .left ∙ e)) (sym (start .pre .2 .right) ∙ c .before .before .before .before .before .before .before .before .if3 .taken))) p2
 
 by-shift-requires : tie.Need-by-shift-requires
 by-shift-requires c κs = search needs
@@ -87,7 +92,7 @@ through-spec =
     tie.close
     (tie.spec
     push-requires
-    add-push
+    in-gr-requires
     push-requires-2
     same-length
     same-length-2
@@ -95,7 +100,7 @@ through-spec =
     same-length-3
     same-length-4
     returns-2
-    add-push-2
+    in-gr-requires-2
     push-requires-3
     same-length-5
     same-length-6
