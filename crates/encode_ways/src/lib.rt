@@ -17,8 +17,8 @@ ghost use Rattle.encode_layer.specs.Entries.{entry};
 ghost use Rattle.encode_layer.specs.Layer.{bounds, HasRoom, Changes, Pushes};
 ghost use Rattle.encode_ways.specs.Turn.{Apart, Invoked, Sized, Small, Turn, Through, By, Designated, upTo, Control, Is, Matches, lengthOf, MatchAll};
 
-// What the invocations add to a link: as the code element stands in GR, by a locking shift to GL, by
-// one to GR, by a single shift.
+/// What the invocations add to a link: as the code element stands in GR, by a locking shift to GL, by
+/// one to GR, by a single shift.
 const IN_GR: u32 = 67108864;
 
 const TO_GL: u32 = 134217728;
@@ -27,7 +27,7 @@ const TO_GR: u32 = 201326592;
 
 const SINGLE: u32 = 268435456;
 
-// What a candidate adds for each before it, MSZ, and NSZ twice; a code element for each before it; a designation.
+/// What a candidate adds for each before it, MSZ, and NSZ twice; a code element for each before it; a designation.
 const CANDIDATE: u32 = 131072;
 
 const CONTROL: u32 = 2097152;

@@ -10,11 +10,11 @@ use keys_lines::Printed;
 use libc::STDIN_FILENO;
 use libc::STDOUT_FILENO;
 
-// How many printed bytes may wait before they are written.
+/// How many printed bytes may wait before they are written.
 const WAITING: usize = 65536;
 
-// Where the reading stands: lines ended, those of them that were malformed, bytes of the line that is being read (one
-// more than the longest where it is longer), bytes printed and not yet written, and whether nothing failed.
+/// Where the reading stands: lines ended, those of them that were malformed, bytes of the line that is being read (one
+/// more than the longest where it is longer), bytes printed and not yet written, and whether nothing failed.
 pub struct Progress {
     pub lines: u64,
     pub malformed: u64,
@@ -23,7 +23,7 @@ pub struct Progress {
     pub good: bool,
 }
 
-// Writes the bytes that wait, unless something failed before.
+/// Writes the bytes that wait, unless something failed before.
 fn write_waiting(out: &[u8], used: usize, good: bool) -> bool
     requires { ⌜ used ≤ length (now out) ⌝ }
 {
@@ -37,7 +37,7 @@ fn write_waiting(out: &[u8], used: usize, good: bool) -> bool
     false
 }
 
-// Says that a line is malformed, behind what waits.
+/// Says that a line is malformed, behind what waits.
 fn write_malformed(out: &[u8], used: usize, good: bool, number: u64) -> bool
     requires { ⌜ used ≤ length (now out) ⌝ }
 {
@@ -53,8 +53,8 @@ fn write_malformed(out: &[u8], used: usize, good: bool, number: u64) -> bool
     false
 }
 
-// Prints the line for the line of `len` bytes, and answers how many bytes that is: 0 where the line is malformed, as is
-// each that is longer than the buffer.
+/// Prints the line for the line of `len` bytes, and answers how many bytes that is: 0 where the line is malformed, as is
+/// each that is longer than the buffer.
 fn print(
     cells: &[u16],
     admitted: bool,
@@ -76,7 +76,7 @@ fn print(
     }
 }
 
-// A line ends.
+/// A line ends.
 fn end_line(
     cells: &[u16],
     admitted: bool,
@@ -122,15 +122,15 @@ fn end_line(
     }
 }
 
-// Keeps a byte at a place, if there is such a place.
+/// Keeps a byte at a place, if there is such a place.
 fn keep(line: &mut [u8], at: usize, b: u8) {
     if at < line.len() {
         line[at] = b;
     }
 }
 
-// Keeps the bytes of a piece from a place up to the next newline, behind the `len` bytes that the line has, as far as
-// they fit. The newline's place is answered, or the piece's length.
+/// Keeps the bytes of a piece from a place up to the next newline, behind the `len` bytes that the line has, as far as
+/// they fit. The newline's place is answered, or the piece's length.
 fn keep_line(piece: &[u8], from: usize, line: &mut [u8], len: usize) -> usize
     requires { ⌜ (from ≤ length (now piece)) × (len ≤ 131083) ⌝ }
     ensures { λ r. ⌜ (from ≤ r) × (r ≤ length (now (piece .entry))) ⌝ }
@@ -153,7 +153,7 @@ fn least(a: usize, b: usize) -> usize
     if a < b { a } else { b }
 }
 
-// The line has n bytes more; past the longest line they are not counted.
+/// The line has n bytes more; past the longest line they are not counted.
 fn count_bytes(p: Progress, n: usize) -> Progress
     requires { ⌜ Within p ⌝ }
     ensures { λ r. ⌜ Within r ⌝ }
@@ -168,7 +168,7 @@ fn count_bytes(p: Progress, n: usize) -> Progress
     }
 }
 
-// The bytes of a piece.
+/// The bytes of a piece.
 fn take_piece(
     cells: &[u16],
     admitted: bool,
@@ -194,13 +194,13 @@ fn take_piece(
     }
 }
 
-// What a read came to, and whether there may be more to read.
+/// What a read came to, and whether there may be more to read.
 pub struct Reading {
     pub progress: Progress,
     pub more: bool,
 }
 
-// Reads a piece, takes its bytes, and writes what was printed.
+/// Reads a piece, takes its bytes, and writes what was printed.
 fn read_piece(
     cells: &[u16],
     admitted: bool,
@@ -250,8 +250,8 @@ fn read_piece(
     }
 }
 
-// Reads to the end. A proved loop has to end, and nothing says that the input does: the turns are counted down from a
-// number that no run uses up.
+/// Reads to the end. A proved loop has to end, and nothing says that the input does: the turns are counted down from a
+/// number that no run uses up.
 fn read_all(
     cells: &[u16],
     admitted: bool,
@@ -281,7 +281,7 @@ fn read_all(
     p
 }
 
-// A last line that no newline ends.
+/// A last line that no newline ends.
 fn last_line(
     cells: &[u16],
     admitted: bool,
@@ -303,8 +303,8 @@ fn last_line(
     q.malformed
 }
 
-// Zeros, for a line, for a title, and for what waits to be written and one line more. Each `ensures` gives the length,
-// which is all that is asked of them.
+/// Zeros, for a line, for a title, and for what waits to be written and one line more. Each `ensures` gives the length,
+/// which is all that is asked of them.
 fn line_buffer() -> [u8; 131082]
     ensures { λ r. ⌜ 131082 ≡ length r ⌝ }
 {
@@ -323,7 +323,7 @@ fn out_buffer() -> [u8; 262156]
     [0; 262156]
 }
 
-// All lines; answers how many were malformed.
+/// All lines; answers how many were malformed.
 pub fn all_lines(cells: &[u16]) -> u64 {
     let admitted = questions::cells(cells);
     let mut line = line_buffer();

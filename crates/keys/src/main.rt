@@ -7,7 +7,7 @@ mod lines;
 use libc::STDERR_FILENO;
 use lines::all_lines;
 
-// Says how many lines were malformed, if any.
+/// Says how many lines were malformed, if any.
 fn summary(malformed: u64) {
     if malformed > 0 {
         io::print_decimal(STDERR_FILENO, malformed);
@@ -15,7 +15,7 @@ fn summary(malformed: u64) {
     }
 }
 
-// The file's buffer has room for one byte more than a cell table has, so that a longer one shows.
+/// The file's buffer has room for one byte more than a cell table has, so that a longer one shows.
 fn main() {
     let mut bytes = [0u8; 17673];
     let file = files::read_table(&mut bytes);

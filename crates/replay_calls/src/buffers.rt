@@ -3,21 +3,21 @@ use crate::numbers::number;
 ghost use mathlib.Core.Path.{_≡_};
 ghost use lib.ListN.{length};
 
-// 4,096 bytes of a pattern.
+/// 4,096 bytes of a pattern.
 pub fn byte_room() -> [u8; 4096]
     ensures { λ r. ⌜ 4096 ≡ length r ⌝ }
 {
     [0xA5; 4096]
 }
 
-// 65,536 numbers of a pattern.
+/// 65,536 numbers of a pattern.
 pub fn number_room() -> [u32; 65536]
     ensures { λ r. ⌜ 65536 ≡ length r ⌝ }
 {
     [0xA5A5A5A5; 65536]
 }
 
-// The bytes that are wanted, and zeros behind them.
+/// The bytes that are wanted, and zeros behind them.
 pub fn same_bytes(buffer: &[u8], want: &[u8]) -> bool {
     let mut same = want.len() <= buffer.len();
     let mut i = 0;
@@ -32,7 +32,7 @@ pub fn same_bytes(buffer: &[u8], want: &[u8]) -> bool {
     same
 }
 
-// The numbers that are wanted, and zeros behind them.
+/// The numbers that are wanted, and zeros behind them.
 pub fn same_numbers(buffer: &[u32], want: &[u8]) -> bool {
     let mut same = want.len() / 4 <= buffer.len();
     let mut i = 0;

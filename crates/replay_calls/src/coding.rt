@@ -13,7 +13,7 @@ use replay_vectors::tally::Tally;
 ghost use Prim.Native.Nat.{_≤_};
 ghost use lib.ListN.{length};
 
-// The number, the place, the length and the gap.
+/// The number, the place, the length and the gap.
 fn same_answer(answer: Answer, case: CodingCase) -> bool {
     match answer {
         Answer::Coded { length, gap } => {
@@ -29,7 +29,7 @@ fn same_answer(answer: Answer, case: CodingCase) -> bool {
     }
 }
 
-// One call, in the store and the buffer that are lent. The store is zero afterwards.
+/// One call, in the store and the buffer that are lent. The store is zero afterwards.
 fn same(
     case: CodingCase,
     cells: &[u16],
@@ -42,7 +42,7 @@ fn same(
     same_answer(answer, case) & same_bytes(bytes, coding) & same_numbers(store, b"")
 }
 
-// One call, in store and buffer of the stated lengths.
+/// One call, in store and buffer of the stated lengths.
 fn same_in_rooms(case: CodingCase, cells: &[u16], text: &[u8], coding: &[u8]) -> bool {
     let mut store = number_room();
     let mut bytes = byte_room();
@@ -57,7 +57,7 @@ fn same_in_rooms(case: CodingCase, cells: &[u16], text: &[u8], coding: &[u8]) ->
     same(case, cells, text, coding, &mut store[..k], &mut bytes[..n])
 }
 
-// The case at a place.
+/// The case at a place.
 fn compare(file: &[u8], at: usize, cells: &[u16]) -> Compared
     requires { ⌜ at ≤ length (now file) ⌝ }
     ensures { λ r. ⌜ r .next ≤ length (now (file .entry)) ⌝ }
@@ -85,7 +85,7 @@ fn compare(file: &[u8], at: usize, cells: &[u16]) -> Compared
     }
 }
 
-// All cases. A file that ends early or late counts as one more that differs.
+/// All cases. A file that ends early or late counts as one more that differs.
 pub fn replay(file: &[u8], cells: &[u16]) -> Tally {
     let cases = count(file, 0);
     let mut tally = Tally::none();

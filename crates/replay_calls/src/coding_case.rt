@@ -4,22 +4,22 @@ use crate::numbers::number;
 ghost use Rattle.replay_calls.specs.Small.{SmallCoding};
 
 pub struct CodingCase {
-    // 0 for `jis.tab`, 1 for zeros.
+    /// 0 for `jis.tab`, 1 for zeros.
     pub table: u32,
     pub initial: u32,
     pub width: u32,
-    // The length of the text, of the store in numbers and of the coding buffer in bytes.
+    /// The length of the text, of the store in numbers and of the coding buffer in bytes.
     pub text: usize,
     pub store_room: usize,
     pub coding_room: usize,
-    // The answer: the number of the refusal, 0 for none, its place, the coding's length and its gap.
+    /// The answer: the number of the refusal, 0 for none, its place, the coding's length and its gap.
     pub number: u32,
     pub place: usize,
     pub coding: usize,
     pub gap: usize,
 }
 
-// The case at the start of a part of the file.
+/// The case at the start of a part of the file.
 pub fn case_at(bytes: &[u8]) -> CodingCase
     ensures { λ r. ⌜ SmallCoding r ⌝ }
 {

@@ -13,7 +13,7 @@ use replay_vectors::tally::Tally;
 ghost use Prim.Native.Nat.{_≤_};
 ghost use lib.ListN.{length};
 
-// The number, the place and the counts.
+/// The number, the place and the counts.
 fn same_answer(answer: Answer, case: DecodingCase) -> bool {
     match answer {
         Answer::Decoded {
@@ -38,7 +38,7 @@ fn same_answer(answer: Answer, case: DecodingCase) -> bool {
     }
 }
 
-// One call, in the buffers that are lent.
+/// One call, in the buffers that are lent.
 fn same(
     case: DecodingCase,
     cells: &[u16],
@@ -52,7 +52,7 @@ fn same(
     same_answer(answer, case) & same_bytes(bytes, text) & same_numbers(numbers, issues)
 }
 
-// One call, in buffers of the stated lengths.
+/// One call, in buffers of the stated lengths.
 fn same_in_rooms(
     case: DecodingCase,
     cells: &[u16],
@@ -81,7 +81,7 @@ fn same_in_rooms(
     )
 }
 
-// The case at a place.
+/// The case at a place.
 fn compare(file: &[u8], at: usize, cells: &[u16]) -> Compared
     requires { ⌜ at ≤ length (now file) ⌝ }
     ensures { λ r. ⌜ r .next ≤ length (now (file .entry)) ⌝ }
@@ -122,7 +122,7 @@ fn compare(file: &[u8], at: usize, cells: &[u16]) -> Compared
     }
 }
 
-// All cases. A file that ends early or late counts as one more that differs.
+/// All cases. A file that ends early or late counts as one more that differs.
 pub fn replay(file: &[u8], cells: &[u16]) -> Tally {
     let cases = count(file, 0);
     let mut tally = Tally::none();

@@ -4,15 +4,15 @@ use crate::numbers::number;
 ghost use Rattle.replay_calls.specs.Small.{SmallDecoding};
 
 pub struct DecodingCase {
-    // 0 for `jis.tab`, 1 for zeros.
+    /// 0 for `jis.tab`, 1 for zeros.
     pub table: u32,
     pub initial: u32,
     pub width: u32,
-    // The length of the input, and of the two buffers in bytes and in numbers.
+    /// The length of the input, and of the two buffers in bytes and in numbers.
     pub input: usize,
     pub text_room: usize,
     pub issue_room: usize,
-    // The answer: the number of the refusal, 0 for none, its place, and the counts.
+    /// The answer: the number of the refusal, 0 for none, its place, and the counts.
     pub number: u32,
     pub place: usize,
     pub text: usize,
@@ -20,7 +20,7 @@ pub struct DecodingCase {
     pub charged: usize,
 }
 
-// The case at the start of a part of the file.
+/// The case at the start of a part of the file.
 pub fn case_at(bytes: &[u8]) -> DecodingCase
     ensures { λ r. ⌜ SmallDecoding r ⌝ }
 {

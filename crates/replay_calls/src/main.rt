@@ -14,8 +14,8 @@ use replay_vectors::files::cells;
 use replay_vectors::files::read;
 use replay_vectors::tally::line;
 
-// The buffer of the cell table has room for one byte more, so that a longer file shows; that of the
-// cases is longer than either file, whose end is looked at.
+/// The buffer of the cell table has room for one byte more, so that a longer file shows; that of the
+/// cases is longer than either file, whose end is looked at.
 fn main() {
     let mut table = [0u8; 17673];
     let m = read(b"jis.tab", &mut table);

@@ -2,7 +2,7 @@
 use replay_vectors::files::byte;
 ghost use Prim.Native.Nat.{_≤_};
 
-// The number at a place; bytes past the end are 0.
+/// The number at a place; bytes past the end are 0.
 pub fn number(bytes: &[u8], at: usize) -> u32 {
     if at >= bytes.len() {
         return 0;
@@ -13,7 +13,7 @@ pub fn number(bytes: &[u8], at: usize) -> u32 {
         + byte(bytes, at + 3)) as u32
 }
 
-// The same as a count.
+/// The same as a count.
 pub fn count(bytes: &[u8], at: usize) -> usize
     ensures { λ r. ⌜ r ≤ 0xFFFFFFFF ⌝ }
 {

@@ -11,7 +11,7 @@ use sets::GraphicSet;
 use sets::InitialState;
 use sets::Shift;
 
-// Codes 00 to FF.
+/// Codes 00 to FF.
 pub fn fixed_params(i: usize) -> usize {
     match control::fixed_params(low(i)) {
         Params::Fixed(n) => n,
@@ -19,15 +19,15 @@ pub fn fixed_params(i: usize) -> usize {
     }
 }
 
-// Codes 00 to FF, six numbers each: the name, a string with room for five.
+/// Codes 00 to FF, six numbers each: the name, a string with room for five.
 pub fn name(i: usize) -> usize {
     let name = control::name(low(i / 6));
     let bytes = name.bytes;
     string(name.len, bytes, i % 6)
 }
 
-// Sets 0 to 31, 27 numbers each: bytes a character, final byte, whether in the DRCS form, then the designations to G0,
-// G1, G2 and G3, strings with room for five.
+/// Sets 0 to 31, 27 numbers each: bytes a character, final byte, whether in the DRCS form, then the designations to G0,
+/// G1, G2 and G3, strings with room for five.
 pub fn graphic_sets(i: usize) -> usize {
     let set = GraphicSet::from_number(low(i / 27));
     let k = i % 27;
@@ -45,7 +45,7 @@ pub fn graphic_sets(i: usize) -> usize {
     string(sequence.len, bytes, (k - 3) % 6)
 }
 
-// Final bytes 00 to FF in four forms: one-byte plain, one-byte DRCS, two-byte plain, two-byte DRCS.
+/// Final bytes 00 to FF in four forms: one-byte plain, one-byte DRCS, two-byte plain, two-byte DRCS.
 pub fn from_designation(i: usize) -> usize {
     match GraphicSet::from_designation(512 <= i, i / 256 % 2 == 1, low(i)) {
         Designated::Set(set) => wide(set.number()),
@@ -53,7 +53,7 @@ pub fn from_designation(i: usize) -> usize {
     }
 }
 
-// The shifts in the file's order.
+/// The shifts in the file's order.
 fn shift(n: usize) -> Shift {
     match n {
         0 => Shift::Ls0,
@@ -68,7 +68,7 @@ fn shift(n: usize) -> Shift {
     }
 }
 
-// Nine shifts, four numbers each: the bytes, a string with room for two, then the element.
+/// Nine shifts, four numbers each: the bytes, a string with room for two, then the element.
 pub fn shifts(i: usize) -> usize {
     let shift = shift(i / 4);
     let k = i % 4;
@@ -80,7 +80,7 @@ pub fn shifts(i: usize) -> usize {
     string(sequence.len, bytes, k)
 }
 
-// The sizes in the file's order.
+/// The sizes in the file's order.
 fn size(i: usize) -> CharSize {
     match i {
         0 => CharSize::Small,
@@ -90,12 +90,12 @@ fn size(i: usize) -> CharSize {
     }
 }
 
-// Small, middle, normal, then SZX 00 to FF.
+/// Small, middle, normal, then SZX 00 to FF.
 pub fn is_narrow(i: usize) -> usize {
     yes(size(i).is_narrow())
 }
 
-// The initial states in the file's order.
+/// The initial states in the file's order.
 fn state(n: usize) -> InitialState {
     if n == 0 {
         InitialState::Si
@@ -104,7 +104,7 @@ fn state(n: usize) -> InitialState {
     }
 }
 
-// SI and captions, six numbers each: the sets of G0 to G3, then the elements in GL and GR.
+/// SI and captions, six numbers each: the sets of G0 to G3, then the elements in GL and GR.
 pub fn initial_states(i: usize) -> usize {
     let state = state(i / 6);
     let k = i % 6;

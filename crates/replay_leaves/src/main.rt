@@ -14,7 +14,7 @@ use replay_vectors::files::read;
 use replay_vectors::tally::Tally;
 use replay_vectors::tally::line;
 
-// The code tables of the graphic sets.
+/// The code tables of the graphic sets.
 fn code_tables(answers: &[u8], t: &[u16]) -> Tally {
     let kanji = line(b"kanji", compare(Part::Kanji, answers, t, 0, 0, 8836));
     let additional = line(
@@ -45,7 +45,7 @@ fn code_tables(answers: &[u8], t: &[u16]) -> Tally {
         .plus(x0201)
 }
 
-// The control codes, the graphic sets, the shifts, the sizes and the initial states.
+/// The control codes, the graphic sets, the shifts, the sizes and the initial states.
 fn codes_and_sets(answers: &[u8], t: &[u16]) -> Tally {
     let params = line(
         b"fixed_params",
@@ -78,7 +78,7 @@ fn codes_and_sets(answers: &[u8], t: &[u16]) -> Tally {
         .plus(initial)
 }
 
-// What is asked of Unicode characters. Of surrogates, D800 to DFFF, the Rust has no answer.
+/// What is asked of Unicode characters. Of surrogates, D800 to DFFF, the Rust has no answer.
 fn unicode(answers: &[u8], t: &[u16]) -> Tally {
     let low = compare(Part::Fullwidth, answers, t, 22683, 0, 0xD800);
     let high = compare(Part::Fullwidth, answers, t, 22683, 0xE000, 0x10000);
@@ -90,7 +90,7 @@ fn unicode(answers: &[u8], t: &[u16]) -> Tally {
     fullwidth.plus(marks)
 }
 
-// All parts, and the sums.
+/// All parts, and the sums.
 fn replay(answers: &[u8], t: &[u16]) {
     let sum = code_tables(answers, t)
         .plus(codes_and_sets(answers, t))
@@ -98,7 +98,7 @@ fn replay(answers: &[u8], t: &[u16]) {
     line(b"leaves", sum);
 }
 
-// The replay, where both files are whole.
+/// The replay, where both files are whole.
 fn replay_files(answers: &[u8], table: &[u8]) {
     if answers.len() != 301521 {
         io::write_all(STDOUT_FILENO, b"leaves.bin does not have 301521 bytes\n");
@@ -113,7 +113,7 @@ fn replay_files(answers: &[u8], table: &[u8]) {
     replay(answers, &t);
 }
 
-// Each buffer has room for one byte more than its file, so that a longer file shows.
+/// Each buffer has room for one byte more than its file, so that a longer file shows.
 fn main() {
     let mut answers = [0u8; 301522];
     let n = read(b"leaves.bin", &mut answers);

@@ -23,7 +23,7 @@ pub enum Part {
     IsNonSpacing,
 }
 
-// Number i of `leaves.bin`, of three bytes; 0 past the end.
+/// Number i of `leaves.bin`, of three bytes; 0 past the end.
 fn number(answers: &[u8], i: usize) -> usize {
     if i < answers.len() / 3 {
         byte(answers, 3 * i) * 65536 + byte(answers, 3 * i + 1) * 256 + byte(answers, 3 * i + 2)
@@ -32,7 +32,7 @@ fn number(answers: &[u8], i: usize) -> usize {
     }
 }
 
-// What the Rattle functions answer for number i of a part.
+/// What the Rattle functions answer for number i of a part.
 fn answer(part: Part, t: &[u16], i: usize) -> usize {
     match part {
         Part::Kanji => characters::kanji(t, i),
@@ -53,7 +53,7 @@ fn answer(part: Part, t: &[u16], i: usize) -> usize {
     }
 }
 
-// Compares the numbers of a part from `from` up to `to`, which is left out. The part starts at number `first`.
+/// Compares the numbers of a part from `from` up to `to`, which is left out. The part starts at number `first`.
 pub fn compare(part: Part, answers: &[u8], t: &[u16], first: usize, from: usize, to: usize) -> Tally
     requires { ⌜ first + to ≤ 100507 ⌝ }
 {

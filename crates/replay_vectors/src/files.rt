@@ -4,8 +4,8 @@ ghost use Prim.Native.Nat.{_<_};
 ghost use lib.ListN.{length};
 ghost use Rattle.io.specs.Counts.{Counts};
 
-// Reads a file up to its end, or until the buffer is full, and answers how many bytes it read: 0
-// where it cannot be opened.
+/// Reads a file up to its end, or until the buffer is full, and answers how many bytes it read: 0
+/// where it cannot be opened.
 pub fn read(path: &[u8], buffer: &mut [u8]) -> usize
     ensures { λ r. ⌜ Counts r (now (buffer .exit)) ⌝ }
 {
@@ -18,21 +18,21 @@ pub fn read(path: &[u8], buffer: &mut [u8]) -> usize
     n
 }
 
-// A byte as a number.
+/// A byte as a number.
 fn value(x: u8) -> usize
     ensures { λ r. ⌜ r < 256 ⌝ }
 {
     x as usize
 }
 
-// The byte at a place, 0 past the end.
+/// The byte at a place, 0 past the end.
 pub fn byte(bytes: &[u8], i: usize) -> usize
     ensures { λ r. ⌜ r < 256 ⌝ }
 {
     if i < bytes.len() { value(bytes[i]) } else { 0 }
 }
 
-// Fills the cell table from `jis.tab`.
+/// Fills the cell table from `jis.tab`.
 pub fn cells(table: &[u8], t: &mut [u16])
     ensures { λ _. ⌜ length (now (t .exit)) ≡ length (now (t .entry)) ⌝ }
 {

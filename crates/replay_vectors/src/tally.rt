@@ -6,7 +6,7 @@ pub struct Tally {
     pub differing: usize,
 }
 
-// A sum; where it does not fit, the largest number.
+/// A sum; where it does not fit, the largest number.
 fn sum(a: usize, b: usize) -> usize {
     if a <= usize::MAX - b {
         a + b
@@ -16,7 +16,7 @@ fn sum(a: usize, b: usize) -> usize {
 }
 
 impl Tally {
-    // Nothing compared.
+    /// Nothing compared.
     pub fn none() -> Tally {
         Tally {
             compared: 0,
@@ -24,7 +24,7 @@ impl Tally {
         }
     }
 
-    // One answer compared.
+    /// One answer compared.
     pub fn one(same: bool) -> Tally {
         if same {
             Tally {
@@ -39,7 +39,7 @@ impl Tally {
         }
     }
 
-    // Both counts added.
+    /// Both counts added.
     pub fn plus(self, other: Tally) -> Tally {
         Tally {
             compared: sum(self.compared, other.compared),
@@ -48,7 +48,7 @@ impl Tally {
     }
 }
 
-// Writes the line of a name, and answers its counts.
+/// Writes the line of a name, and answers its counts.
 pub fn line(name: &[u8], tally: Tally) -> Tally {
     io::write_all(STDOUT_FILENO, name);
     io::write_all(STDOUT_FILENO, b" ");
