@@ -86,6 +86,7 @@ pub found-scalar : (row cell : ℕ) → scalarOf (foundAt row cell) ≡ symbol r
 unfolding foundAt
 found-scalar row cell = go (eqb (table719 row cell) 0) refl
   where
-    go : (b : Bool) → eqb (table719 row cell) 0 ≡ b → scalarOf (cond b Blank (Symbol (record { row = row; cell = cell; table_7_19 = table719 row cell; unicode = symbol row cell }))) ≡ symbol row cell
+    go : (b : Bool) → eqb (table719 row cell) 0 ≡ b → scalarOf
+        (cond b Blank (Symbol (record { row = row; cell = cell; table_7_19 = table719 row cell; unicode = symbol row cell }))) ≡ symbol row cell
     go true e = sym (blank-symbol row cell (eqb-true (table719 row cell) 0 e))
     go false e = refl

@@ -49,7 +49,8 @@ pub record Answers (o : Output) (charge textRoom issueRoom : ℕ) (r : Answer) (
   pub number : numberOf r ≡ fitsIn (length (utf8s (o .text))) (length (issuesNumbers (o .issues))) textRoom issueRoom
   pub place : placeOf r ≡ 0
   pub case : numberOf r ≡ 0 → r ≡ Decoded (textOf r) (issuesOf r) (chargedOf r)
-  pub accepted : numberOf r ≡ 0 → (textOf r ≡ length (utf8s (o .text))) × (issuesOf r ≡ length (o .issues)) × (chargedOf r ≡ charge) × (t ≡ padded textRoom (utf8s (o .text))) × (i ≡ padded issueRoom (issuesNumbers (o .issues)))
+  pub accepted : numberOf r ≡ 0 → (textOf r ≡ length (utf8s (o .text))) × (issuesOf r ≡ length (o .issues)) × (chargedOf r ≡ charge) ×
+      (t ≡ padded textRoom (utf8s (o .text))) × (i ≡ padded issueRoom (issuesNumbers (o .issues)))
   pub refused : (numberOf r ≡ 0 → ⊥) → (textOf r ≡ 0) × (issuesOf r ≡ 0) × (chargedOf r ≡ 0) × (t ≡ padded textRoom []) × (i ≡ padded issueRoom [])
 
 -- what a call is lent

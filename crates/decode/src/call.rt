@@ -40,7 +40,8 @@ fn refuse(number: u32, text: &mut [u8], issues: &mut [u32]) -> Answer
 
 /// The state before the first byte.
 fn start(g3: u8, annex: bool) -> Decoder
-    ensures { λ r. ⌜ r ≡ whole (record { sets = 0 ∷ 1 ∷ 2 ∷ g3 ∷ []; gl = 0; gr = 2; narrow = false; annex = annex; charged = 0; out = outOf nothing }) (replicate 128 0) (replicate 128 0) ⌝ }
+    ensures { λ r. ⌜ r ≡ whole (record { sets = 0 ∷ 1 ∷ 2 ∷ g3 ∷ []; gl = 0; gr = 2; narrow = false; annex = annex; charged = 0; out = outOf nothing }) (replicate 128 0)
+        (replicate 128 0) ⌝ }
 {
     let core = Core {
         sets: [0, 1, 2, g3],
@@ -69,7 +70,8 @@ fn initial_g3(initial: u32) -> u8
 /// buffers is zero.
 fn finish(out: Out, charged: usize, text: &mut [u8], issues: &mut [u32]) -> Answer
     requires { ⌜ out .issues ≤ 0x10000000000 ⌝ }
-    ensures { λ r. ⌜ ((t₀ i₀ : List ℕ) (o : Output) → o .marks ≡ [] → Holds t₀ i₀ o out (now (text .entry)) (now (issues .entry)) → Answers o charged (length t₀) (length i₀) r (now (text .exit)) (now (issues .exit))) ⌝ }
+    ensures { λ r. ⌜ ((t₀ i₀ : List ℕ) (o : Output) → o .marks ≡ [] → Holds t₀ i₀ o out (now (text .entry)) (now (issues .entry)) →
+        Answers o charged (length t₀) (length i₀) r (now (text .exit)) (now (issues .exit))) ⌝ }
 {
     let n = out.len;
     let k = out.issues;

@@ -42,7 +42,9 @@ fn run_body<'a>(
 ) -> Core
     requires { ⌜ Opens (now input) (now starts) (now lens) p 1 s ⌝ }
     requires { ⌜ Body (now body) ⌝ }
-    ensures { λ r. ⌜ Ran (now (cells .entry)) (now (input .entry)) 1 (λ g. runBody g (p .left) (below g (p .left)) (now (body .entry)) (p .base) (p .at)) (whole s (now (starts .entry)) (now (lens .entry))) (now (text .entry)) (now (issues .entry)) (whole r (now (starts .entry)) (now (lens .entry))) (now (text .exit)) (now (issues .exit)) ⌝ }
+    ensures { λ r. ⌜ Ran (now (cells .entry)) (now (input .entry)) 1 (λ g. runBody g (p .left) (below g (p .left)) (now (body .entry)) (p .base) (p .at))
+        (whole s (now (starts .entry)) (now (lens .entry))) (now (text .entry)) (now (issues .entry)) (whole r (now (starts .entry)) (now (lens .entry))) (now (text .exit))
+        (now (issues .exit)) ⌝ }
 {
     if p.left == 0 {
         return decode_characters::report(p.at, IssueKind::MacroLimit, s, issues);
@@ -78,7 +80,9 @@ pub fn run_macro<'a>(
 ) -> Core
     requires { ⌜ Opens (now input) (now starts) (now lens) p 1 s ⌝ }
     requires { ⌜ code < 128 ⌝ }
-    ensures { λ r. ⌜ Ran (now (cells .entry)) (now (input .entry)) 1 (λ g. runMacro g (p .left) (below g (p .left)) code (p .at)) (whole s (now (starts .entry)) (now (lens .entry))) (now (text .entry)) (now (issues .entry)) (whole r (now (starts .entry)) (now (lens .entry))) (now (text .exit)) (now (issues .exit)) ⌝ }
+    ensures { λ r. ⌜ Ran (now (cells .entry)) (now (input .entry)) 1 (λ g. runMacro g (p .left) (below g (p .left)) code (p .at))
+        (whole s (now (starts .entry)) (now (lens .entry))) (now (text .entry)) (now (issues .entry)) (whole r (now (starts .entry)) (now (lens .entry))) (now (text .exit))
+        (now (issues .exit)) ⌝ }
 {
     let start = starts[code] as usize;
     if start > 0 {
@@ -129,7 +133,9 @@ fn char1<'a>(
 ) -> Core
     requires { ⌜ Opens (now input) (now starts) (now lens) p 1 s ⌝ }
     requires { ⌜ c < 128 ⌝ }
-    ensures { λ r. ⌜ Ran (now (cells .entry)) (now (input .entry)) 1 (λ g. char1 g (p .left) (below g (p .left)) 15 c (p .at)) (whole s (now (starts .entry)) (now (lens .entry))) (now (text .entry)) (now (issues .entry)) (whole r (now (starts .entry)) (now (lens .entry))) (now (text .exit)) (now (issues .exit)) ⌝ }
+    ensures { λ r. ⌜ Ran (now (cells .entry)) (now (input .entry)) 1 (λ g. char1 g (p .left) (below g (p .left)) 15 c (p .at))
+        (whole s (now (starts .entry)) (now (lens .entry))) (now (text .entry)) (now (issues .entry)) (whole r (now (starts .entry)) (now (lens .entry))) (now (text .exit))
+        (now (issues .exit)) ⌝ }
 {
     run_macro(cells, input, c as usize, p, s, starts, lens, text, issues)
 }
@@ -149,7 +155,10 @@ pub fn graphic<'a>(
 ) -> Stepped
     requires { ⌜ Opens (now input) (now starts) (now lens) p 1 s ⌝ }
     requires { ⌜ i < length (now b) ⌝ }
-    ensures { λ r. ⌜ ((e : ℕ) → getD (s .sets) e 0 ≡ 15 → RanStep (now (cells .entry)) (now (input .entry)) (now (b .entry)) i (λ g. graphic g (p .left) (below g (p .left)) e (getD (now (b .entry)) i 0) (drop (i + 1) (now (b .entry))) (p .at)) (whole s (now (starts .entry)) (now (lens .entry))) (now (text .entry)) (now (issues .entry)) (r .used) (whole (r .core) (now (starts .entry)) (now (lens .entry))) (now (text .exit)) (now (issues .exit))) ⌝ }
+    ensures { λ r. ⌜ ((e : ℕ) → getD (s .sets) e 0 ≡ 15 → RanStep (now (cells .entry)) (now (input .entry)) (now (b .entry)) i
+        (λ g. graphic g (p .left) (below g (p .left)) e (getD (now (b .entry)) i 0) (drop (i + 1) (now (b .entry))) (p .at))
+        (whole s (now (starts .entry)) (now (lens .entry))) (now (text .entry)) (now (issues .entry)) (r .used) (whole (r .core) (now (starts .entry)) (now (lens .entry)))
+        (now (text .exit)) (now (issues .exit))) ⌝ }
 {
     let core = char1(cells, input, b[i] % 128, p, s, starts, lens, text, issues);
     Stepped { used: 1, core }
@@ -160,7 +169,8 @@ fn macro_cmd(b: &[u8], i: usize, at: u32, s: Core, issues: &mut [u32]) -> Steppe
     requires { ⌜ (i < length (now b)) × (getD (now b) i 0 ≡ 0x95) ⌝ }
     requires { ⌜ Body (now b) ⌝ }
     requires { ⌜ Good 1 s ⌝ }
-    ensures { λ r. ⌜ ((left : ℕ) (R : Run) (place : ℕ) (cells t : List ℕ) → TookOver cells (now (b .entry)) i (λ g. macroCmd g left R (drop (i + 1) (now (b .entry))) place at) s t (now (issues .entry)) r t (now (issues .exit))) ⌝ }
+    ensures { λ r. ⌜ ((left : ℕ) (R : Run) (place : ℕ) (cells t : List ℕ) → TookOver cells (now (b .entry)) i (λ g. macroCmd g left R (drop (i + 1) (now (b .entry))) place at)
+        s t (now (issues .entry)) r t (now (issues .exit))) ⌝ }
 {
     match decode_macros::read_command(b, i) {
         Command::Cut => decode_reports::truncated(b, i, at, s, issues),
@@ -195,7 +205,8 @@ fn turn<'a>(
     requires { ⌜ Body (now b) ⌝ }
     requires { ⌜ i < length (now b) ⌝ }
     requires { ⌜ StopAt stop (now b) i s ⌝ }
-    ensures { λ r. ⌜ RanStep (now (cells .entry)) (now (input .entry)) (now (b .entry)) i (stepIn (now (b .entry)) i p) (whole s (now (starts .entry)) (now (lens .entry))) (now (text .entry)) (now (issues .entry)) (r .used) (whole (r .core) (now (starts .entry)) (now (lens .entry))) (now (text .exit)) (now (issues .exit)) ⌝ }
+    ensures { λ r. ⌜ RanStep (now (cells .entry)) (now (input .entry)) (now (b .entry)) i (stepIn (now (b .entry)) i p) (whole s (now (starts .entry)) (now (lens .entry)))
+        (now (text .entry)) (now (issues .entry)) (r .used) (whole (r .core) (now (starts .entry)) (now (lens .entry))) (now (text .exit)) (now (issues .exit)) ⌝ }
 {
     match stop {
         Stop::Char(_) => graphic(cells, input, b, i, p, s, starts, lens, text, issues),
@@ -226,7 +237,9 @@ fn run<'a>(
 ) -> Core
     requires { ⌜ Opens (now input) (now starts) (now lens) p (length (now b)) core ⌝ }
     requires { ⌜ Body (now b) ⌝ }
-    ensures { λ r. ⌜ Ran (now (cells .entry)) (now (input .entry)) (length (now (b .entry))) (λ g. run g (p .left) (now (b .entry)) (p .base) (p .at + 1)) (whole core (now (starts .entry)) (now (lens .entry))) (now (text .entry)) (now (issues .entry)) (whole r (now (starts .entry)) (now (lens .entry))) (now (text .exit)) (now (issues .exit)) ⌝ }
+    ensures { λ r. ⌜ Ran (now (cells .entry)) (now (input .entry)) (length (now (b .entry))) (λ g. run g (p .left) (now (b .entry)) (p .base) (p .at + 1))
+        (whole core (now (starts .entry)) (now (lens .entry))) (now (text .entry)) (now (issues .entry)) (whole r (now (starts .entry)) (now (lens .entry))) (now (text .exit))
+        (now (issues .exit)) ⌝ }
 {
     let mut s = core;
     let mut i: usize = 0;

@@ -113,7 +113,8 @@ pub fn cell_or(
     issues: &mut [u32],
 ) -> Core
     requires { ⌜ Good 1 s ⌝ }
-    ensures { λ r. ⌜ ((cells : List ℕ) (x : ℕ) → cell ≡ cellOf x → Did cells (λ g. cellOr kind x at) s (now (text .entry)) (now (issues .entry)) r (now (text .exit)) (now (issues .exit))) ⌝ }
+    ensures { λ r. ⌜ ((cells : List ℕ) (x : ℕ) → cell ≡ cellOf x → Did cells (λ g. cellOr kind x at) s (now (text .entry)) (now (issues .entry)) r (now (text .exit))
+        (now (issues .exit))) ⌝ }
 {
     match cell {
         Cell::Char(c) => {

@@ -84,4 +84,15 @@ module _ (g : Given) (left : ℕ) (R : Run) (x : ℕ) (rest : List ℕ) (place a
   pub control1-fixed : Plain1 x → control1 g left R x rest place at s ≡ fixed x rest at s
   unfolding control1
   control1-fixed p =
-      rw (ne-eqb x 0x88 (p .ssz), ne-eqb x 0x89 (p .msz), ne-eqb x 0x8A (p .nsz), ne-eqb x 0x8B (p .szx), ne-eqb x 0x98 (p .rpc), ne-eqb x 0x90 (p .col), ne-eqb x 0x92 (p .cdc), ne-eqb x 0x9D (p .time), ne-eqb x 0x9B (p .csi), ne-eqb x 0x95 (p .macro))
+      rw (
+        ne-eqb x 0x88 (p .ssz),
+        ne-eqb x 0x89 (p .msz),
+        ne-eqb x 0x8A (p .nsz),
+        ne-eqb x 0x8B (p .szx),
+        ne-eqb x 0x98 (p .rpc),
+        ne-eqb x 0x90 (p .col),
+        ne-eqb x 0x92 (p .cdc),
+        ne-eqb x 0x9D (p .time),
+        ne-eqb x 0x9B (p .csi),
+        ne-eqb x 0x95 (p .macro),
+      )

@@ -49,7 +49,11 @@ module _ (f : ℕ) where
 
   pub shift-none : (f ≡ 0x6E → ⊥) → (f ≡ 0x6F → ⊥) → (f ≡ 0x7E → ⊥) → (f ≡ 0x7D → ⊥) → (f ≡ 0x7C → ⊥) → Means (lockingShift f) UnknownEscape
   unfolding lockingShift appliedOr stepOf
-  shift-none a b c d e = record { says = λ n place at s. rw (ne-eqb f 0x6E a, ne-eqb f 0x6F b, ne-eqb f 0x7E c, ne-eqb f 0x7D d, ne-eqb f 0x7C e); bounded = record { element = omega arith; count = omega arith } }
+  shift-none a b c d e =
+      record {
+        says = λ n place at s. rw (ne-eqb f 0x6E a, ne-eqb f 0x6F b, ne-eqb f 0x7E c, ne-eqb f 0x7D d, ne-eqb f 0x7C e);
+        bounded = record { element = omega arith; count = omega arith };
+      }
 
 -- ---- designations
 
@@ -118,7 +122,8 @@ module _ (a g f : ℕ) where
   unfolding readDesignation
   two-none p (inl q) = means-as a g (f ∷ []) (go (selects 0 a) ∙ (rw (ne-eqb a 0x24 p))) nothing
     where
-      go : (x : Bool) → cond (x && eqb g 0x20) (toElement (a - 0x28) (fromDesignation false true f)) (cond (eqb a 0x24 && selects 1 g) (toElement (g - 0x28) (fromDesignation true false f)) none)
+      go : (x : Bool) → cond (x && eqb g 0x20) (toElement (a - 0x28) (fromDesignation false true f))
+          (cond (eqb a 0x24 && selects 1 g) (toElement (g - 0x28) (fromDesignation true false f)) none)
           ≡ cond (eqb a 0x24 && selects 1 g) (toElement (g - 0x28) (fromDesignation true false f)) none
       go true = rw (ne-eqb g 0x20 q)
       go false = refl
@@ -126,7 +131,8 @@ module _ (a g f : ℕ) where
 
 -- three intermediates
 module _ (a g d f : ℕ) where
-  pub three-drcs : {e : Effect} → a ≡ 0x24 → d ≡ 0x20 → 0x28 ≤ g → g ≤ 0x2B → Means (designated (toElement (g - 0x28) (fromDesignation true true f))) e → Means (applied (a ∷ g ∷ d ∷ f ∷ [])) e
+  pub three-drcs : {e : Effect} → a ≡ 0x24 → d ≡ 0x20 → 0x28 ≤ g → g ≤ 0x2B → Means (designated (toElement (g - 0x28) (fromDesignation true true f))) e →
+      Means (applied (a ∷ g ∷ d ∷ f ∷ [])) e
   unfolding readDesignation
   three-drcs p q r s m = means-as a g (d ∷ f ∷ []) (rw (eq-eqb a 0x24 p, selects-yes 0 g r s, eq-eqb d 0x20 q)) m
 

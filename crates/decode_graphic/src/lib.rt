@@ -36,7 +36,8 @@ fn char2(cells: &[u16], c: Code2, at: u32, s: Core, text: &mut [u8], issues: &mu
 fn char1(set: u8, c: u8, at: u32, s: Core, text: &mut [u8], issues: &mut [u32]) -> Core
     requires { ⌜ Good 1 s ⌝ }
     requires { ⌜ (c < 128) × (set ≡ 15 → ⊥) ⌝ }
-    ensures { λ r. ⌜ ((cells : List ℕ) (left : ℕ) (R : Run) → Did cells (λ g. char1 g left R set c at) s (now (text .entry)) (now (issues .entry)) r (now (text .exit)) (now (issues .exit))) ⌝ }
+    ensures { λ r. ⌜ ((cells : List ℕ) (left : ℕ) (R : Run) → Did cells (λ g. char1 g left R set c at) s (now (text .entry)) (now (issues .entry)) r (now (text .exit))
+        (now (issues .exit))) ⌝ }
 {
     match set {
         4..=7 => decode_characters::report_mosaic(set, c, at, s, issues),
@@ -89,7 +90,8 @@ fn graphic2(
 ) -> Stepped
     requires { ⌜ Good 1 s ⌝ }
     requires { ⌜ (i < length (now b)) × (isGraphic (getD (now b) i 0) ≡ true) ⌝ }
-    ensures { λ r. ⌜ TookOver (now (cells .entry)) (now (b .entry)) i (λ g. graphic2 g set (getD (now (b .entry)) i 0) (drop (i + 1) (now (b .entry))) at) s (now (text .entry)) (now (issues .entry)) r (now (text .exit)) (now (issues .exit)) ⌝ }
+    ensures { λ r. ⌜ TookOver (now (cells .entry)) (now (b .entry)) i (λ g. graphic2 g set (getD (now (b .entry)) i 0) (drop (i + 1) (now (b .entry))) at) s
+        (now (text .entry)) (now (issues .entry)) r (now (text .exit)) (now (issues .exit)) ⌝ }
 {
     if i + 1 >= b.len() {
         return truncated(at, s, issues);
@@ -121,7 +123,9 @@ pub fn graphic(
 ) -> Stepped
     requires { ⌜ Good 1 s ⌝ }
     requires { ⌜ (i < length (now b)) × (isGraphic (getD (now b) i 0) ≡ true) × (set ≡ 15 → ⊥) ⌝ }
-    ensures { λ r. ⌜ ((left : ℕ) (R : Run) → TookOver (now (cells .entry)) (now (b .entry)) i (λ g. graphicOf g left R set (getD (now (b .entry)) i 0) (drop (i + 1) (now (b .entry))) at) s (now (text .entry)) (now (issues .entry)) r (now (text .exit)) (now (issues .exit))) ⌝ }
+    ensures { λ r. ⌜ ((left : ℕ) (R : Run) → TookOver (now (cells .entry)) (now (b .entry)) i
+        (λ g. graphicOf g left R set (getD (now (b .entry)) i 0) (drop (i + 1) (now (b .entry))) at) s (now (text .entry)) (now (issues .entry)) r (now (text .exit))
+        (now (issues .exit))) ⌝ }
 {
     if decode_codes::two_bytes(set) {
         return graphic2(cells, b, i, set, at, s, text, issues);
@@ -143,7 +147,8 @@ pub fn single_shift(
 ) -> Stepped
     requires { ⌜ Good 1 s ⌝ }
     requires { ⌜ (i < length (now b)) × (element < 4) × (i + 1 < length (now b) → isGraphic (getD (now b) (i + 1) 0) ≡ true → getD (s .sets) element 0 ≡ 15 → ⊥) ⌝ }
-    ensures { λ r. ⌜ ((left : ℕ) (R : Run) → TookOver (now (cells .entry)) (now (b .entry)) i (λ g. singleShift g left R element (drop (i + 1) (now (b .entry))) at) s (now (text .entry)) (now (issues .entry)) r (now (text .exit)) (now (issues .exit))) ⌝ }
+    ensures { λ r. ⌜ ((left : ℕ) (R : Run) → TookOver (now (cells .entry)) (now (b .entry)) i (λ g. singleShift g left R element (drop (i + 1) (now (b .entry))) at) s
+        (now (text .entry)) (now (issues .entry)) r (now (text .exit)) (now (issues .exit))) ⌝ }
 {
     if i + 1 >= b.len() {
         return truncated(at, s, issues);

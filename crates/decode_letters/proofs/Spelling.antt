@@ -106,7 +106,8 @@ all-in-plane JisX0201Katakana = tt
 
 letter-in : {z : ℕ} (c : ℕ) → c < 128 → LetterSet z → (table : OneByteTable) → (oneByteAt table c ≡ 0 → ⊥) → Letter z c (oneByteAt table c)
 unfolding InPlane
-letter-in {z} c h p table f = go (leb 0x21 c) refl (leb c 0x7E) refl (ltb (oneByteAt table c) 0x10000) refl (rw (ne-eqb _ 0 f) at (at 0 (in-plane table) (replicate 128 0) (all-in-plane table) c h))
+letter-in {z} c h p table f =
+    go (leb 0x21 c) refl (leb c 0x7E) refl (ltb (oneByteAt table c) 0x10000) refl (rw (ne-eqb _ 0 f) at (at 0 (in-plane table) (replicate 128 0) (all-in-plane table) c h))
   where
     go : (a : Bool) → leb 0x21 c ≡ a → (b : Bool) → leb c 0x7E ≡ b → (d : Bool) → ltb (oneByteAt table c) 0x10000 ≡ d → T (a && b && d) → Letter z c (oneByteAt table c)
     go true p₁ true p₂ true p₃ t = record { of = p; low = leb-true 0x21 c p₁; high = leb-true c 0x7E p₂; small = ltb-true _ 0x10000 p₃ }

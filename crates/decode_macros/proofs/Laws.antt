@@ -59,7 +59,8 @@ builtin-short code a b =
     record { low = t .0; high = t .1 }
 
 -- its length, by its parts
-pub parts : (f : List ℕ) → length (builtinOf f) ≡ length (designation (getD f 0 0) 0) + length (designation (getD f 1 0) 1) + length (designation (getD f 2 0) 2) + length (designation 15 3) + 3
+pub parts : (f : List ℕ) → length (builtinOf f) ≡ length (designation (getD f 0 0) 0) + length (designation (getD f 1 0) 1) + length (designation (getD f 2 0) 2) + length
+    (designation 15 3) + 3
 unfolding builtinOf
 parts f = simp length-append (omega arith)
 

@@ -121,7 +121,8 @@ pub enum Command {
 /// MACRO at the byte i of b.
 pub fn read_command(b: &[u8], i: usize) -> Command
     requires { ⌜ i < length (now b) ⌝ }
-    ensures means { λ r. ⌜ ((g : Given) (left : ℕ) (R : Run) (place at : ℕ) (s : State) → macroCmd g left R (drop (i + 1) (now (b .entry))) place at s ≡ commanded r (length (now (b .entry)) - i) g left R place at s) ⌝ }
+    ensures means { λ r. ⌜ ((g : Given) (left : ℕ) (R : Run) (place at : ℕ) (s : State) →
+        macroCmd g left R (drop (i + 1) (now (b .entry))) place at s ≡ commanded r (length (now (b .entry)) - i) g left R place at s) ⌝ }
     ensures within { λ r. ⌜ Within r (now (b .entry)) i ⌝ }
 {
     if i + 1 >= b.len() {
@@ -139,7 +140,8 @@ pub fn read_command(b: &[u8], i: usize) -> Command
 /// MACRO 40 or 41 at the byte i of b.
 fn definition(b: &[u8], i: usize, runs: bool) -> Command
     requires { ⌜ i + 1 < length (now b) ⌝ }
-    ensures means { λ r. ⌜ ((g : Given) (left : ℕ) (R : Run) (place at : ℕ) (s : State) → defines g left R (cond runs 0x41 0x40) (drop (i + 2) (now (b .entry))) place at s ≡ commanded r (length (now (b .entry)) - i) g left R place at s) ⌝ }
+    ensures means { λ r. ⌜ ((g : Given) (left : ℕ) (R : Run) (place at : ℕ) (s : State) →
+        defines g left R (cond runs 0x41 0x40) (drop (i + 2) (now (b .entry))) place at s ≡ commanded r (length (now (b .entry)) - i) g left R place at s) ⌝ }
     ensures within { λ r. ⌜ Within r (now (b .entry)) i ⌝ }
 {
     if i + 2 >= b.len() {

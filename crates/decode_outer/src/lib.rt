@@ -60,7 +60,9 @@ fn call(
 ) -> Outer
     requires { ⌜ Outside (now input) 1 d ⌝ }
     requires { ⌜ (i < length (now input)) × (at < 65535) ⌝ }
-    ensures { λ r. ⌜ ((e : ℕ) → getD (d .core .sets) e 0 ≡ 15 → OuterStep (now (cells .entry)) (now (input .entry)) i (λ g. graphic g 4 (below g 4) e (getD (now (input .entry)) i 0) (drop (i + 1) (now (input .entry))) at) d (now (text .entry)) (now (issues .entry)) r (now (text .exit)) (now (issues .exit))) ⌝ }
+    ensures { λ r. ⌜ ((e : ℕ) → getD (d .core .sets) e 0 ≡ 15 →
+        OuterStep (now (cells .entry)) (now (input .entry)) i (λ g. graphic g 4 (below g 4) e (getD (now (input .entry)) i 0) (drop (i + 1) (now (input .entry))) at) d
+        (now (text .entry)) (now (issues .entry)) r (now (text .exit)) (now (issues .exit))) ⌝ }
 {
     let core = d.core;
     let p = Place {
@@ -99,7 +101,8 @@ fn execute(
 ) -> Decoder
     requires { ⌜ Outside (now input) 1 d ⌝ }
     requires { ⌜ (code < 128) × (at < 65535) ⌝ }
-    ensures { λ r. ⌜ Executed (now (cells .entry)) (now (input .entry)) (λ g. runMacro g 4 (below g 4) code at) d (now (text .entry)) (now (issues .entry)) r (now (text .exit)) (now (issues .exit)) ⌝ }
+    ensures { λ r. ⌜ Executed (now (cells .entry)) (now (input .entry)) (λ g. runMacro g 4 (below g 4) code at) d (now (text .entry)) (now (issues .entry)) r
+        (now (text .exit)) (now (issues .exit)) ⌝ }
 {
     let core = d.core;
     let p = Place {
@@ -136,7 +139,8 @@ fn definition(
     requires { ⌜ Outside (now input) 1 d ⌝ }
     requires { ⌜ i < length (now input) ⌝ }
     requires { ⌜ Defined code len (now input) i ⌝ }
-    ensures { λ r. ⌜ OuterStep (now (cells .entry)) (now (input .entry)) i (λ g. defined g 4 (below g 4) (cond runs 0x41 0x40) code len i i) d (now (text .entry)) (now (issues .entry)) r (now (text .exit)) (now (issues .exit)) ⌝ }
+    ensures { λ r. ⌜ OuterStep (now (cells .entry)) (now (input .entry)) i (λ g. defined g 4 (below g 4) (cond runs 0x41 0x40) code len i i) d (now (text .entry))
+        (now (issues .entry)) r (now (text .exit)) (now (issues .exit)) ⌝ }
 {
     let defined = define(d, code, (i + 3) as u16, len as u16);
     if runs {
@@ -162,7 +166,8 @@ fn macro_cmd(
 ) -> Outer
     requires { ⌜ Outside (now input) 1 d ⌝ }
     requires { ⌜ i < length (now input) ⌝ }
-    ensures { λ r. ⌜ OuterStep (now (cells .entry)) (now (input .entry)) i (λ g. macroCmd g 4 (below g 4) (drop (i + 1) (now (input .entry))) i i) d (now (text .entry)) (now (issues .entry)) r (now (text .exit)) (now (issues .exit)) ⌝ }
+    ensures { λ r. ⌜ OuterStep (now (cells .entry)) (now (input .entry)) i (λ g. macroCmd g 4 (below g 4) (drop (i + 1) (now (input .entry))) i i) d (now (text .entry))
+        (now (issues .entry)) r (now (text .exit)) (now (issues .exit)) ⌝ }
 {
     let core = d.core;
     match decode_macros::read_command(input, i) {
@@ -209,7 +214,8 @@ fn step(
     requires { ⌜ Outside (now input) 1 d ⌝ }
     requires { ⌜ i < length (now input) ⌝ }
     requires { ⌜ StopAt stop (now input) i (d .core) ⌝ }
-    ensures { λ r. ⌜ OuterStep (now (cells .entry)) (now (input .entry)) i (stepAt (now (input .entry)) i) d (now (text .entry)) (now (issues .entry)) r (now (text .exit)) (now (issues .exit)) ⌝ }
+    ensures { λ r. ⌜ OuterStep (now (cells .entry)) (now (input .entry)) i (stepAt (now (input .entry)) i) d (now (text .entry)) (now (issues .entry)) r (now (text .exit))
+        (now (issues .exit)) ⌝ }
 {
     match stop {
         Stop::Macro => macro_cmd(cells, input, i, d, text, issues),

@@ -39,6 +39,10 @@ unfolding setRepeat
 wrote-repeat r t i p g =
     record {
       does = λ t₀ i₀ o h.
-          record { state = λ j. record { len = h .state j .len; end = h .state j .end; first = h .state j .first; repeat = r; issues = h .state j .issues }; text = h .text; issues = h .issues };
+          record {
+            state = λ j. record { len = h .state j .len; end = h .state j .end; first = h .state j .first; repeat = r; issues = h .state j .issues };
+            text = h .text;
+            issues = h .issues;
+          };
       grew = record { ordered = p .ordered; repeat = g; text = omega arith; issues = omega arith };
     }

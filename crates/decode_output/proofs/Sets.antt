@@ -116,7 +116,8 @@ shifted-more l m d j h k g =
     let vs = drop (suc j) (take m l) in
     let e : suc j + d ≡ suc (j + d) = omega arith in
     let x : getD (shifted l m d (suc j)) j 0 ≡ getD (take m l) j 0 = getD-sets vs l (suc j + d) j (omega arith) ∙ sym (getD-take m l j 0 h) in
-    let s : set (shifted l m d (suc j)) (j + d) (getD (take m l) j 0) ≡ sets (set l (j + d) (getD (take m l) j 0)) (suc j + d) vs = set-sets vs l (suc j + d) (j + d) (getD (take m l) j 0) (omega arith) in
+    let s : set (shifted l m d (suc j)) (j + d) (getD (take m l) j 0) ≡ sets (set l (j + d) (getD (take m l) j 0)) (suc j + d) vs = set-sets vs l (suc j + d) (j + d)
+    (getD (take m l) j 0) (omega arith) in
     ap (set (shifted l m d (suc j)) (j + d)) x
     ∙ s
     ∙ ap (λ (i : ℕ). sets (set l (j + d) (getD (take m l) j 0)) i vs) e

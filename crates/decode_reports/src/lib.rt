@@ -109,7 +109,8 @@ fn apply(effect: Effect, used: usize, start: u32, at: u32, s: Core, issues: &mut
 pub fn control(b: &[u8], i: usize, place: u32, at: u32, s: Core, issues: &mut [u32]) -> Stepped
     requires { ⌜ (i < length (now b)) × (length (now b) ≤ 65535) × Begins (getD (now b) i 0) ⌝ }
     requires { ⌜ Good 1 s ⌝ }
-    ensures { λ r. ⌜ ((g : Given) (left : ℕ) (R : Run) (t : List ℕ) → Took (now (b .entry)) i (step g left R (getD (now (b .entry)) i 0) (drop (i + 1) (now (b .entry))) place at) s t (now (issues .entry)) r t (now (issues .exit))) ⌝ }
+    ensures { λ r. ⌜ ((g : Given) (left : ℕ) (R : Run) (t : List ℕ) →
+        Took (now (b .entry)) i (step g left R (getD (now (b .entry)) i 0) (drop (i + 1) (now (b .entry))) place at) s t (now (issues .entry)) r t (now (issues .exit))) ⌝ }
 {
     let c = decode_controls::read(b, i);
     let effect = c.effect;

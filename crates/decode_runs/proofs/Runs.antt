@@ -52,7 +52,8 @@ module _ {cells b : List ℕ} {j to : ℕ} {v : Invoked} {n : ℕ} {t : List ℕ
               within = h;
               most = omega arith;
               goes = λ g e left R base origin i starts lens c p.
-                  subst (λ (z : Core). Goes g left R base origin b j (whole c starts lens) t i j (whole z starts lens) t i) (p .text) (goes-none g left R base origin b j (whole c starts lens) t i);
+                  subst (λ (z : Core). Goes g left R base origin b j (whole c starts lens) t i j (whole z starts lens) t i) (p .text)
+                  (goes-none g left R base origin b j (whole c starts lens) t i);
             };
         as-long = refl;
         room = r;
@@ -225,7 +226,8 @@ stretch-runs {cells} {b} {j} {l} {n} {c} {t} {j₁} {l₁} {n₁} {t₁} i base 
       within = w .within;
       kept = record { gl = w .fine .gl; gr = w .fine .gr; charged = refl; grew = record { ordered = omega arith; repeat = omega arith; text = omega arith; issues = omega arith } };
       goes = λ g q left R starts lens.
-          subst (λ (z : Core). Goes g left R base origin b j (whole z starts lens) t i j₁ (whole (coreAt l₁ n₁ c) starts lens) t₁ i) (sym e) (w .goes g q left R base origin i starts lens c refl);
+          subst (λ (z : Core). Goes g left R base origin b j (whole z starts lens) t i j₁ (whole (coreAt l₁ n₁ c) starts lens) t₁ i) (sym e)
+          (w .goes g q left R base origin i starts lens c refl);
     })
 
 -- ---- the settings, from the struct and back

@@ -126,7 +126,8 @@ fn runs_from(
     text: &mut [u8],
 ) -> Reached
     requires { ⌜ (from .at ≤ length (now b)) × (8836 ≤ length (now cells)) × (from .len ≤ length (now text)) × Fine (now settings) ⌝ }
-    ensures { λ r. ⌜ RunsTo (now (cells .entry)) (now (b .entry)) (from .at) annex (now (settings .entry)) (from .len) (now (text .entry)) (r .at) (now (settings .exit)) (r .len) (now (text .exit)) ⌝ }
+    ensures { λ r. ⌜ RunsTo (now (cells .entry)) (now (b .entry)) (from .at) annex (now (settings .entry)) (from .len) (now (text .entry)) (r .at) (now (settings .exit))
+        (r .len) (now (text .exit)) ⌝ }
 {
     let mut i = from.at;
     let mut m = from.len;

@@ -72,7 +72,8 @@ fn apply(c: Control, settings: &mut [u8]) -> usize
 /// A code below 08/0 outside GL. SP and APR write, and single shifts read a character.
 fn control0(b: &[u8], i: usize, settings: &mut [u8]) -> usize
     requires { ⌜ (i < length (now b)) × Settings (now settings) ⌝ }
-    ensures { λ r. ⌜ ((g : Given) (left : ℕ) (R : Run) (place at : ℕ) → Turns (control0 g left R (getD (now (b .entry)) i 0) (drop (i + 1) (now (b .entry))) place at) (now (b .entry)) i (now (settings .entry)) r (now (settings .exit))) ⌝ }
+    ensures { λ r. ⌜ ((g : Given) (left : ℕ) (R : Run) (place at : ℕ) → Turns (control0 g left R (getD (now (b .entry)) i 0) (drop (i + 1) (now (b .entry))) place at)
+        (now (b .entry)) i (now (settings .entry)) r (now (settings .exit))) ⌝ }
 {
     match b[i] {
         LS0 => apply(decode_controls::invoke(0), settings),
@@ -86,7 +87,8 @@ fn control0(b: &[u8], i: usize, settings: &mut [u8]) -> usize
 /// A code from 08/0 on outside GR. RPC makes a character wait.
 fn control1(b: &[u8], i: usize, settings: &mut [u8]) -> usize
     requires { ⌜ (i < length (now b)) × Settings (now settings) ⌝ }
-    ensures { λ r. ⌜ ((g : Given) (left : ℕ) (R : Run) (place at : ℕ) → Turns (control1 g left R (getD (now (b .entry)) i 0) (drop (i + 1) (now (b .entry))) place at) (now (b .entry)) i (now (settings .entry)) r (now (settings .exit))) ⌝ }
+    ensures { λ r. ⌜ ((g : Given) (left : ℕ) (R : Run) (place at : ℕ) → Turns (control1 g left R (getD (now (b .entry)) i 0) (drop (i + 1) (now (b .entry))) place at)
+        (now (b .entry)) i (now (settings .entry)) r (now (settings .exit))) ⌝ }
 {
     match b[i] {
         BKF..=WHF => 1,
@@ -105,7 +107,8 @@ fn control1(b: &[u8], i: usize, settings: &mut [u8]) -> usize
 /// One control.
 fn control(b: &[u8], i: usize, settings: &mut [u8]) -> usize
     requires { ⌜ (i < length (now b)) × Settings (now settings) ⌝ }
-    ensures { λ r. ⌜ ((g : Given) (left : ℕ) (R : Run) (place at : ℕ) → Turns (step g left R (getD (now (b .entry)) i 0) (drop (i + 1) (now (b .entry))) place at) (now (b .entry)) i (now (settings .entry)) r (now (settings .exit))) ⌝ }
+    ensures { λ r. ⌜ ((g : Given) (left : ℕ) (R : Run) (place at : ℕ) → Turns (step g left R (getD (now (b .entry)) i 0) (drop (i + 1) (now (b .entry))) place at)
+        (now (b .entry)) i (now (settings .entry)) r (now (settings .exit))) ⌝ }
 {
     match b[i] {
         0x21..=0x7E => 0,

@@ -33,24 +33,120 @@ withOut c x = record { sets = c .sets; gl = c .gl; gr = c .gr; narrow = c .narro
 module _ (g : Given) (starts lens t₀ i₀ : List ℕ) (s : State) (c : Core) (t i : List ℕ) (h : Holds g t₀ i₀ s (whole c starts lens) t i) where
   pub holds-writes : (f : Output → Output) (o : Out) (t′ i′ : List ℕ) → output.Holds t₀ i₀ (f (s .out)) o t′ i′ → Holds g t₀ i₀ (writes f s) (whole (withOut c o) starts lens) t′ i′
   unfolding writes
-  holds-writes f o t′ i′ k = record { state = λ j. record { core = record { sets = h .state j .core .sets; gl = h .state j .core .gl; gr = h .state j .core .gr; narrow = h .state j .core .narrow; annex = h .state j .core .annex; charged = h .state j .core .charged; out = o }; starts = h .state j .starts; lens = h .state j .lens }; out = k }
+  holds-writes f o t′ i′ k =
+      record {
+        state = λ j. record {
+          core = record {
+            sets = h .state j .core .sets;
+            gl = h .state j .core .gl;
+            gr = h .state j .core .gr;
+            narrow = h .state j .core .narrow;
+            annex = h .state j .core .annex;
+            charged = h .state j .core .charged;
+            out = o;
+          };
+          starts = h .state j .starts;
+          lens = h .state j .lens;
+        };
+        out = k;
+      }
 
   pub holds-gl : (e : ℕ) → Holds g t₀ i₀ (invokeGL e s) (whole (withGL c e) starts lens) t i
   unfolding invokeGL
-  holds-gl e = record { state = λ j. record { core = record { sets = h .state j .core .sets; gl = e; gr = h .state j .core .gr; narrow = h .state j .core .narrow; annex = h .state j .core .annex; charged = h .state j .core .charged; out = c .out }; starts = h .state j .starts; lens = h .state j .lens }; out = h .out }
+  holds-gl e =
+      record {
+        state = λ j. record {
+          core = record {
+            sets = h .state j .core .sets;
+            gl = e;
+            gr = h .state j .core .gr;
+            narrow = h .state j .core .narrow;
+            annex = h .state j .core .annex;
+            charged = h .state j .core .charged;
+            out = c .out;
+          };
+          starts = h .state j .starts;
+          lens = h .state j .lens;
+        };
+        out = h .out;
+      }
 
   pub holds-gr : (e : ℕ) → Holds g t₀ i₀ (invokeGR e s) (whole (withGR c e) starts lens) t i
   unfolding invokeGR
-  holds-gr e = record { state = λ j. record { core = record { sets = h .state j .core .sets; gl = h .state j .core .gl; gr = e; narrow = h .state j .core .narrow; annex = h .state j .core .annex; charged = h .state j .core .charged; out = c .out }; starts = h .state j .starts; lens = h .state j .lens }; out = h .out }
+  holds-gr e =
+      record {
+        state = λ j. record {
+          core = record {
+            sets = h .state j .core .sets;
+            gl = h .state j .core .gl;
+            gr = e;
+            narrow = h .state j .core .narrow;
+            annex = h .state j .core .annex;
+            charged = h .state j .core .charged;
+            out = c .out;
+          };
+          starts = h .state j .starts;
+          lens = h .state j .lens;
+        };
+        out = h .out;
+      }
 
   pub holds-narrow : (b : Bool) → Holds g t₀ i₀ (resize b s) (whole (withNarrow c b) starts lens) t i
   unfolding resize
-  holds-narrow b = record { state = λ j. record { core = record { sets = h .state j .core .sets; gl = h .state j .core .gl; gr = h .state j .core .gr; narrow = b; annex = h .state j .core .annex; charged = h .state j .core .charged; out = c .out }; starts = h .state j .starts; lens = h .state j .lens }; out = h .out }
+  holds-narrow b =
+      record {
+        state = λ j. record {
+          core = record {
+            sets = h .state j .core .sets;
+            gl = h .state j .core .gl;
+            gr = h .state j .core .gr;
+            narrow = b;
+            annex = h .state j .core .annex;
+            charged = h .state j .core .charged;
+            out = c .out;
+          };
+          starts = h .state j .starts;
+          lens = h .state j .lens;
+        };
+        out = h .out;
+      }
 
   pub holds-sets : (e n : ℕ) → Holds g t₀ i₀ (designate e n s) (whole (withSets c (set (c .sets) e n)) starts lens) t i
   unfolding designate
-  holds-sets e n = record { state = λ j. record { core = record { sets = set (h .state j .core .sets) e n; gl = h .state j .core .gl; gr = h .state j .core .gr; narrow = h .state j .core .narrow; annex = h .state j .core .annex; charged = h .state j .core .charged; out = c .out }; starts = h .state j .starts; lens = h .state j .lens }; out = h .out }
+  holds-sets e n =
+      record {
+        state = λ j. record {
+          core = record {
+            sets = set (h .state j .core .sets) e n;
+            gl = h .state j .core .gl;
+            gr = h .state j .core .gr;
+            narrow = h .state j .core .narrow;
+            annex = h .state j .core .annex;
+            charged = h .state j .core .charged;
+            out = c .out;
+          };
+          starts = h .state j .starts;
+          lens = h .state j .lens;
+        };
+        out = h .out;
+      }
 
   pub holds-charged : (n : ℕ) → Holds g t₀ i₀ (charge n s) (whole (withCharged c (c .charged + n)) starts lens) t i
   unfolding charge
-  holds-charged n = record { state = λ j. record { core = record { sets = h .state j .core .sets; gl = h .state j .core .gl; gr = h .state j .core .gr; narrow = h .state j .core .narrow; annex = h .state j .core .annex; charged = h .state j .core .charged + n; out = c .out }; starts = h .state j .starts; lens = h .state j .lens }; out = h .out }
+  holds-charged n =
+      record {
+        state = λ j. record {
+          core = record {
+            sets = h .state j .core .sets;
+            gl = h .state j .core .gl;
+            gr = h .state j .core .gr;
+            narrow = h .state j .core .narrow;
+            annex = h .state j .core .annex;
+            charged = h .state j .core .charged + n;
+            out = c .out;
+          };
+          starts = h .state j .starts;
+          lens = h .state j .lens;
+        };
+        out = h .out;
+      }

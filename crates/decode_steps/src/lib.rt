@@ -132,7 +132,8 @@ fn invoke_gl(s: Core, e: u8) -> Stepped
 /// APR. Table 7-15.
 fn newline(s: Core, text: &mut [u8], issues: &mut [u32]) -> Stepped
     requires { ⌜ Good 1 s ⌝ }
-    ensures { λ r. ⌜ ((cells b : List ℕ) (i : ℕ) → i < length b → TookOver cells b i (λ g s. took 1 (writes newline s)) s (now (text .entry)) (now (issues .entry)) r (now (text .exit)) (now (issues .exit))) ⌝ }
+    ensures { λ r. ⌜ ((cells b : List ℕ) (i : ℕ) → i < length b → TookOver cells b i (λ g s. took 1 (writes newline s)) s (now (text .entry)) (now (issues .entry)) r
+        (now (text .exit)) (now (issues .exit))) ⌝ }
 {
     let o = decode_output::newline(s.out, text, issues);
     let mut r = s;
@@ -154,7 +155,9 @@ fn control0(
     requires { ⌜ (i < length (now b)) × (length (now b) ≤ 65535) ⌝ }
     requires { ⌜ Good 1 s ⌝ }
     requires { ⌜ Passes (now b) i s ⌝ }
-    ensures { λ r. ⌜ ((left : ℕ) (R : Run) → TookOver (now (cells .entry)) (now (b .entry)) i (λ g. control0 g left R (getD (now (b .entry)) i 0) (drop (i + 1) (now (b .entry))) place at) s (now (text .entry)) (now (issues .entry)) r (now (text .exit)) (now (issues .exit))) ⌝ }
+    ensures { λ r. ⌜ ((left : ℕ) (R : Run) → TookOver (now (cells .entry)) (now (b .entry)) i
+        (λ g. control0 g left R (getD (now (b .entry)) i 0) (drop (i + 1) (now (b .entry))) place at) s (now (text .entry)) (now (issues .entry)) r (now (text .exit))
+        (now (issues .exit))) ⌝ }
 {
     let x = b[i];
     match x {
@@ -182,7 +185,9 @@ fn graphic(
 ) -> Stepped
     requires { ⌜ (i < length (now b)) × (e < 4) × (isGraphic (getD (now b) i 0) ≡ true) × (getD (s .sets) e 0 ≡ 15 → ⊥) ⌝ }
     requires { ⌜ Good 1 s ⌝ }
-    ensures { λ r. ⌜ ((left : ℕ) (R : Run) → TookOver (now (cells .entry)) (now (b .entry)) i (λ g. graphicOf g left R (getD (s .sets) e 0) (getD (now (b .entry)) i 0) (drop (i + 1) (now (b .entry))) at) s (now (text .entry)) (now (issues .entry)) r (now (text .exit)) (now (issues .exit))) ⌝ }
+    ensures { λ r. ⌜ ((left : ℕ) (R : Run) → TookOver (now (cells .entry)) (now (b .entry)) i
+        (λ g. graphicOf g left R (getD (s .sets) e 0) (getD (now (b .entry)) i 0) (drop (i + 1) (now (b .entry))) at) s (now (text .entry)) (now (issues .entry)) r
+        (now (text .exit)) (now (issues .exit))) ⌝ }
 {
     let sets = s.sets;
     decode_graphic::graphic(cells, b, i, sets[e], at, s, text, issues)
@@ -202,7 +207,9 @@ fn simple(
     requires { ⌜ (i < length (now b)) × (length (now b) ≤ 65535) ⌝ }
     requires { ⌜ Good 1 s ⌝ }
     requires { ⌜ Passes (now b) i s ⌝ }
-    ensures { λ r. ⌜ ((left : ℕ) (R : Run) → TookOver (now (cells .entry)) (now (b .entry)) i (λ g. step g left R (getD (now (b .entry)) i 0) (drop (i + 1) (now (b .entry))) place at) s (now (text .entry)) (now (issues .entry)) r (now (text .exit)) (now (issues .exit))) ⌝ }
+    ensures { λ r. ⌜ ((left : ℕ) (R : Run) → TookOver (now (cells .entry)) (now (b .entry)) i
+        (λ g. step g left R (getD (now (b .entry)) i 0) (drop (i + 1) (now (b .entry))) place at) s (now (text .entry)) (now (issues .entry)) r (now (text .exit))
+        (now (issues .exit))) ⌝ }
 {
     let x = b[i];
     match x {

@@ -20,7 +20,8 @@ use Rattle.encode.specs.declared.call.Answer.{Answer}
 use Rattle.encode.specs.declared.call.Answer.the-variants as answer
 
 -- a refusal
-pub refused-as : {number place : ℕ} {s b s′ b′ : List ℕ} {r : Answer} (f : Refusal) (k : Coded) → f ≡ refuse number place → 1 ≤ number → Refuses number place s b r s′ b′ → Answers f k s b r s′ b′
+pub refused-as : {number place : ℕ} {s b s′ b′ : List ℕ} {r : Answer} (f : Refusal) (k : Coded) → f ≡ refuse number place → 1 ≤ number → Refuses number place s b r s′ b′ →
+    Answers f k s b r s′ b′
 refused-as {number} {place} {r = r} f k e h q =
     let n : numberOf r ≡ number = ap numberOf (q .answer) in
     record {
@@ -51,7 +52,8 @@ wrote-nothing {s} {b} {s′} {b′} k eo eg q =
       store = q .store;
     }
 
-pub wrote : {s b b₁ b₂ s′ : List ℕ} {len gap : ℕ} (k : Coded) → len ≡ length (k .out) → gap ≡ k .gap → len ≤ length b → b₁ ≡ sets b 0 (k .out) → b₂ ≡ cleared b₁ len → s′ ≡ cleared s 0 → Answers (question8 (length b) k) k s b (answer.Coded len gap) s′ b₂
+pub wrote : {s b b₁ b₂ s′ : List ℕ} {len gap : ℕ} (k : Coded) → len ≡ length (k .out) → gap ≡ k .gap → len ≤ length b → b₁ ≡ sets b 0 (k .out) → b₂ ≡ cleared b₁ len →
+    s′ ≡ cleared s 0 → Answers (question8 (length b) k) k s b (answer.Coded len gap) s′ b₂
 unfolding question8
 wrote {s} {b} {b₁} {b₂} {s′} {len} {gap} k el eg h e₁ e₂ es =
     let g : length (k .out) ≤ length b = omega (arith, h, el) in
@@ -86,7 +88,8 @@ rejected-as : (f : Refusal) (c : Lent) (n : ℕ) → f .number ≡ suc n → out
 unfolding outcomeOf
 rejected-as f c n e = rw (e, outcomeOf) refl
 
-same-as : (c : Lent) (r : Answer) (s′ b′ : List ℕ) (o : Outcome) → outcome c ≡ o → (numberOf r ≡ 0 → r ≡ answer.Coded (lengthOf r) (gapOf r)) → numberOf r ≡ o .refused → placeOf r ≡ o .place → lengthOf r ≡ o .length → gapOf r ≡ o .gap → b′ ≡ o .buffer → s′ ≡ o .store → Answered c r s′ b′
+same-as : (c : Lent) (r : Answer) (s′ b′ : List ℕ) (o : Outcome) → outcome c ≡ o → (numberOf r ≡ 0 → r ≡ answer.Coded (lengthOf r) (gapOf r)) → numberOf r ≡ o .refused →
+    placeOf r ≡ o .place → lengthOf r ≡ o .length → gapOf r ≡ o .gap → b′ ≡ o .buffer → s′ ≡ o .store → Answered c r s′ b′
 same-as c r s′ b′ o e k n p l g b s =
     record {
       number = n ∙ sym (ap (λ (x : Outcome). x .refused) e);
@@ -98,7 +101,8 @@ same-as c r s′ b′ o e k n p l g b s =
       cleared = s ∙ sym (ap (λ (x : Outcome). x .store) e);
     }
 
-outcome-as : (c : Lent) (s b : List ℕ) {r : Answer} {s′ b′ : List ℕ} (f : Refusal) → refusal c ≡ f → c .storeRoom ≡ length s → c .codingRoom ≡ length b → Answers f (coding c) s b r s′ b′ → Answered c r s′ b′
+outcome-as : (c : Lent) (s b : List ℕ) {r : Answer} {s′ b′ : List ℕ} (f : Refusal) → refusal c ≡ f → c .storeRoom ≡ length s → c .codingRoom ≡ length b →
+    Answers f (coding c) s b r s′ b′ → Answered c r s′ b′
 unfolding outcome
 outcome-as c s b {r} {s′} {b′} f e es eb q = go (f .number) refl
   where
@@ -117,11 +121,13 @@ outcome-as c s b {r} {s′} {b′} f e es eb q = go (f .number) refl
         same-as c r s′ b′ (rejection c (suc n) (f .place)) (o ∙ rejected-as f c n z) (q .case) (q .number ∙ z) (a .0) (a .1) (a .2) (a .3 ∙ ap (λ (x : ℕ). padded x []) (sym eb)) store
 
 -- questions 1 to 3
-first-three : (cells : List ℕ) (initial width : ℕ) (text s b : List ℕ) → firstRefusal cells initial width 7281 (length text) ≡ 0 → refusal (lent cells initial width text s b) ≡ question4 (lent cells initial width text s b)
+first-three : (cells : List ℕ) (initial width : ℕ) (text s b : List ℕ) → firstRefusal cells initial width 7281 (length text) ≡ 0 →
+    refusal (lent cells initial width text s b) ≡ question4 (lent cells initial width text s b)
 unfolding refusal
 first-three cells initial width text s b e = rw (e, refusal) refl
 
-pub refused-first : {q : ℕ} (cells : List ℕ) (initial width : ℕ) (text s b : List ℕ) {r : Answer} {s′ b′ : List ℕ} → q ≡ firstRefusal cells initial width 7281 (length text) → 0 < q → Refuses q 0 s b r s′ b′ → Answered (lent cells initial width text s b) r s′ b′
+pub refused-first : {q : ℕ} (cells : List ℕ) (initial width : ℕ) (text s b : List ℕ) {r : Answer} {s′ b′ : List ℕ} → q ≡ firstRefusal cells initial width 7281 (length text) →
+    0 < q → Refuses q 0 s b r s′ b′ → Answered (lent cells initial width text s b) r s′ b′
 unfolding refusal
 refused-first {q} cells initial width text s b {r} {s′} {b′} e h g = go q (sym e) h g
   where
@@ -141,18 +147,25 @@ module _ (cells : List ℕ) (initial width : ℕ) (text s b s₁ chs ks ss : Lis
   unfolding leads
   leading e = subst (λ (x : Plan). leads x (eqb width 1) (coding c) s₁ chs ks ss) e (d .found)
 
-  pub answered-nothing : {r : Answer} {s′ b′ : List ℕ} → firstRefusal cells initial width 7281 (length text) ≡ 0 → p ≡ plan.Nothing → length s₁ ≡ length s → ((k : Coded) → k .out ≡ [] → k .gap ≡ 0 → Answers (question8 (length b) k) k s₁ b r s′ b′) → Answered c r s′ b′
+  pub answered-nothing : {r : Answer} {s′ b′ : List ℕ} → firstRefusal cells initial width 7281 (length text) ≡ 0 → p ≡ plan.Nothing → length s₁ ≡ length s →
+      ((k : Coded) → k .out ≡ [] → k .gap ≡ 0 → Answers (question8 (length b) k) k s₁ b r s′ b′) → Answered c r s′ b′
   unfolding planned leads
   answered-nothing z e m q =
       let h = subst (λ (x : Plan). leads x (eqb width 1) (coding c) s₁ chs ks ss) e (d .found) in
-      outcome-as c s₁ b (question8 (length b) (coding c)) (first-three cells initial width text s b z ∙ d .answer ∙ ap (λ (x : Plan). planned x (length b) (coding c)) e) (sym m) refl (q (coding c) (h .0) (h .1))
+      outcome-as c s₁ b (question8 (length b) (coding c)) (first-three cells initial width text s b z ∙ d .answer ∙ ap (λ (x : Plan). planned x (length b) (coding c)) e)
+      (sym m) refl (q (coding c) (h .0) (h .1))
 
-  pub answered-written : {n from node len gap : ℕ} {r : Answer} {s′ b′ : List ℕ} → firstRefusal cells initial width 7281 (length text) ≡ 0 → p ≡ plan.Leads n from node len gap → length s₁ ≡ length s → Answers (question8 (length b) (coding c)) (coding c) s₁ b r s′ b′ → Answered c r s′ b′
+  pub answered-written : {n from node len gap : ℕ} {r : Answer} {s′ b′ : List ℕ} → firstRefusal cells initial width 7281 (length text) ≡ 0 →
+      p ≡ plan.Leads n from node len gap → length s₁ ≡ length s → Answers (question8 (length b) (coding c)) (coding c) s₁ b r s′ b′ → Answered c r s′ b′
   unfolding planned
-  answered-written {s′ = s′} {b′ = b′} z e m q = outcome-as c s₁ b (question8 (length b) (coding c)) (first-three cells initial width text s b z ∙ d .answer ∙ ap (λ (x : Plan). planned x (length b) (coding c)) e) (sym m) refl q
+  answered-written {s′ = s′} {b′ = b′} z e m q =
+      outcome-as c s₁ b (question8 (length b) (coding c)) (first-three cells initial width text s b z ∙ d .answer ∙ ap (λ (x : Plan). planned x (length b) (coding c)) e)
+      (sym m) refl q
 
-  pub answered-refused : {number place : ℕ} {r : Answer} {s′ b′ : List ℕ} → firstRefusal cells initial width 7281 (length text) ≡ 0 → p ≡ plan.Refused number place → length s₁ ≡ length s → Refuses number place s₁ b r s′ b′ → Answered c r s′ b′
+  pub answered-refused : {number place : ℕ} {r : Answer} {s′ b′ : List ℕ} → firstRefusal cells initial width 7281 (length text) ≡ 0 → p ≡ plan.Refused number place →
+      length s₁ ≡ length s → Refuses number place s₁ b r s′ b′ → Answered c r s′ b′
   unfolding planned leads
   answered-refused {number} {place} z e m q =
       let h : 1 ≤ number = subst (λ (x : Plan). leads x (eqb width 1) (coding c) s₁ chs ks ss) e (d .found) in
-      outcome-as c s₁ b (refuse number place) (first-three cells initial width text s b z ∙ d .answer ∙ ap (λ (x : Plan). planned x (length b) (coding c)) e) (sym m) refl (refused-as (refuse number place) (coding c) refl h q)
+      outcome-as c s₁ b (refuse number place) (first-three cells initial width text s b z ∙ d .answer ∙ ap (λ (x : Plan). planned x (length b) (coding c)) e) (sym m) refl
+      (refused-as (refuse number place) (coding c) refl h q)

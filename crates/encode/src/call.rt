@@ -35,7 +35,8 @@ fn refuse(number: u32, place: usize, store: &mut [u32], coding: &mut [u8]) -> An
 
 /// The coding of no character.
 fn nothing(store: &mut [u32], coding: &mut [u8]) -> Answer
-    ensures { λ r. ⌜ ((k : Coded) → k .out ≡ [] → k .gap ≡ 0 → Answers (question8 (length (now (coding .entry))) k) k (now (store .entry)) (now (coding .entry)) r (now (store .exit)) (now (coding .exit))) ⌝ }
+    ensures { λ r. ⌜ ((k : Coded) → k .out ≡ [] → k .gap ≡ 0 → Answers (question8 (length (now (coding .entry))) k) k (now (store .entry)) (now (coding .entry)) r
+        (now (store .exit)) (now (coding .exit))) ⌝ }
 {
     zero(store, coding);
     Answer::Coded { length: 0, gap: 0 }
@@ -56,7 +57,8 @@ fn write(
     coding: &mut [u8],
 ) -> Answer
     requires { ⌜ Held (now chars) (now kanji) (now symbols) n × Searched annex (now chars) (now kanji) (now symbols) n (now layers) from node ⌝ }
-    ensures { λ r. ⌜ ((k : Coded) → Leading annex k n from node length gap (now (layers .entry)) (now (chars .entry)) (now (kanji .entry)) (now (symbols .entry)) → Answers (question8 (lib.ListN.length (now (coding .entry))) k) k (now (layers .entry)) (now (coding .entry)) r (now (layers .exit)) (now (coding .exit))) ⌝ }
+    ensures { λ r. ⌜ ((k : Coded) → Leading annex k n from node length gap (now (layers .entry)) (now (chars .entry)) (now (kanji .entry)) (now (symbols .entry)) →
+        Answers (question8 (lib.ListN.length (now (coding .entry))) k) k (now (layers .entry)) (now (coding .entry)) r (now (layers .exit)) (now (coding .exit))) ⌝ }
 {
     if coding.len() < length {
         return refuse(8, 0, layers, coding);

@@ -19,7 +19,24 @@ use Rattle.laws_coding.proofs.Chains.{begins, run-chain, at}
 use Rattle.base.proofs.Every.{all-at}
 use Rattle.encode_writing.proofs.Laws.{sets-before}
 use Rattle.encode_backtrack.specs.Contracts.{Chosen, Searched}
-use Rattle.encode_backtrack.proofs.Nodes.{node-at, length-layer, at-layer, entry-has, Linking, Linked, linked-of, linked-link, linked-rest, linked-start, Newest, newest-of, Behind, behind-of, Alone, alone-of}
+use Rattle.encode_backtrack.proofs.Nodes.{
+  node-at,
+  length-layer,
+  at-layer,
+  entry-has,
+  Linking,
+  Linked,
+  linked-of,
+  linked-link,
+  linked-rest,
+  linked-start,
+  Newest,
+  newest-of,
+  Behind,
+  behind-of,
+  Alone,
+  alone-of,
+}
 
 -- the node before the one at a place, a node's cost, and how it was written
 abbrev pub beforeOf : List ℕ → ℕ → ℕ
@@ -48,7 +65,8 @@ pub record Going (css : List (List Cand)) (s : List ℕ) (k p : ℕ) (l₀ l tar
   pub coding : l ≡ sets l₀ (costOf s p) acc
 
 -- a node, the one before it, and what lies between
-module _ (css : List (List Cand)) (s : List ℕ) (k from count i : ℕ) (ls : List (List Node)) (t : State) (b : Behind css s k from count ls) (linked : Linked t ls) (fits : (from + count) * 4 ≤ length s) (h : i < count) where
+module _ (css : List (List Cand)) (s : List ℕ) (k from count i : ℕ) (ls : List (List Node)) (t : State) (b : Behind css s k from count ls) (linked : Linked t ls)
+    (fits : (from + count) * 4 ≤ length s) (h : i < count) where
   abbrev p : ℕ
   p = from + i
 
@@ -95,7 +113,8 @@ module _ (css : List (List Cand)) (s : List ℕ) (k from count i : ℕ) (ls : Li
   before-fits : beforeOf s p * 4 + 4 ≤ length s
   before-fits = rw place′ (omega (arith, inside′, fits′))
 
-  next : (l₀ l l′ acc target : List ℕ) (K : List Cand) → K ≡ cs → back ls i acc ≡ target → l ≡ sets l₀ (costOf s p) acc → l′ ≡ sets l (costOf s (beforeOf s p)) (written K (howOf s p)) → Going css s k (beforeOf s p) l₀ l′ target
+  next : (l₀ l l′ acc target : List ℕ) (K : List Cand) → K ≡ cs → back ls i acc ≡ target → l ≡ sets l₀ (costOf s p) acc →
+      l′ ≡ sets l (costOf s (beforeOf s p)) (written K (howOf s p)) → Going css s k (beforeOf s p) l₀ l′ target
   next l₀ l l′ acc target K same y z w =
       let bs : List ℕ = written cs (howOf s p) in
       record {
@@ -111,18 +130,22 @@ module _ (css : List (List Cand)) (s : List ℕ) (k from count i : ℕ) (ls : Li
         inside = inside′;
         place = place′;
         bytes = sym (bytes′ acc) ∙ y;
-        coding = w ∙ ap (λ (x : List Cand). sets l (costOf s (beforeOf s p)) (written x (howOf s p))) same ∙ ap (λ (x : List ℕ). sets x (costOf s (beforeOf s p)) bs) z ∙ sets-before bs acc l₀ (costOf s p) (costOf s (beforeOf s p)) (cost′ ∙ ap (λ (x : ℕ). costOf s x + length bs) (sym place′));
+        coding =
+            w ∙ ap (λ (x : List Cand). sets l (costOf s (beforeOf s p)) (written x (howOf s p))) same ∙ ap (λ (x : List ℕ). sets x (costOf s (beforeOf s p)) bs) z ∙
+            sets-before bs acc l₀ (costOf s p) (costOf s (beforeOf s p)) (cost′ ∙ ap (λ (x : ℕ). costOf s x + length bs) (sym place′));
       }
 
 -- the start
-start-end : (s : List ℕ) (from count i : ℕ) (ls : List (List Node)) (t : State) → Alone s from count ls → Linked t ls → (from + count) * 4 ≤ length s → i < count → (l₀ acc target : List ℕ) → back ls i acc ≡ target → sets l₀ (costOf s (from + i)) acc ≡ sets l₀ 0 target
+start-end : (s : List ℕ) (from count i : ℕ) (ls : List (List Node)) (t : State) → Alone s from count ls → Linked t ls → (from + count) * 4 ≤ length s → i < count →
+    (l₀ acc target : List ℕ) → back ls i acc ≡ target → sets l₀ (costOf s (from + i)) acc ≡ sets l₀ 0 target
 unfolding back nodeOf
 start-end s from count i ls t a c f h l₀ acc target y =
     let e : i ≡ 0 = omega (arith, a .one) in
     let d : layerOf [] s from count ≡ node 0 0 t [] ∷ [] = linked-start (subst (Linked t) (a .whole) c) in
     let m : at (layerOf [] s from count) i ≡ node 0 0 t [] = ap (λ (x : List Node). at x i) d ∙ ap (λ (x : ℕ). at (node 0 0 t [] ∷ []) x) e in
     let z : costOf s (from + i) ≡ 0 = ap (λ (n : Node). n .cost) (sym (at-layer s from count f [] i h) ∙ m) in
-    let w : acc ≡ target = sym (ap (λ (x : List (List Node)). back x i acc) (a .whole) ∙ ap (λ (x : List ℕ × ℕ). x .0 ++ acc) (node-at (layerOf [] s from count) i ∙ ap (λ (n : Node). (n .bytes, n .prev)) m)) ∙ y in
+    let w : acc ≡ target = sym (ap (λ (x : List (List Node)). back x i acc) (a .whole) ∙
+    ap (λ (x : List ℕ × ℕ). x .0 ++ acc) (node-at (layerOf [] s from count) i ∙ ap (λ (n : Node). (n .bytes, n .prev)) m)) ∙ y in
     ap (λ (x : ℕ). sets l₀ x acc) z ∙ ap (sets l₀ 0) w
 
 module _ {css : List (List Cand)} {s l₀ target : List ℕ} where
@@ -131,10 +154,13 @@ module _ {css : List (List Cand)} {s l₀ target : List ℕ} where
   going-fits g = omega (arith, g .place, g .inside, g .fits)
 
   pub going-before : {k p : ℕ} {l : List ℕ} (j : ℕ) → k ≡ suc j → Going css s k p l₀ l target → beforeOf s p * 4 + 4 ≤ length s
-  going-before {k} {p} j e g = subst (λ (x : ℕ). beforeOf s x * 4 + 4 ≤ length s) (sym (g .place)) (before-fits css s j (g .from) (g .count) (g .i) (g .layers) (g .state) (behind-of j e (g .stand)) (g .linked) (g .fits) (g .inside))
+  going-before {k} {p} j e g =
+      subst (λ (x : ℕ). beforeOf s x * 4 + 4 ≤ length s) (sym (g .place))
+      (before-fits css s j (g .from) (g .count) (g .i) (g .layers) (g .state) (behind-of j e (g .stand)) (g .linked) (g .fits) (g .inside))
 
   -- a character more
-  pub going-on : {k p : ℕ} {l l′ : List ℕ} {cells : List ℕ} {annexE : Bool} {chs ks ss : List ℕ} (K : Cands) (j : ℕ) → k ≡ suc j → Chosen cells annexE chs ks ss j (getD css j []) → StandsForCandidates (getD chs j 0) (getD ks j 0) (getD ss j 0) annexE K
+  pub going-on : {k p : ℕ} {l l′ : List ℕ} {cells : List ℕ} {annexE : Bool} {chs ks ss : List ℕ} (K : Cands) (j : ℕ) → k ≡ suc j →
+      Chosen cells annexE chs ks ss j (getD css j []) → StandsForCandidates (getD chs j 0) (getD ks j 0) (getD ss j 0) annexE K
       → l′ ≡ sets l (costOf s (beforeOf s p)) (written (candsOf K) (howOf s p)) → Going css s k p l₀ l target → Going css s j (beforeOf s p) l₀ l′ target
   going-on {k} {p} {l} {l′} {cells} K j ek q st e g =
       let same : candsOf K ≡ getD css j [] = st .list cells (q .kanji) (q .symbol) ∙ sym (q .list) in
@@ -151,7 +177,8 @@ module _ {css : List (List Cand)} {s l₀ target : List ℕ} where
       (start-end s (g .from) (g .count) (g .i) (g .layers) (g .state) (alone-of e (g .stand)) (g .linked) (g .fits) (g .inside) l₀ (g .acc) target (g .bytes))
 
 -- the whole way
-pub going-start : {annexE : Bool} {chs ks ss s : List ℕ} {n from i : ℕ} (f : Searched annexE chs ks ss n s from i) (l : List ℕ) → Going (f .css) s n (from + i) l l (back (run (f .css) (begin (f .initial)) .layers) i [])
+pub going-start : {annexE : Bool} {chs ks ss s : List ℕ} {n from i : ℕ} (f : Searched annexE chs ks ss n s from i) (l : List ℕ) →
+    Going (f .css) s n (from + i) l l (back (run (f .css) (begin (f .initial)) .layers) i [])
 unfolding begin
 going-start {from = from} {i = i} f l =
     record {

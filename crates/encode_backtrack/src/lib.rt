@@ -60,7 +60,8 @@ pub fn write_back(
     coding: &mut [u8],
 )
     requires { ⌜ Held (now chars) (now kanji) (now symbols) n × Searched annex (now chars) (now kanji) (now symbols) n (now store) from i ⌝ }
-    ensures { λ _. ⌜ ((f : Searched annex (now (chars .entry)) (now (kanji .entry)) (now (symbols .entry)) n (now (store .entry)) from i) → now (coding .exit) ≡ sets (now (coding .entry)) 0 (back (run (f .css) (begin (f .initial)) .layers) i [])) ⌝ }
+    ensures { λ _. ⌜ ((f : Searched annex (now (chars .entry)) (now (kanji .entry)) (now (symbols .entry)) n (now (store .entry)) from i) →
+        now (coding .exit) ≡ sets (now (coding .entry)) 0 (back (run (f .css) (begin (f .initial)) .layers) i [])) ⌝ }
 {
     let mut k = n;
     let mut p = from + i;

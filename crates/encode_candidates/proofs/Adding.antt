@@ -59,7 +59,14 @@ module _ (k : Cands) (x b z : ℕ) (h : k .count < 9) (g : UnderConstruction k) 
             ∙ ap₂ _++_ (alike more k 0 (k .count) (λ j l. old (λ a c d. candOf a c d ≡ candAt k j) j (omega arith) refl))
             (ap (λ (y : Cand). y ∷ []) (ap (candAt more) (zero-add (k .count)) ∙ new (λ a c d. candOf a c d ≡ candOf x b z) refl));
         count = omega arith;
-        good = record { sets = length-set (k .sets) (k .count) x ∙ g .sets; codes = length-set (k .codes) (k .count) b ∙ g .codes; sizes = length-set (k .sizes) (k .count) z ∙ g .sizes; fits = each };
+        good =
+            record {
+              sets = length-set (k .sets) (k .count) x ∙ g .sets;
+              codes = length-set (k .codes) (k .count) b ∙ g .codes;
+              sizes = length-set (k .sizes) (k .count) z ∙
+                  g .sizes;
+              fits = each;
+            };
       }
 
 -- ---- none, and one after the other

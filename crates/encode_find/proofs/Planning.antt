@@ -100,7 +100,8 @@ module _ (annexE : Bool) (initial : ℕ) (s s′ chs ks ss : List ℕ) (n rest :
   pub led-nothing : n ≡ 0 → Led annexE (code css initial) Nothing s′ chs ks ss
   unfolding planned leads
   led-nothing e =
-      let k : code css initial ≡ record { out = []; gap = 0; states = 0 } = ap (λ (x : List (List Cand)). code x initial) (no-candidates (t .cells) annexE (t .chars) (sym e ∙ t .count)) ∙ code-none initial in
+      let k : code css initial ≡ record { out = []; gap = 0; states = 0 } = ap (λ (x : List (List Cand)). code x initial)
+      (no-candidates (t .cells) annexE (t .chars) (sym e ∙ t .count)) ∙ code-none initial in
       record { answer = λ room. question-none _ s′ room k; found = (ap (λ (x : Coded). x .out) k, ap (λ (x : Coded). x .gap) k) }
 
   module _ {fits : Bool} {from count floor : ℕ} (d : search.Searched chs ks ss n annexE initial rest s s′ fits from count floor) where
@@ -128,7 +129,8 @@ module _ (annexE : Bool) (initial : ℕ) (s s′ chs ks ss : List ℕ) (n rest :
       unfolding begin newest
       filled = run-filled css (t .each) (begin initial) (here tt)
 
-      pub led-found : (best node gap : ℕ) → Held chs ks ss n → ((cs : List Cand) → best ≡ least (layerOf cs s′ from count)) → ((cs : List Cand) → node ≡ firstOf best (layerOf cs s′ from count)) → gap ≡ gapOf best floor → Led annexE (code css initial) (Leads n from node best gap) s′ chs ks ss
+      pub led-found : (best node gap : ℕ) → Held chs ks ss n → ((cs : List Cand) → best ≡ least (layerOf cs s′ from count)) →
+          ((cs : List Cand) → node ≡ firstOf best (layerOf cs s′ from count)) → gap ≡ gapOf best floor → Led annexE (code css initial) (Leads n from node best gap) s′ chs ks ss
       unfolding code finish question7 planned leads
       led-found best node gap held eb en eg =
           let f = found-at in
@@ -159,7 +161,8 @@ module _ (annexE : Bool) (initial : ℕ) (s s′ chs ks ss : List ℕ) (n rest :
           }
 
 -- questions 4 to 6
-pub filled-all : (cells : List ℕ) (width : ℕ) (text : List ℕ) → without (inOrder (tokens text)) (candidatesOf cells (eqb width 1) (chars (inOrder (tokens text)))) ≡ none → All (λ cs. Some (λ k. Unit {0}) cs) (candidatesOf cells (eqb width 1) (chars (inOrder (tokens text))))
+pub filled-all : (cells : List ℕ) (width : ℕ) (text : List ℕ) → without (inOrder (tokens text)) (candidatesOf cells (eqb width 1) (chars (inOrder (tokens text)))) ≡ none →
+    All (λ cs. Some (λ k. Unit {0}) cs) (candidatesOf cells (eqb width 1) (chars (inOrder (tokens text))))
 unfolding choices ordering
 filled-all cells width text e = choices-filled (asked cells 0 width text [] 0) e
 
@@ -180,12 +183,15 @@ module _ (cells : List ℕ) (initial width : ℕ) (text : List ℕ) (chs ks ss :
         each = filled-all cells width text (q .each);
       }
 
-  pub arrays-of : {n rest : ℕ} → r ≡ tokens-variants.Ordered n rest → length text ≤ 7281 → length text ≤ length chs → length text ≤ length ks → length text ≤ length ss → Arrays chs ks ss n rest
+  pub arrays-of : {n rest : ℕ} → r ≡ tokens-variants.Ordered n rest → length text ≤ 7281 → length text ≤ length chs → length text ≤ length ks → length text ≤ length ss →
+      Arrays chs ks ss n rest
   arrays-of e h a b g =
       let q = ready e in
       record { chars = omega (arith, q .few); kanji = omega (arith, q .few); symbols = omega (arith, q .few); few = omega (arith, q .few); rest-small = omega (arith, q .few, q .short) }
 
-  pub planned-on : {n rest : ℕ} (s s′ : List ℕ) (room : ℕ) {p : Plan} → r ≡ tokens-variants.Ordered n rest → length s′ ≡ length s → Led (eqb width 1) (code (candidatesOf cells (eqb width 1) (chars (inOrder (tokens text)))) initial) p s′ chs ks ss → Planned (asked cells initial width text s room) p s′ chs ks ss
+  pub planned-on : {n rest : ℕ} (s s′ : List ℕ) (room : ℕ) {p : Plan} → r ≡ tokens-variants.Ordered n rest → length s′ ≡ length s →
+      Led (eqb width 1) (code (candidatesOf cells (eqb width 1) (chars (inOrder (tokens text)))) initial) p s′ chs ks ss →
+      Planned (asked cells initial width text s room) p s′ chs ks ss
   unfolding answered coding choices ordering
   planned-on s s′ room {p} e m l =
       let c = asked cells initial width text s room in
@@ -194,7 +200,8 @@ module _ (cells : List ℕ) (initial width : ℕ) (text : List ℕ) (chs ks ss :
         found = l .found;
       }
 
-  pub planned-not : {number place : ℕ} (s s′ : List ℕ) (room : ℕ) → r ≡ tokens-variants.Refused number place → Planned (asked cells initial width text s room) (Refused number place) s′ chs ks ss
+  pub planned-not : {number place : ℕ} (s s′ : List ℕ) (room : ℕ) → r ≡ tokens-variants.Refused number place →
+      Planned (asked cells initial width text s room) (Refused number place) s′ chs ks ss
   unfolding answered planned leads tokens-contracts.left
   planned-not s s′ room e =
       let c = asked cells initial width text s room in

@@ -55,7 +55,8 @@ fn lead(
     store: &mut [u32],
 ) -> Plan
     requires { ⌜ Arrays (now chars) (now kanji) (now symbols) n rest ⌝ }
-    ensures { λ r. ⌜ ((t : Characters annex (now (chars .entry)) (now (kanji .entry)) (now (symbols .entry)) n rest) → Led annex (code (candidatesOf (t .cells) annex (t .chars)) initial) r (now (store .exit)) (now (chars .entry)) (now (kanji .entry)) (now (symbols .entry))) ⌝ }
+    ensures { λ r. ⌜ ((t : Characters annex (now (chars .entry)) (now (kanji .entry)) (now (symbols .entry)) n rest) →
+        Led annex (code (candidatesOf (t .cells) annex (t .chars)) initial) r (now (store .exit)) (now (chars .entry)) (now (kanji .entry)) (now (symbols .entry))) ⌝ }
 {
     if n == 0 {
         return Plan::Nothing;
@@ -96,7 +97,8 @@ pub fn find(
     symbols: &mut [u16],
 ) -> Plan
     requires { ⌜ (length (now text) ≤ 7281) × tokens.ArraysFit (now text) (now chars) (now kanji) (now symbols) ⌝ }
-    ensures { λ r. ⌜ ((room : ℕ) → Planned (asked (now (cells .entry)) initial width (now (text .entry)) (now (store .entry)) room) r (now (store .exit)) (now (chars .exit)) (now (kanji .exit)) (now (symbols .exit))) ⌝ }
+    ensures { λ r. ⌜ ((room : ℕ) → Planned (asked (now (cells .entry)) initial width (now (text .entry)) (now (store .entry)) room) r (now (store .exit)) (now (chars .exit))
+        (now (kanji .exit)) (now (symbols .exit))) ⌝ }
 {
     let annex = width == 1;
     let t = encode_tokens::tokenise(cells, annex, text, &mut *chars, &mut *kanji, &mut *symbols);

@@ -115,5 +115,7 @@ module _ (s : List ℕ) (from count : ℕ) (fits : (from + count) * 4 ≤ length
       let e : drop i (layerOf cs s from count) ≡ [] = drop-of-length-le (layerOf cs s from count) {i = i} (omega arith) in
       rw e at (g cs)
 
-pub cost-bound : (s : List ℕ) (from count : ℕ) → (from + count) * 4 ≤ length s → All (λ e. e .cost ≤ 65535) (entriesOf s from count) → (i : ℕ) → i < count → getD s ((from + i) * 4 + 1) 0 ≤ 65535
-cost-bound s from count fits a i h = rw (entry-of s from count fits i blank h) at (all-at (λ e. e .cost ≤ 65535) blank (entriesOf s from count) a i (omega (arith, length-of s from count fits)))
+pub cost-bound : (s : List ℕ) (from count : ℕ) → (from + count) * 4 ≤ length s → All (λ e. e .cost ≤ 65535) (entriesOf s from count) → (i : ℕ) → i < count →
+    getD s ((from + i) * 4 + 1) 0 ≤ 65535
+cost-bound s from count fits a i h =
+    rw (entry-of s from count fits i blank h) at (all-at (λ e. e .cost ≤ 65535) blank (entriesOf s from count) a i (omega (arith, length-of s from count fits)))

@@ -25,7 +25,8 @@ length-entries (a ∷ b ∷ []) = refl
 length-entries (a ∷ b ∷ c ∷ []) = refl
 length-entries (a ∷ b ∷ c ∷ d ∷ xs) = let e = length-entries xs in omega arith
 
-at-four : (s : List ℕ) (i : ℕ) (z : Entry) → four i + 3 < length s → getD (entries s) i z ≡ entry (getD s (four i) 0) (getD s (suc (four i)) 0) (getD s (suc (suc (four i))) 0) (getD s (suc (suc (suc (four i)))) 0)
+at-four : (s : List ℕ) (i : ℕ) (z : Entry) → four i + 3 < length s → getD (entries s) i z ≡ entry (getD s (four i) 0) (getD s (suc (four i)) 0) (getD s (suc (suc (four i))) 0)
+    (getD s (suc (suc (suc (four i)))) 0)
 unfolding entries four
 at-four [] i z h = absurd (omega arith)
 at-four (a ∷ []) i z h = absurd (omega arith)
@@ -34,7 +35,8 @@ at-four (a ∷ b ∷ c ∷ []) i z h = absurd (omega arith)
 at-four (a ∷ b ∷ c ∷ d ∷ xs) zero z h = refl
 at-four (a ∷ b ∷ c ∷ d ∷ xs) (suc i) z h = at-four xs i z (omega arith)
 
-set-four : (s : List ℕ) (i a b c d : ℕ) → four i + 3 < length s → entries (set (set (set (set s (four i) a) (suc (four i)) b) (suc (suc (four i))) c) (suc (suc (suc (four i)))) d) ≡ set (entries s) i (entry a b c d)
+set-four : (s : List ℕ) (i a b c d : ℕ) → four i + 3 < length s →
+    entries (set (set (set (set s (four i) a) (suc (four i)) b) (suc (suc (four i))) c) (suc (suc (suc (four i)))) d) ≡ set (entries s) i (entry a b c d)
 unfolding entries four
 set-four [] i a b c d h = absurd (omega arith)
 set-four (x ∷ []) i a b c d h = absurd (omega arith)

@@ -89,7 +89,8 @@ module _ (s₀ : List ℕ) (from count most : ℕ) (fits : (from + count) * 4 �
         let a : take (w + 1) (drop from (entries s′)) ≡ take w d ++ (n ∷ []) = rw (e, drop-set-add, add-one) (take-suc-set d w n ww) in
         let wc : w < count = omega (arith, g .w-le) in
         let wi : w < i + 1 = omega (arith, g .w-le) in
-        let b : drop (i + 1) (take count (drop from (entries s′))) ≡ drop (i + 1) (take count d) = rw (e, drop-set-add, take-set-lt count d w n wc) (drop-set-lt (i + 1) (take count d) w n wi) in
+        let b : drop (i + 1) (take count (drop from (entries s′))) ≡ drop (i + 1) (take count d) = rw (e, drop-set-add, take-set-lt count d w n wc)
+        (drop-set-lt (i + 1) (take count d) w n wi) in
         record {
           same = ap length q ∙ (length-set-entry s (from + w) n ∙ g .same);
           w-le = omega (arith, g .w-le);

@@ -53,14 +53,16 @@ module _ (cs : List Cand) where
   first-replaced m e ms q h = push-same (nodeOf cs m) ms (nodeOf cs e) (same-node m e q) ∙ rw (lt-leb (m .cost) (e .cost) h)
 
   -- the state stands at the place p, at no greater cost; at a greater one; nowhere
-  pub push-kept : (q : List Entry) (e : Entry) (p : ℕ) → p < length q → getD q p blank .state ≡ e .state → ((j : ℕ) → j < p → getD q j blank .state ≡ e .state → ⊥) → getD q p blank .cost ≤ e .cost → push (map (nodeOf cs) q) (nodeOf cs e) ≡ map (nodeOf cs) q
+  pub push-kept : (q : List Entry) (e : Entry) (p : ℕ) → p < length q → getD q p blank .state ≡ e .state → ((j : ℕ) → j < p → getD q j blank .state ≡ e .state → ⊥) →
+      getD q p blank .cost ≤ e .cost → push (map (nodeOf cs) q) (nodeOf cs e) ≡ map (nodeOf cs) q
   push-kept [] e p l h n k = absurd (omega arith)
   push-kept (m ∷ ms) e zero l h n k = first-kept m e (map (nodeOf cs) ms) h k
   push-kept (m ∷ ms) e (suc p) l h n k =
       push-other (nodeOf cs m) (map (nodeOf cs) ms) (nodeOf cs e) (other-node m e (n 0 (omega arith))) ∙
       ap (λ (x : List Node). nodeOf cs m ∷ x) (push-kept ms e p (omega arith) h (λ j i. n (suc j) (omega arith)) k)
 
-  pub push-replaced : (q : List Entry) (e : Entry) (p : ℕ) → p < length q → getD q p blank .state ≡ e .state → ((j : ℕ) → j < p → getD q j blank .state ≡ e .state → ⊥) → e .cost < getD q p blank .cost → push (map (nodeOf cs) q) (nodeOf cs e) ≡ map (nodeOf cs) (set q p e)
+  pub push-replaced : (q : List Entry) (e : Entry) (p : ℕ) → p < length q → getD q p blank .state ≡ e .state → ((j : ℕ) → j < p → getD q j blank .state ≡ e .state → ⊥) →
+      e .cost < getD q p blank .cost → push (map (nodeOf cs) q) (nodeOf cs e) ≡ map (nodeOf cs) (set q p e)
   push-replaced [] e p l h n k = absurd (omega arith)
   push-replaced (m ∷ ms) e zero l h n k = first-replaced m e (map (nodeOf cs) ms) h k
   push-replaced (m ∷ ms) e (suc p) l h n k =

@@ -38,7 +38,8 @@ module _ (s : List ℕ) (from count : ℕ) (e : Entry) where
       let k = length-entries s in
       rw (entries-set s (from + count) (omega arith) e, drop-set-add, add-one) (take-suc-set (drop from (entries s)) count e (rw length-drop (omega arith)))
 
-index-snoc : (ix : List ℕ) (q : List Entry) (e : Entry) (count : ℕ) → length q ≡ count → e .state < length ix → ((j : ℕ) → j < length q → getD q j blank .state ≡ e .state → ⊥) → Indexed ix q → Indexed (set ix (e .state) count) (q ++ (e ∷ []))
+index-snoc : (ix : List ℕ) (q : List Entry) (e : Entry) (count : ℕ) → length q ≡ count → e .state < length ix →
+    ((j : ℕ) → j < length q → getD q j blank .state ≡ e .state → ⊥) → Indexed ix q → Indexed (set ix (e .state) count) (q ++ (e ∷ []))
 index-snoc ix q e count n l ne h i k = go (decLt i count)
   where
     go : Dec (i < count) → getD (set ix (e .state) count) (getD (q ++ (e ∷ [])) i blank .state) 0 ≡ i
@@ -51,7 +52,9 @@ index-snoc ix q e count n l ne h i k = go (decLt i count)
 
 module _ (cs : List Cand) (from cap back most : ℕ) (s ix : List ℕ) (count : ℕ) (e : Entry) (fits : (from + cap) * 4 ≤ length s) (sound : Sound back most e) where
   -- the pushes of one node
-  pushes : (s′ ix′ : List ℕ) (count′ : ℕ) → ((l : List Node) → Represents cs (bounds from cap back most) s ix count l → Represents cs (bounds from cap back most) s′ ix′ count′ (push l (nodeOf cs e))) → take (from * 4) s′ ≡ take (from * 4) s → Pushes cs (bounds from cap back most) s ix count s′ ix′ count′ (nodeOf cs e ∷ [])
+  pushes : (s′ ix′ : List ℕ) (count′ : ℕ) → ((l : List Node) → Represents cs (bounds from cap back most) s ix count l →
+      Represents cs (bounds from cap back most) s′ ix′ count′ (push l (nodeOf cs e))) → take (from * 4) s′ ≡ take (from * 4) s →
+      Pushes cs (bounds from cap back most) s ix count s′ ix′ count′ (nodeOf cs e ∷ [])
   unfolding pushAll
   pushes s′ ix′ count′ f b = record { stands = f; before = b }
 
@@ -82,7 +85,8 @@ module _ (cs : List Cand) (from cap back most : ℕ) (s ix : List ℕ) (count : 
           go l (over x) = absurd (omega (arith, x .full))
           go l (held x) =
               let n = length-of s from count (omega arith) in
-              let q = push-kept cs (entriesOf s from count) e p (omega arith) (ap (λ (y : Entry). y .state) there ∙ same) (λ j i y. omega (arith, first l x j (omega arith) y)) (rw there k) in
+              let q = push-kept cs (entriesOf s from count) e p (omega arith) (ap (λ (y : Entry). y .state) there ∙ same) (λ j i y. omega (arith, first l x j (omega arith) y))
+              (rw there k) in
               held (record { fits = x .fits; layer = sym q ∙ ap (λ (y : List Node). push y (nodeOf cs e)) (x .layer); indexed = x .indexed; sound = x .sound })
 
       pub replaces : (s′ : List ℕ) → s′ ≡ setEntry s (from + p) e → e .cost < getD s ((from + p) * 4 + 1) 0 → Pushes cs (bounds from cap back most) s ix count s′ ix count (nodeOf cs e ∷ [])
@@ -106,12 +110,19 @@ module _ (cs : List Cand) (from cap back most : ℕ) (s ix : List ℕ) (count : 
           go l (over x) = absurd (omega (arith, x .full))
           go l (held x) =
               let n = length-of s from count (omega arith) in
-              let q = push-replaced cs (entriesOf s from count) e p (omega arith) (ap (λ (y : Entry). y .state) there ∙ same) (λ j i y. omega (arith, first l x j (omega arith) y)) (rw there k) in
-              held (record { fits = x .fits; layer = ap (map (nodeOf cs)) after ∙ (sym q ∙ ap (λ (y : List Node). push y (nodeOf cs e)) (x .layer)); indexed = rw after (index l x); sound = rw after (all-set (Sound back most) (entriesOf s from count) p e (x .sound) sound) })
+              let q = push-replaced cs (entriesOf s from count) e p (omega arith) (ap (λ (y : Entry). y .state) there ∙ same)
+              (λ j i y. omega (arith, first l x j (omega arith) y)) (rw there k) in
+              held (record {
+                fits = x .fits;
+                layer = ap (map (nodeOf cs)) after ∙ (sym q ∙ ap (λ (y : List Node). push y (nodeOf cs e)) (x .layer));
+                indexed = rw after (index l x);
+                sound = rw after (all-set (Sound back most) (entriesOf s from count) p e (x .sound) sound);
+              })
 
     -- or that it stands nowhere
     module _ (miss : p < count → getD s ((from + p) * 4) 0 ≡ e .state → ⊥) where
-      nowhere : (l : List Node) → Held cs (bounds from cap back most) s ix count l → (j : ℕ) → j < length (entriesOf s from count) → getD (entriesOf s from count) j blank .state ≡ e .state → ⊥
+      nowhere : (l : List Node) → Held cs (bounds from cap back most) s ix count l → (j : ℕ) → j < length (entriesOf s from count) →
+          getD (entriesOf s from count) j blank .state ≡ e .state → ⊥
       nowhere l x j h q =
           let n = length-of s from count (omega arith) in
           let y = first l x j (omega arith) q in
@@ -128,10 +139,12 @@ module _ (cs : List Cand) (from cap back most : ℕ) (s ix : List ℕ) (count : 
           go l (over x) = absurd (omega (arith, x .full))
           go l (held x) =
               let n = length-of s from count (omega arith) in
-              let y : length (push l (nodeOf cs e)) ≡ count + 1 = ap length (grown l x) ∙ (length-map (entriesOf s from count ++ (e ∷ [])) (nodeOf cs) ∙ (length-append (entriesOf s from count) (e ∷ []) ∙ omega arith)) in
+              let y : length (push l (nodeOf cs e)) ≡ count + 1 = ap length (grown l x) ∙
+              (length-map (entriesOf s from count ++ (e ∷ [])) (nodeOf cs) ∙ (length-append (entriesOf s from count) (e ∷ []) ∙ omega arith)) in
               over (record { full = omega arith; more = omega arith; small = omega (arith, few ix (entriesOf s from count) back most (x .indexed) (x .sound)) })
 
-      pub adds : (s′ ix′ : List ℕ) → count < cap → length ix ≡ 98304 → ix′ ≡ set ix (e .state) count → s′ ≡ setEntry s (from + count) e → Pushes cs (bounds from cap back most) s ix count s′ ix′ (count + 1) (nodeOf cs e ∷ [])
+      pub adds : (s′ ix′ : List ℕ) → count < cap → length ix ≡ 98304 → ix′ ≡ set ix (e .state) count → s′ ≡ setEntry s (from + count) e →
+          Pushes cs (bounds from cap back most) s ix count s′ ix′ (count + 1) (nodeOf cs e ∷ [])
       unfolding layerOf
       adds s′ ix′ k m v w = pushes s′ ix′ (count + 1) go (ap (take (from * 4)) w ∙ before-set s from (from + count) e (omega arith))
         where
@@ -144,4 +157,9 @@ module _ (cs : List Cand) (from cap back most : ℕ) (s ix : List ℕ) (count : 
           go : (l : List Node) → Represents cs (bounds from cap back most) s ix count l → Represents cs (bounds from cap back most) s′ ix′ (count + 1) (push l (nodeOf cs e))
           go l (over x) = absurd (omega (arith, x .full))
           go l (held x) =
-              held (record { fits = omega arith; layer = ap (map (nodeOf cs)) after ∙ sym (grown l x); indexed = rw (v, after) (index l x); sound = rw after (all-append (Sound back most) (entriesOf s from count) (e ∷ []) (x .sound) (sound, tt)) })
+              held (record {
+                fits = omega arith;
+                layer = ap (map (nodeOf cs)) after ∙ sym (grown l x);
+                indexed = rw (v, after) (index l x);
+                sound = rw after (all-append (Sound back most) (entriesOf s from count) (e ∷ []) (x .sound) (sound, tt));
+              })

@@ -43,7 +43,8 @@ pub fn put_node(store: &mut [u32], place: usize, node: Entry)
 /// than have room, and stays so.
 pub fn push(store: &mut [u32], index: &mut [u16], area: Area, count: usize, node: Entry) -> usize
     requires { ⌜ HasRoom (area .from) (area .cap) (now store) (now index) × Proper (node .state) ⌝ }
-    ensures { λ r. ⌜ ((cs : List Cand) (most : ℕ) → node .cost ≤ most → Pushes cs (bounds (area .from) (area .cap) (node .back) most) (now (store .entry)) (now (index .entry)) count (now (store .exit)) (now (index .exit)) r (nodeOf cs node ∷ [])) ⌝ }
+    ensures { λ r. ⌜ ((cs : List Cand) (most : ℕ) → node .cost ≤ most → Pushes cs (bounds (area .from) (area .cap) (node .back) most) (now (store .entry)) (now (index .entry))
+        count (now (store .exit)) (now (index .exit)) r (nodeOf cs node ∷ [])) ⌝ }
 {
     let from = area.from;
     let cap = area.cap;

@@ -29,21 +29,25 @@ least-of cs most (d ∷ (e ∷ es)) a = omega (arith, a .0, least-of cs most (e 
 pub abled : (b c : ℕ) (q : List Entry) → b ≤ c → All (Able b) q → All (Able c) q
 abled b c q h a = all-map (Able b) (Able c) q (λ e p. record { proper = p .proper; cheap = omega (arith, p .cheap) }) a
 
-module _ (s s₁ ix₁ : List ℕ) (pfrom pcount cap m n : ℕ) (sets codes sizes : List ℕ) (q : Reached s s₁ ix₁ pfrom pcount cap m sets codes sizes n) (k : Capped (length s) (pfrom + pcount) cap) (same : length s₁ ≡ length s) (a : All (Able 65526) (entriesOf s pfrom pcount)) where
+module _ (s s₁ ix₁ : List ℕ) (pfrom pcount cap m n : ℕ) (sets codes sizes : List ℕ) (q : Reached s s₁ ix₁ pfrom pcount cap m sets codes sizes n)
+    (k : Capped (length s) (pfrom + pcount) cap) (same : length s₁ ≡ length s) (a : All (Able 65526) (entriesOf s pfrom pcount)) where
   -- there are more states than have room
   pub too-many : cap < n → (cs cs₀ : List Cand) → MatchAll cs m sets codes sizes → length s / 4 < pfrom + pcount + length (reach cs (layerOf cs₀ s pfrom pcount) 0 [])
   too-many h cs cs₀ c = go (q .stands cs cs₀ 65526 65535 c a (omega arith))
     where
-      go : Represents cs (bounds (pfrom + pcount) cap pfrom 65535) s₁ ix₁ n (reach cs (layerOf cs₀ s pfrom pcount) 0 []) → length s / 4 < pfrom + pcount + length (reach cs (layerOf cs₀ s pfrom pcount) 0 [])
+      go : Represents cs (bounds (pfrom + pcount) cap pfrom 65535) s₁ ix₁ n (reach cs (layerOf cs₀ s pfrom pcount) 0 []) →
+          length s / 4 < pfrom + pcount + length (reach cs (layerOf cs₀ s pfrom pcount) 0 [])
       go (held x) = absurd (omega (arith, x .fits))
       go (over x) = omega (arith, x .more, k .exact (x .small))
 
   -- there are not
   module _ (le : n ≤ cap) where
-    holds : (cs cs₀ : List Cand) (b : ℕ) → MatchAll cs m sets codes sizes → All (Able b) (entriesOf s pfrom pcount) → Held cs (bounds (pfrom + pcount) cap pfrom (b + 9)) s₁ ix₁ n (reach cs (layerOf cs₀ s pfrom pcount) 0 [])
+    holds : (cs cs₀ : List Cand) (b : ℕ) → MatchAll cs m sets codes sizes → All (Able b) (entriesOf s pfrom pcount) →
+        Held cs (bounds (pfrom + pcount) cap pfrom (b + 9)) s₁ ix₁ n (reach cs (layerOf cs₀ s pfrom pcount) 0 [])
     holds cs cs₀ b c x = go (q .stands cs cs₀ b (b + 9) c x (omega arith))
       where
-        go : Represents cs (bounds (pfrom + pcount) cap pfrom (b + 9)) s₁ ix₁ n (reach cs (layerOf cs₀ s pfrom pcount) 0 []) → Held cs (bounds (pfrom + pcount) cap pfrom (b + 9)) s₁ ix₁ n (reach cs (layerOf cs₀ s pfrom pcount) 0 [])
+        go : Represents cs (bounds (pfrom + pcount) cap pfrom (b + 9)) s₁ ix₁ n (reach cs (layerOf cs₀ s pfrom pcount) 0 []) →
+            Held cs (bounds (pfrom + pcount) cap pfrom (b + 9)) s₁ ix₁ n (reach cs (layerOf cs₀ s pfrom pcount) 0 [])
         go (held y) = y
         go (over y) = absurd (omega (arith, y .full))
 
@@ -63,7 +67,8 @@ module _ (s s₁ ix₁ : List ℕ) (pfrom pcount cap m n : ℕ) (sets codes size
     least-small r e = omega (arith, e [], least-of [] 65535 (entriesOf s₁ (pfrom + pcount) n) reached-cheap)
 
     -- the others are dropped
-    module _ (s₂ : List ℕ) (best rest floor low kept : ℕ) (el : (cs : List Cand) → best ≡ least (layerOf cs s₁ (pfrom + pcount) n)) (ef : (cs : List Cand) → low ≡ floorOf (best + 10) rest floor (layerOf cs s₁ (pfrom + pcount) n)) (ek : Kept s₁ s₂ (pfrom + pcount) n (best + 10) kept) where
+    module _ (s₂ : List ℕ) (best rest floor low kept : ℕ) (el : (cs : List Cand) → best ≡ least (layerOf cs s₁ (pfrom + pcount) n))
+        (ef : (cs : List Cand) → low ≡ floorOf (best + 10) rest floor (layerOf cs s₁ (pfrom + pcount) n)) (ek : Kept s₁ s₂ (pfrom + pcount) n (best + 10) kept) where
       pub next : (cs cs₀ : List Cand) → MatchAll cs m sets codes sizes → Next s s₂ cs (pfrom + pcount) kept rest floor low (reach cs (layerOf cs₀ s pfrom pcount) 0 [])
       next cs cs₀ c =
           let x = holds cs cs₀ 65526 c a in

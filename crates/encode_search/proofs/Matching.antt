@@ -53,7 +53,9 @@ module _ (k : Cands) where
       }
 
 -- the next layer, for the character
-module _ (s s′ : List ℕ) (pfrom pcount c kanji symbol : ℕ) (annexE : Bool) (rest floor left : ℕ) (k : Cands) (fits : Bool) (count floor′ : ℕ) (p : StandsForCandidates c kanji symbol annexE k) (e : left ≡ rest - shortest (candsOf k)) (a : Advanced s s′ pfrom pcount (k .count) (k .sets) (k .codes) (k .sizes) left floor fits count floor′) where
+module _ (s s′ : List ℕ) (pfrom pcount c kanji symbol : ℕ) (annexE : Bool) (rest floor left : ℕ) (k : Cands) (fits : Bool) (count floor′ : ℕ)
+    (p : StandsForCandidates c kanji symbol annexE k) (e : left ≡ rest - shortest (candsOf k))
+    (a : Advanced s s′ pfrom pcount (k .count) (k .sets) (k .codes) (k .sizes) left floor fits count floor′) where
   pub turned : Turned s s′ pfrom pcount c kanji symbol annexE rest floor fits count left floor′
   turned =
       record {

@@ -39,7 +39,8 @@ newest-of css s j from count ls (behind f c most l x ef el a) = el
 earlier : (s s′ : List ℕ) (m n : ℕ) → m ≤ n → take (n * 4) s′ ≡ take (n * 4) s → take (m * 4) s′ ≡ take (m * 4) s
 earlier s s′ m n h e = sym (take-take (m * 4) (n * 4) s′ (omega arith)) ∙ (ap (take (m * 4)) e ∙ take-take (m * 4) (n * 4) s (omega arith))
 
-layers-stay : (css : List (List Cand)) (s s′ : List ℕ) (j from count : ℕ) (ls : List (List Node)) → take ((from + count) * 4) s′ ≡ take ((from + count) * 4) s → Layers css s j from count ls → Layers css s′ j from count ls
+layers-stay : (css : List (List Cand)) (s s′ : List ℕ) (j from count : ℕ) (ls : List (List Node)) → take ((from + count) * 4) s′ ≡ take ((from + count) * 4) s →
+    Layers css s j from count ls → Layers css s′ j from count ls
 unfolding layerOf
 layers-stay css s s′ j from count ls e (first l el) = first l (el ∙ ap (λ (q : List Entry). mathlib.Core.List.map (nodeOf []) q) (sym (same-entries s s′ 0 1 e)))
 layers-stay css s s′ j from count ls e (behind {j = i} {back} {before} {ls = ks} f c most l x ef el a) =
@@ -80,7 +81,8 @@ unfolding begin
 at-start css initial rest room s b =
     record { at = begin initial; steps = refl; layers = first (node 0 0 (start initial) [] ∷ []) (sym b); kept = refl; most = omega arith; lefts = λ e. sym e; floors = λ e. refl }
 
-module _ (css : List (List Cand)) (initial rest : ℕ) (s s′ : List ℕ) (j from count left floor : ℕ) (h : j < length css) (f : (from + count) * 4 ≤ length s) (a : At css initial rest (length s / 4) s j from count left floor) where
+module _ (css : List (List Cand)) (initial rest : ℕ) (s s′ : List ℕ) (j from count left floor : ℕ) (h : j < length css) (f : (from + count) * 4 ≤ length s)
+    (a : At css initial rest (length s / 4) s j from count left floor) where
   -- the layer that is reached
   abbrev reached : List Node
   reached = reach (getD css j []) (newest (a .at .layers)) 0 []
@@ -110,7 +112,10 @@ module _ (css : List (List Cand)) (initial rest : ℕ) (s s′ : List ℕ) (j fr
   rest-of = rw split
 
   -- it is kept
-  pub at-next : (count′ rest′ floor′ most : ℕ) → take ((from + count) * 4) s′ ≡ take ((from + count) * 4) s → (from + count + count′) * 4 ≤ length s′ → rest′ ≡ left - shortest (getD css j []) → All (Sound from most) (entriesOf s′ (from + count) count′) → Next s s′ (getD css j []) (from + count) count′ rest′ floor floor′ (reach (getD css j []) (layerOf (lastOf css j) s from count) 0 []) → At css initial rest (length s / 4) s′ (suc j) (from + count) count′ rest′ floor′
+  pub at-next : (count′ rest′ floor′ most : ℕ) → take ((from + count) * 4) s′ ≡ take ((from + count) * 4) s → (from + count + count′) * 4 ≤ length s′ →
+      rest′ ≡ left - shortest (getD css j []) → All (Sound from most) (entriesOf s′ (from + count) count′) →
+      Next s s′ (getD css j []) (from + count) count′ rest′ floor floor′ (reach (getD css j []) (layerOf (lastOf css j) s from count) 0 []) →
+      At css initial rest (length s / 4) s′ (suc j) (from + count) count′ rest′ floor′
   unfolding layer
   at-next count′ rest′ floor′ most e i er sd n =
       let r = reached-is in
@@ -136,7 +141,8 @@ pub record Going (chs ks ss : List ℕ) (n : ℕ) (annexE : Bool) (rest : ℕ) (
   pub low : from + count ≤ 1 + 48384 * j
   pub left-le : left ≤ 65535
   pub able : All (Able (9 * j)) (entriesOf s from count)
-  pub going : (cells cs : List ℕ) → HoldCharacters cells cs chs ks ss → n ≡ length cs → (initial : ℕ) → Begins initial s₀ → At (candidatesOf cells annexE cs) initial rest (length s₀ / 4) s j from count left floor
+  pub going : (cells cs : List ℕ) → HoldCharacters cells cs chs ks ss → n ≡ length cs → (initial : ℕ) → Begins initial s₀ →
+      At (candidatesOf cells annexE cs) initial rest (length s₀ / 4) s j from count left floor
 
 abled : (back most : ℕ) (q : List Entry) → All (Sound back most) q → All (Able most) q
 abled back most q a = all-map (Sound back most) (Able most) q (λ e p. record { proper = p .proper; cheap = p .cheap }) a
@@ -144,7 +150,17 @@ abled back most q a = all-map (Sound back most) (Able most) q (λ e p. record { 
 module _ (chs ks ss : List ℕ) (n : ℕ) (annexE : Bool) (rest : ℕ) (s₀ : List ℕ) where
   pub going-start : (ix : List ℕ) → length ix ≡ 98304 → 4 ≤ length s₀ → rest ≤ 65535 → All (Able 0) (entriesOf s₀ 0 1) → Going chs ks ss n annexE rest s₀ s₀ ix 0 0 1 rest 0
   going-start ix e f g a =
-      record { same = refl; index = e; j-le = omega arith; inside = omega arith; few = omega arith; low = omega arith; left-le = g; able = a; going = λ cells cs h k initial b. at-start (candidatesOf cells annexE cs) initial rest (length s₀ / 4) s₀ b }
+      record {
+        same = refl;
+        index = e;
+        j-le = omega arith;
+        inside = omega arith;
+        few = omega arith;
+        low = omega arith;
+        left-le = g;
+        able = a;
+        going = λ cells cs h k initial b. at-start (candidatesOf cells annexE cs) initial rest (length s₀ / 4) s₀ b;
+      }
 
   module _ (s ix : List ℕ) (j from count left floor : ℕ) (g : Going chs ks ss n annexE rest s₀ s ix j from count left floor) where
     -- the j-th character's candidates
@@ -161,7 +177,8 @@ module _ (chs ks ss : List ℕ) (n : ℕ) (annexE : Bool) (rest : ℕ) (s₀ : L
       inside : j < length (candidatesOf cells annexE cs)
       inside = omega (arith, length-of cells annexE cs)
 
-    module _ (lt : j < n) (s′ ix′ : List ℕ) (fits : Bool) (count′ rest′ floor′ : ℕ) (same : length s′ ≡ length s) (t : Turned s s′ from count (getD chs j 0) (getD ks j 0) (getD ss j 0) annexE left floor fits count′ rest′ floor′) where
+    module _ (lt : j < n) (s′ ix′ : List ℕ) (fits : Bool) (count′ rest′ floor′ : ℕ) (same : length s′ ≡ length s)
+        (t : Turned s s′ from count (getD chs j 0) (getD ks j 0) (getD ss j 0) annexE left floor fits count′ rest′ floor′) where
       pub going-on : length ix′ ≡ length ix → fits ≡ true → Going chs ks ss n annexE rest s₀ s′ ix′ (j + 1) (from + count) count′ rest′ floor′
       going-on ei ef =
           record {
@@ -172,7 +189,9 @@ module _ (chs ks ss : List ℕ) (n : ℕ) (annexE : Bool) (rest : ℕ) (s₀ : L
             few = t .few;
             low = omega (arith, g .low, t .few);
             left-le = omega (arith, g .left-le, t .less);
-            able = subst (λ (m : ℕ). All (Able m) (entriesOf s′ (from + count) count′)) (omega arith) (abled from (9 * j + 9) (entriesOf s′ (from + count) count′) (t .sound (9 * j) (g .able)));
+            able =
+                subst (λ (m : ℕ). All (Able m) (entriesOf s′ (from + count) count′)) (omega arith)
+                (abled from (9 * j + 9) (entriesOf s′ (from + count) count′) (t .sound (9 * j) (g .able)));
             going = λ cells cs h k initial b.
                 let css = candidatesOf cells annexE cs in
                 let hk = h .kanji j (omega arith) in
@@ -180,18 +199,21 @@ module _ (chs ks ss : List ℕ) (n : ℕ) (annexE : Bool) (rest : ℕ) (s₀ : L
                 let ca = cands-at lt cells cs h k in
                 let nx = t .kept cells hk hs ef (lastOf css j) in
                 let er : rest′ ≡ left - shortest (getD css j []) = t .left cells hk hs ∙ ap (λ (l : List Cand). left - shortest l) ca in
-                let a = at-next css initial rest s s′ j from count left floor (inside lt cells cs h k) (g .inside) (here lt cells cs h k initial b) count′ rest′ floor′ (9 * j + 9) (t .before) (omega (arith, t .inside)) er (t .sound (9 * j) (g .able)) (rw ca at nx) in
+                let a = at-next css initial rest s s′ j from count left floor (inside lt cells cs h k) (g .inside) (here lt cells cs h k initial b) count′ rest′ floor′
+                (9 * j + 9) (t .before) (omega (arith, t .inside)) er (t .sound (9 * j) (g .able)) (rw ca at nx) in
                 rw (add-one, ← g .same) a;
           }
 
-      pub going-full : (e : fits ≡ false) (cells cs : List ℕ) (h : HoldCharacters cells cs chs ks ss) (k : n ≡ length cs) (initial : ℕ) → Begins initial s₀ → length s₀ / 4 < found (candidatesOf cells annexE cs) initial .most
+      pub going-full : (e : fits ≡ false) (cells cs : List ℕ) (h : HoldCharacters cells cs chs ks ss) (k : n ≡ length cs) (initial : ℕ) → Begins initial s₀ →
+          length s₀ / 4 < found (candidatesOf cells annexE cs) initial .most
       going-full ef cells cs h k initial b =
           let css = candidatesOf cells annexE cs in
           let fl = t .full cells (h .kanji j (omega arith)) (h .symbols j (omega arith)) ef (lastOf css j) in
           let a = at-full css initial rest s s′ j from count left floor (inside lt cells cs h k) (g .inside) (here lt cells cs h k initial b) (rw (cands-at lt cells cs h k) at fl) in
           rw (g .same) at a
 
-    pub going-end : n ≤ j → (cells cs : List ℕ) → HoldCharacters cells cs chs ks ss → n ≡ length cs → rest ≡ restOf (candidatesOf cells annexE cs) → (initial : ℕ) → Begins initial s₀ → Found (candidatesOf cells annexE cs) initial s n from count floor
+    pub going-end : n ≤ j → (cells cs : List ℕ) → HoldCharacters cells cs chs ks ss → n ≡ length cs → rest ≡ restOf (candidatesOf cells annexE cs) → (initial : ℕ) →
+        Begins initial s₀ → Found (candidatesOf cells annexE cs) initial s n from count floor
     unfolding run
     going-end le cells cs h k er initial b =
         let css = candidatesOf cells annexE cs in
@@ -233,7 +255,8 @@ no-room chs ks ss n annexE initial rest s s′ h k =
     }
 
 -- a store of the same length
-pub searched-as : (chs ks ss : List ℕ) (n : ℕ) (annexE : Bool) (initial rest : ℕ) (s₀ s s′ : List ℕ) (fits : Bool) (from count floor : ℕ) → length s ≡ length s₀ → Searched chs ks ss n annexE initial rest s s′ fits from count floor → Searched chs ks ss n annexE initial rest s₀ s′ fits from count floor
+pub searched-as : (chs ks ss : List ℕ) (n : ℕ) (annexE : Bool) (initial rest : ℕ) (s₀ s s′ : List ℕ) (fits : Bool) (from count floor : ℕ) → length s ≡ length s₀ →
+    Searched chs ks ss n annexE initial rest s s′ fits from count floor → Searched chs ks ss n annexE initial rest s₀ s′ fits from count floor
 searched-as chs ks ss n annexE initial rest s₀ s s′ fits from count floor e x =
     record {
       inside = λ f. rw e at (x .inside f);

@@ -26,7 +26,8 @@ pub record Able (most : ℕ) (e : Entry) : Type 0 where
 -- m candidates
 pub record Reached (s s′ ix′ : List ℕ) (pfrom pcount cap m : ℕ) (sets codes sizes : List ℕ) (r : ℕ) : Type 0 where
   pub before : take ((pfrom + pcount) * 4) s′ ≡ take ((pfrom + pcount) * 4) s
-  pub stands : (cs cs₀ : List Cand) (b most : ℕ) → MatchAll cs m sets codes sizes → All (Able b) (entriesOf s pfrom pcount) → b + 9 ≤ most → Represents cs (bounds (pfrom + pcount) cap pfrom most) s′ ix′ r (reach cs (layerOf cs₀ s pfrom pcount) 0 [])
+  pub stands : (cs cs₀ : List Cand) (b most : ℕ) → MatchAll cs m sets codes sizes → All (Able b) (entriesOf s pfrom pcount) → b + 9 ≤ most →
+      Represents cs (bounds (pfrom + pcount) cap pfrom most) s′ ix′ r (reach cs (layerOf cs₀ s pfrom pcount) 0 [])
 
 -- how many nodes have room from the node from on, in a store of len numbers; more than any layer has count as one more than that
 pub record Capped (len from cap : ℕ) : Type 0 where
@@ -57,14 +58,17 @@ pub record Turned (s s′ : List ℕ) (pfrom pcount c kanji symbol : ℕ) (annex
   pub less : rest′ ≤ rest
   pub sound : (b : ℕ) → All (Able b) (entriesOf s pfrom pcount) → All (Sound pfrom (b + 9)) (entriesOf s′ (pfrom + pcount) count)
   pub left : (cells : List ℕ) → kanji ≡ packed (kanjiReverse cells c) → symbol ≡ packed (additionalReverse c) → rest′ ≡ rest - shortest (candidates cells annexE c)
-  pub full : (cells : List ℕ) → kanji ≡ packed (kanjiReverse cells c) → symbol ≡ packed (additionalReverse c) → fits ≡ false → (cs₀ : List Cand) → length s / 4 < pfrom + pcount + length (reach (candidates cells annexE c) (layerOf cs₀ s pfrom pcount) 0 [])
-  pub kept : (cells : List ℕ) → kanji ≡ packed (kanjiReverse cells c) → symbol ≡ packed (additionalReverse c) → fits ≡ true → (cs₀ : List Cand) → Next s s′ (candidates cells annexE c) (pfrom + pcount) count rest′ floor floor′ (reach (candidates cells annexE c) (layerOf cs₀ s pfrom pcount) 0 [])
+  pub full : (cells : List ℕ) → kanji ≡ packed (kanjiReverse cells c) → symbol ≡ packed (additionalReverse c) → fits ≡ false → (cs₀ : List Cand) →
+      length s / 4 < pfrom + pcount + length (reach (candidates cells annexE c) (layerOf cs₀ s pfrom pcount) 0 [])
+  pub kept : (cells : List ℕ) → kanji ≡ packed (kanjiReverse cells c) → symbol ≡ packed (additionalReverse c) → fits ≡ true → (cs₀ : List Cand) →
+      Next s s′ (candidates cells annexE c) (pfrom + pcount) count rest′ floor floor′ (reach (candidates cells annexE c) (layerOf cs₀ s pfrom pcount) 0 [])
 
 -- The layers of the search after j characters with the candidates css, the newest of count nodes from the node from on, as the store has them: each
 -- behind the one before, where its nodes say that begins. The start is the first.
 pub data Layers (css : List (List Cand)) (s : List ℕ) : ℕ → ℕ → ℕ → List (List Node) → Type 0 where
   first : (l : List Node) → l ≡ layerOf [] s 0 1 → Layers css s 0 0 1 (l ∷ [])
-  behind : {j back before : ℕ} {ls : List (List Node)} (from count most : ℕ) (l : List Node) → Layers css s j back before ls → from ≡ back + before → l ≡ layerOf (getD css j []) s from count → All (Sound back most) (entriesOf s from count) → Layers css s (suc j) from count (l ∷ ls)
+  behind : {j back before : ℕ} {ls : List (List Node)} (from count most : ℕ) (l : List Node) → Layers css s j back before ls → from ≡ back + before →
+      l ≡ layerOf (getD css j []) s from count → All (Sound back most) (entriesOf s from count) → Layers css s (suc j) from count (l ∷ ls)
 
 -- what the search of characters with the candidates css leads to
 abbrev pub found : List (List Cand) → ℕ → Run
@@ -81,7 +85,8 @@ pub record Found (css : List (List Cand)) (initial : ℕ) (s : List ℕ) (n from
 pub record Searched (chs ks ss : List ℕ) (n : ℕ) (annexE : Bool) (initial rest : ℕ) (s s′ : List ℕ) (fits : Bool) (from count floor : ℕ) : Type 0 where
   pub inside : fits ≡ true → (from + count) * 4 ≤ length s
   pub full : (cells cs : List ℕ) → HoldCharacters cells cs chs ks ss → n ≡ length cs → fits ≡ false → length s / 4 < found (candidatesOf cells annexE cs) initial .most
-  pub done : (cells cs : List ℕ) → HoldCharacters cells cs chs ks ss → n ≡ length cs → rest ≡ restOf (candidatesOf cells annexE cs) → fits ≡ true → Found (candidatesOf cells annexE cs) initial s′ n from count floor
+  pub done : (cells cs : List ℕ) → HoldCharacters cells cs chs ks ss → n ≡ length cs → rest ≡ restOf (candidatesOf cells annexE cs) → fits ≡ true →
+      Found (candidatesOf cells annexE cs) initial s′ n from count floor
 
 -- the start stands in the store
 abbrev pub Begins : ℕ → List ℕ → Type 0

@@ -89,8 +89,10 @@ fn advance<'a>(
     rest: u32,
     floor: u32,
 ) -> Step
-    requires { ⌜ ((pfrom + pcount) * 4 ≤ length (now store)) × (length (now index) ≡ 98304) × (pfrom < 4294967296) × (pcount ≤ 131072) × (m ≤ 9) × (rest ≤ 65535) × All (Able 65526) (entriesOf (now store) pfrom pcount) ⌝ }
-    ensures { λ r. ⌜ Advanced (now (store .entry)) (now (store .exit)) pfrom pcount m (now (sets .entry)) (now (codes .entry)) (now (sizes .entry)) rest floor (r .fits) (r .count) (r .floor) ⌝ }
+    requires { ⌜ ((pfrom + pcount) * 4 ≤ length (now store)) × (length (now index) ≡ 98304) × (pfrom < 4294967296) × (pcount ≤ 131072) × (m ≤ 9) × (rest ≤ 65535) ×
+        All (Able 65526) (entriesOf (now store) pfrom pcount) ⌝ }
+    ensures { λ r. ⌜ Advanced (now (store .entry)) (now (store .exit)) pfrom pcount m (now (sets .entry)) (now (codes .entry)) (now (sizes .entry)) rest floor (r .fits)
+        (r .count) (r .floor) ⌝ }
 {
     let from = pfrom + pcount;
     let cap = room(store.len(), from);
@@ -150,7 +152,8 @@ fn turn(
     rest: usize,
     floor: u32,
 ) -> Next
-    requires { ⌜ ((pfrom + pcount) * 4 ≤ length (now store)) × (length (now index) ≡ 98304) × (pfrom < 4294967296) × (pcount ≤ 131072) × (rest ≤ 65535) × All (Able 65526) (entriesOf (now store) pfrom pcount) ⌝ }
+    requires { ⌜ ((pfrom + pcount) * 4 ≤ length (now store)) × (length (now index) ≡ 98304) × (pfrom < 4294967296) × (pcount ≤ 131072) × (rest ≤ 65535) ×
+        All (Able 65526) (entriesOf (now store) pfrom pcount) ⌝ }
     ensures { λ r. ⌜ Turned (now (store .entry)) (now (store .exit)) pfrom pcount c kanji symbol annex rest floor (r .fits) (r .count) (r .rest) (r .floor) ⌝ }
 {
     let k = encode_candidates::candidates(c, kanji, symbol, annex);
@@ -196,7 +199,8 @@ fn run(
     rest: usize,
 ) -> Last
     requires { ⌜ Arrays (now chars) (now kanji) (now symbols) n rest × (4 ≤ length (now store)) × (length (now index) ≡ 98304) × All (Able 0) (entriesOf (now store) 0 1) ⌝ }
-    ensures { λ r. ⌜ ((initial : ℕ) → Begins initial (now (store .entry)) → Searched (now (chars .entry)) (now (kanji .entry)) (now (symbols .entry)) n annex initial rest (now (store .entry)) (now (store .exit)) (r .fits) (r .from) (r .count) (r .floor)) ⌝ }
+    ensures { λ r. ⌜ ((initial : ℕ) → Begins initial (now (store .entry)) → Searched (now (chars .entry)) (now (kanji .entry)) (now (symbols .entry)) n annex initial rest
+        (now (store .entry)) (now (store .exit)) (r .fits) (r .from) (r .count) (r .floor)) ⌝ }
 {
     let mut from: usize = 0;
     let mut count: usize = 1;
@@ -255,7 +259,8 @@ pub fn search(
     rest: usize,
 ) -> Last
     requires { ⌜ Arrays (now chars) (now kanji) (now symbols) n rest × (1 ≤ n) ⌝ }
-    ensures { λ r. ⌜ Searched (now (chars .entry)) (now (kanji .entry)) (now (symbols .entry)) n annex initial rest (now (store .entry)) (now (store .exit)) (r .fits) (r .from) (r .count) (r .floor) ⌝ }
+    ensures { λ r. ⌜ Searched (now (chars .entry)) (now (kanji .entry)) (now (symbols .entry)) n annex initial rest (now (store .entry)) (now (store .exit)) (r .fits)
+        (r .from) (r .count) (r .floor) ⌝ }
 {
     if store.len() < 4 {
         return Last {

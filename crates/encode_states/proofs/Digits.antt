@@ -32,7 +32,11 @@ module _ (a x : ℕ) (h : x < 6) (p : Proper a) where
 
   pub to-g0 : Packs (withG0 a x) (designate (unpack a) 0 (setOf x))
   unfolding unpack designate
-  to-g0 = record { proper = record { g0 = rw g0-g0 (omega arith); g1 = rw g0-g1 (p .g1); g2 = rw g0-g2 (p .g2); g3 = rw g0-g3 (p .g3) }; is = λ i. record { g0 = setOf (g0-g0 i); g1 = setOf (g0-g1 i); g2 = setOf (g0-g2 i); g3 = setOf (g0-g3 i); gl = g0-gl i; gr = g0-gr i; narrow = g0-narrow i } }
+  to-g0 =
+      record {
+        proper = record { g0 = rw g0-g0 (omega arith); g1 = rw g0-g1 (p .g1); g2 = rw g0-g2 (p .g2); g3 = rw g0-g3 (p .g3) };
+        is = λ i. record { g0 = setOf (g0-g0 i); g1 = setOf (g0-g1 i); g2 = setOf (g0-g2 i); g3 = setOf (g0-g3 i); gl = g0-gl i; gr = g0-gr i; narrow = g0-narrow i };
+      }
 
 abbrev pub withG1 : ℕ → ℕ → ℕ
 withG1 a x = a - a / 2048 % 8 * 2048 + x * 2048
@@ -61,7 +65,11 @@ module _ (a x : ℕ) (h : x < 6) (p : Proper a) where
 
   pub to-g1 : Packs (withG1 a x) (designate (unpack a) 1 (setOf x))
   unfolding unpack designate
-  to-g1 = record { proper = record { g0 = rw g1-g0 (p .g0); g1 = rw g1-g1 (omega arith); g2 = rw g1-g2 (p .g2); g3 = rw g1-g3 (p .g3) }; is = λ i. record { g0 = setOf (g1-g0 i); g1 = setOf (g1-g1 i); g2 = setOf (g1-g2 i); g3 = setOf (g1-g3 i); gl = g1-gl i; gr = g1-gr i; narrow = g1-narrow i } }
+  to-g1 =
+      record {
+        proper = record { g0 = rw g1-g0 (p .g0); g1 = rw g1-g1 (omega arith); g2 = rw g1-g2 (p .g2); g3 = rw g1-g3 (p .g3) };
+        is = λ i. record { g0 = setOf (g1-g0 i); g1 = setOf (g1-g1 i); g2 = setOf (g1-g2 i); g3 = setOf (g1-g3 i); gl = g1-gl i; gr = g1-gr i; narrow = g1-narrow i };
+      }
 
 abbrev pub withG2 : ℕ → ℕ → ℕ
 withG2 a x = a - a / 256 % 8 * 256 + x * 256
@@ -90,7 +98,11 @@ module _ (a x : ℕ) (h : x < 6) (p : Proper a) where
 
   pub to-g2 : Packs (withG2 a x) (designate (unpack a) 2 (setOf x))
   unfolding unpack designate
-  to-g2 = record { proper = record { g0 = rw g2-g0 (p .g0); g1 = rw g2-g1 (p .g1); g2 = rw g2-g2 (omega arith); g3 = rw g2-g3 (p .g3) }; is = λ i. record { g0 = setOf (g2-g0 i); g1 = setOf (g2-g1 i); g2 = setOf (g2-g2 i); g3 = setOf (g2-g3 i); gl = g2-gl i; gr = g2-gr i; narrow = g2-narrow i } }
+  to-g2 =
+      record {
+        proper = record { g0 = rw g2-g0 (p .g0); g1 = rw g2-g1 (p .g1); g2 = rw g2-g2 (omega arith); g3 = rw g2-g3 (p .g3) };
+        is = λ i. record { g0 = setOf (g2-g0 i); g1 = setOf (g2-g1 i); g2 = setOf (g2-g2 i); g3 = setOf (g2-g3 i); gl = g2-gl i; gr = g2-gr i; narrow = g2-narrow i };
+      }
 
 abbrev pub withG3 : ℕ → ℕ → ℕ
 withG3 a x = a - a / 32 % 8 * 32 + x * 32
@@ -119,7 +131,11 @@ module _ (a x : ℕ) (h : x < 6) (p : Proper a) where
 
   pub to-g3 : Packs (withG3 a x) (designate (unpack a) 3 (setOf x))
   unfolding unpack designate
-  to-g3 = record { proper = record { g0 = rw g3-g0 (p .g0); g1 = rw g3-g1 (p .g1); g2 = rw g3-g2 (p .g2); g3 = rw g3-g3 (omega arith) }; is = λ i. record { g0 = setOf (g3-g0 i); g1 = setOf (g3-g1 i); g2 = setOf (g3-g2 i); g3 = setOf (g3-g3 i); gl = g3-gl i; gr = g3-gr i; narrow = g3-narrow i } }
+  to-g3 =
+      record {
+        proper = record { g0 = rw g3-g0 (p .g0); g1 = rw g3-g1 (p .g1); g2 = rw g3-g2 (p .g2); g3 = rw g3-g3 (omega arith) };
+        is = λ i. record { g0 = setOf (g3-g0 i); g1 = setOf (g3-g1 i); g2 = setOf (g3-g2 i); g3 = setOf (g3-g3 i); gl = g3-gl i; gr = g3-gr i; narrow = g3-narrow i };
+      }
 
 abbrev pub withGL : ℕ → ℕ → ℕ
 withGL a n = a / 8 * 8 + (n * 2 + a % 2)
@@ -148,7 +164,11 @@ module _ (a n : ℕ) (h : n < 4) (p : Proper a) where
 
   pub to-gl : Packs (withGL a n) (invokeGL (unpack a) n)
   unfolding unpack
-  to-gl = record { proper = record { g0 = rw gl-g0 (p .g0); g1 = rw gl-g1 (p .g1); g2 = rw gl-g2 (p .g2); g3 = rw gl-g3 (p .g3) }; is = λ i. record { g0 = setOf (gl-g0 i); g1 = setOf (gl-g1 i); g2 = setOf (gl-g2 i); g3 = setOf (gl-g3 i); gl = gl-gl i; gr = gl-gr i; narrow = gl-narrow i } }
+  to-gl =
+      record {
+        proper = record { g0 = rw gl-g0 (p .g0); g1 = rw gl-g1 (p .g1); g2 = rw gl-g2 (p .g2); g3 = rw gl-g3 (p .g3) };
+        is = λ i. record { g0 = setOf (gl-g0 i); g1 = setOf (gl-g1 i); g2 = setOf (gl-g2 i); g3 = setOf (gl-g3 i); gl = gl-gl i; gr = gl-gr i; narrow = gl-narrow i };
+      }
 
 abbrev pub withGR : ℕ → ℕ → ℕ
 withGR a n = a / 32 * 32 + (n * 8 + a % 8)
@@ -177,7 +197,11 @@ module _ (a n : ℕ) (h : n < 4) (p : Proper a) where
 
   pub to-gr : Packs (withGR a n) (invokeGR (unpack a) n)
   unfolding unpack
-  to-gr = record { proper = record { g0 = rw gr-g0 (p .g0); g1 = rw gr-g1 (p .g1); g2 = rw gr-g2 (p .g2); g3 = rw gr-g3 (p .g3) }; is = λ i. record { g0 = setOf (gr-g0 i); g1 = setOf (gr-g1 i); g2 = setOf (gr-g2 i); g3 = setOf (gr-g3 i); gl = gr-gl i; gr = gr-gr i; narrow = gr-narrow i } }
+  to-gr =
+      record {
+        proper = record { g0 = rw gr-g0 (p .g0); g1 = rw gr-g1 (p .g1); g2 = rw gr-g2 (p .g2); g3 = rw gr-g3 (p .g3) };
+        is = λ i. record { g0 = setOf (gr-g0 i); g1 = setOf (gr-g1 i); g2 = setOf (gr-g2 i); g3 = setOf (gr-g3 i); gl = gr-gl i; gr = gr-gr i; narrow = gr-narrow i };
+      }
 
 abbrev pub withSize : ℕ → ℕ → ℕ
 withSize a n = a / 2 * 2 + n
@@ -206,4 +230,16 @@ module _ (a n : ℕ) (h : n < 2) (p : Proper a) where
 
   pub to-narrow : Packs (withSize a n) (resize (unpack a) n)
   unfolding unpack
-  to-narrow = record { proper = record { g0 = rw narrow-g0 (p .g0); g1 = rw narrow-g1 (p .g1); g2 = rw narrow-g2 (p .g2); g3 = rw narrow-g3 (p .g3) }; is = λ i. record { g0 = setOf (narrow-g0 i); g1 = setOf (narrow-g1 i); g2 = setOf (narrow-g2 i); g3 = setOf (narrow-g3 i); gl = narrow-gl i; gr = narrow-gr i; narrow = narrow-narrow i } }
+  to-narrow =
+      record {
+        proper = record { g0 = rw narrow-g0 (p .g0); g1 = rw narrow-g1 (p .g1); g2 = rw narrow-g2 (p .g2); g3 = rw narrow-g3 (p .g3) };
+        is = λ i. record {
+          g0 = setOf (narrow-g0 i);
+          g1 = setOf (narrow-g1 i);
+          g2 = setOf (narrow-g2 i);
+          g3 = setOf (narrow-g3 i);
+          gl = narrow-gl i;
+          gr = narrow-gr i;
+          narrow = narrow-narrow i;
+        };
+      }

@@ -38,8 +38,10 @@ moves a n x b c d e f l g h p = record { below = omega arith; fits = rw (e, f, g
 pub moved : (a n x : ℕ) → Proper a → n < 4 → x < 6 → Moved a n x
 moved a zero x p h k = let q = p .g0 in moves a 0 x (a / 16384 % 8 * 16384) (x * 16384) (withG0 a x) (omega arith) (omega arith) (omega arith) (omega arith) (omega arith) (to-g0 a x k p)
 moved a (suc zero) x p h k = let q = p .g0 in moves a 1 x (a / 2048 % 8 * 2048) (x * 2048) (withG1 a x) (omega arith) (omega arith) (omega arith) (omega arith) (omega arith) (to-g1 a x k p)
-moved a (suc (suc zero)) x p h k = let q = p .g0 in moves a 2 x (a / 256 % 8 * 256) (x * 256) (withG2 a x) (omega arith) (omega arith) (omega arith) (omega arith) (omega arith) (to-g2 a x k p)
-moved a (suc (suc (suc zero))) x p h k = let q = p .g0 in moves a 3 x (a / 32 % 8 * 32) (x * 32) (withG3 a x) (omega arith) (omega arith) (omega arith) (omega arith) (omega arith) (to-g3 a x k p)
+moved a (suc (suc zero)) x p h k =
+    let q = p .g0 in moves a 2 x (a / 256 % 8 * 256) (x * 256) (withG2 a x) (omega arith) (omega arith) (omega arith) (omega arith) (omega arith) (to-g2 a x k p)
+moved a (suc (suc (suc zero))) x p h k =
+    let q = p .g0 in moves a 3 x (a / 32 % 8 * 32) (x * 32) (withG3 a x) (omega arith) (omega arith) (omega arith) (omega arith) (omega arith) (to-g3 a x k p)
 moved a (suc (suc (suc (suc n)))) x p h k = absurd (omega arith)
 
 -- Table 7-2: a two-byte set takes a byte more, but to G0

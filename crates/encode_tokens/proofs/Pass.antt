@@ -115,7 +115,8 @@ pub record Loop (cells : List ℕ) (annexE : Bool) (text chs₀ ks₀ ss₀ chs 
   pub kanji : length ks ≡ length ks₀
   pub symbols : length ss ≡ length ss₀
 
-module _ {cells : List ℕ} {annexE : Bool} {text chs₀ ks₀ ss₀ chs ks ss : List ℕ} {b bp at n r : ℕ} (l : Loop cells annexE text chs₀ ks₀ ss₀ chs ks ss b bp at n r) (room : ArraysFit text chs₀ ks₀ ss₀) where
+module _ {cells : List ℕ} {annexE : Bool} {text chs₀ ks₀ ss₀ chs ks ss : List ℕ} {b bp at n r : ℕ} (l : Loop cells annexE text chs₀ ks₀ ss₀ chs ks ss b bp at n r)
+    (room : ArraysFit text chs₀ ks₀ ss₀) where
   pub loop-within : Within n chs ks ss
   loop-within =
       record {

@@ -43,7 +43,8 @@ abbrev pub reached : Turn → List ℕ → State → ℕ → Node
 reached t q to hi = node (t .base) (t .place) to (t .pre ++ (q ++ map (λ b. b + hi) (t .code)))
 
 module _ (cs : List Cand) (t : Turn) (p : List ℕ) (n cost link : ℕ) (w : Through cs t p n cost link) where
-  pub node-as : (v a c l back : ℕ) (to : State) (q : List ℕ) (hi : ℕ) → unpack a ≡ to → l ≡ link + v * 67108864 → p ++ invocation v n ≡ q → half v ≡ hi → c ≡ cost + length (invocation v n) → nodeOf cs (entry a c l back) ≡ reached t q to hi
+  pub node-as : (v a c l back : ℕ) (to : State) (q : List ℕ) (hi : ℕ) → unpack a ≡ to → l ≡ link + v * 67108864 → p ++ invocation v n ≡ q → half v ≡ hi →
+      c ≡ cost + length (invocation v n) → nodeOf cs (entry a c l back) ≡ reached t q to hi
   unfolding nodeOf
   node-as v a c l back to q hi es el eq eh ec =
       let g : bytesOf t p n v ≡ t .pre ++ (q ++ map (λ b. b + hi) (t .code)) = λ i. t .pre ++ (eq i ++ map (λ b. b + eh i) (t .code)) in
@@ -100,6 +101,7 @@ module _ (t : Turn) (p : List ℕ) (s : State) (n : ℕ) where
   unfolding byWays through
   by-two l r h k = rw (ne-eqb _ _ l, ne-eqb _ _ r, lt-ltb 0 n (omega arith), lt-leb 2 n k)
 
-  pub by-three : (s .gl ≡ n → ⊥) → (s .gr ≡ n → ⊥) → 2 ≤ n → nodes ≡ reached t (p ++ lockGL n) (invokeGL s n) 0 ∷ reached t (p ++ lockGR n) (invokeGR s n) 128 ∷ reached t (p ++ single n) s 0 ∷ []
+  pub by-three : (s .gl ≡ n → ⊥) → (s .gr ≡ n → ⊥) → 2 ≤ n → nodes ≡ reached t (p ++ lockGL n) (invokeGL s n) 0 ∷ reached t (p ++ lockGR n) (invokeGR s n) 128 ∷
+      reached t (p ++ single n) s 0 ∷ []
   unfolding byWays through
   by-three l r k = rw (ne-eqb _ _ l, ne-eqb _ _ r, lt-ltb 0 n (omega arith), le-leb 2 n k)

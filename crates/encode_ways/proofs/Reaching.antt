@@ -72,17 +72,22 @@ module _ (cs : List Cand) (t : Turn) (x cost link : ℕ) (w : By cs t x cost lin
   pub through-none : Through cs t [] 0 cost link
   through-none = through-of 0 0 cost link (omega arith) (omega arith) (omega arith) (omega arith)
 
-byWays-append : (t : Turn) (ws vs : List Way) → byWays (t .base) (t .place) (t .pre) (t .code) (ws ++ vs) ≡ byWays (t .base) (t .place) (t .pre) (t .code) ws ++ byWays (t .base) (t .place) (t .pre) (t .code) vs
+byWays-append : (t : Turn) (ws vs : List Way) → byWays (t .base) (t .place) (t .pre) (t .code) (ws ++ vs) ≡ byWays (t .base) (t .place) (t .pre) (t .code) ws ++
+    byWays (t .base) (t .place) (t .pre) (t .code) vs
 unfolding byWays
 byWays-append t [] vs = refl
 byWays-append t (w ∷ ws) vs = ap (λ (l : List Node). reached t (w .pre) (w .to) (w .hi) ∷ l) (byWays-append t ws vs)
 
 -- no code element, and one more
-pub up-none : (cs : List Cand) (r : Bounds) (s ix : List ℕ) (count : ℕ) (t : Turn) (q : State) (x : ℕ) → Pushes cs r s ix count s ix count (byWays (t .base) (t .place) (t .pre) (t .code) (upTo q x 0))
+pub up-none : (cs : List Cand) (r : Bounds) (s ix : List ℕ) (count : ℕ) (t : Turn) (q : State) (x : ℕ) →
+    Pushes cs r s ix count s ix count (byWays (t .base) (t .place) (t .pre) (t .code) (upTo q x 0))
 unfolding upTo byWays
 up-none cs r s ix count t q x = none cs r s ix count
 
-pub up-one : {cs : List Cand} {r : Bounds} {s ix s₁ ix₁ s₂ ix₂ : List ℕ} {count count₁ count₂ : ℕ} (t : Turn) (q : State) (x n : ℕ) → Pushes cs r s ix count s₁ ix₁ count₁ (byWays (t .base) (t .place) (t .pre) (t .code) (upTo q x n)) → Pushes cs r s₁ ix₁ count₁ s₂ ix₂ count₂ (byWays (t .base) (t .place) (t .pre) (t .code) (byElement q x n)) → Pushes cs r s ix count s₂ ix₂ count₂ (byWays (t .base) (t .place) (t .pre) (t .code) (upTo q x (n + 1)))
+pub up-one : {cs : List Cand} {r : Bounds} {s ix s₁ ix₁ s₂ ix₂ : List ℕ} {count count₁ count₂ : ℕ} (t : Turn) (q : State) (x n : ℕ) →
+    Pushes cs r s ix count s₁ ix₁ count₁ (byWays (t .base) (t .place) (t .pre) (t .code) (upTo q x n)) →
+    Pushes cs r s₁ ix₁ count₁ s₂ ix₂ count₂ (byWays (t .base) (t .place) (t .pre) (t .code) (byElement q x n)) →
+    Pushes cs r s ix count s₂ ix₂ count₂ (byWays (t .base) (t .place) (t .pre) (t .code) (upTo q x (n + 1)))
 unfolding upTo
 up-one t q x n a b =
     pushes-as _ _ (sym (ap (λ (m : ℕ). byWays (t .base) (t .place) (t .pre) (t .code) (upTo q x m)) (add-one n) ∙ byWays-append t (upTo q x n) (byElement q x n)))

@@ -48,7 +48,8 @@ unfolding byCands
 snoc n i l [] k = refl
 snoc n i l (c ∷ cs) k = snoc n i (pushAll l (byCand n i c)) cs k
 
-pub one-more : (n : Node) (i : ℕ) (cs : List Cand) (k : ℕ) → k < length cs → (l : List Node) → pushAll (byCands n i l (take k cs)) (byCand n i (getD cs k (plain 0 0))) ≡ byCands n i l (take (k + 1) cs)
+pub one-more : (n : Node) (i : ℕ) (cs : List Cand) (k : ℕ) → k < length cs → (l : List Node) →
+    pushAll (byCands n i l (take k cs)) (byCand n i (getD cs k (plain 0 0))) ≡ byCands n i l (take (k + 1) cs)
 one-more n i cs k h l = sym (ap (byCands n i l) (ap (λ (j : ℕ). take j cs) (add-one k) ∙ take-suc cs k (plain 0 0) h) ∙ snoc n i l (take k cs) (getD cs k (plain 0 0)))
 
 pub none-yet : (n : Node) (i : ℕ) (cs : List Cand) (l : List Node) → l ≡ byCands n i l (take 0 cs)

@@ -46,7 +46,9 @@ fn by_shift(
     n: u32,
 ) -> usize
     requires { ⌜ HasRoom (area .from) (area .cap) (now store) (now index) × Proper (node .state) × Apart (unpack (node .state)) n × Sized (node .cost) (node .link) × (n < 4) ⌝ }
-    ensures { λ c. ⌜ ((cs : List Cand) (most : ℕ) (t : Turn) (p : List ℕ) → Through cs t p n (node .cost) (node .link) → node .cost + 2 ≤ most → Pushes cs (bounds (area .from) (area .cap) (node .back) most) (now (store .entry)) (now (index .entry)) count (now (store .exit)) (now (index .exit)) c (byWays (t .base) (t .place) (t .pre) (t .code) (through p (unpack (node .state)) n))) ⌝ }
+    ensures { λ c. ⌜ ((cs : List Cand) (most : ℕ) (t : Turn) (p : List ℕ) → Through cs t p n (node .cost) (node .link) → node .cost + 2 ≤ most →
+        Pushes cs (bounds (area .from) (area .cap) (node .back) most) (now (store .entry)) (now (index .entry)) count (now (store .exit)) (now (index .exit)) c
+        (byWays (t .base) (t .place) (t .pre) (t .code) (through p (unpack (node .state)) n))) ⌝ }
 {
     let left = Entry {
         state: encode_states::to_gl(node.state, n),
@@ -106,8 +108,11 @@ fn through(
     node: Entry,
     element: CodeElement,
 ) -> usize
-    requires { ⌜ HasRoom (area .from) (area .cap) (now store) (now index) × Proper (node .state) × Invoked (unpack (node .state)) (element .left) (element .right) × Sized (node .cost) (node .link) × (element .n < 4) ⌝ }
-    ensures { λ c. ⌜ ((cs : List Cand) (most : ℕ) (t : Turn) (p : List ℕ) → Through cs t p (element .n) (node .cost) (node .link) → node .cost + 2 ≤ most → Pushes cs (bounds (area .from) (area .cap) (node .back) most) (now (store .entry)) (now (index .entry)) count (now (store .exit)) (now (index .exit)) c (byWays (t .base) (t .place) (t .pre) (t .code) (through p (unpack (node .state)) (element .n)))) ⌝ }
+    requires { ⌜ HasRoom (area .from) (area .cap) (now store) (now index) × Proper (node .state) × Invoked (unpack (node .state)) (element .left) (element .right) ×
+        Sized (node .cost) (node .link) × (element .n < 4) ⌝ }
+    ensures { λ c. ⌜ ((cs : List Cand) (most : ℕ) (t : Turn) (p : List ℕ) → Through cs t p (element .n) (node .cost) (node .link) → node .cost + 2 ≤ most →
+        Pushes cs (bounds (area .from) (area .cap) (node .back) most) (now (store .entry)) (now (index .entry)) count (now (store .exit)) (now (index .exit)) c
+        (byWays (t .base) (t .place) (t .pre) (t .code) (through p (unpack (node .state)) (element .n)))) ⌝ }
 {
     if element.left == element.n {
         let c = encode_layer::push(&mut *store, &mut *index, area, count, node);
@@ -156,7 +161,9 @@ fn by_elements(
     x: u32,
 ) -> usize
     requires { ⌜ HasRoom (area .from) (area .cap) (now store) (now index) × Proper (node .state) × Small (node .cost) (node .link) × (x < 6) ⌝ }
-    ensures { λ c. ⌜ ((cs : List Cand) (most : ℕ) (t : Turn) → By cs t x (node .cost) (node .link) → node .cost + 6 ≤ most → Pushes cs (bounds (area .from) (area .cap) (node .back) most) (now (store .entry)) (now (index .entry)) count (now (store .exit)) (now (index .exit)) c (byWays (t .base) (t .place) (t .pre) (t .code) (upTo (unpack (node .state)) (setOf x) 4))) ⌝ }
+    ensures { λ c. ⌜ ((cs : List Cand) (most : ℕ) (t : Turn) → By cs t x (node .cost) (node .link) → node .cost + 6 ≤ most →
+        Pushes cs (bounds (area .from) (area .cap) (node .back) most) (now (store .entry)) (now (index .entry)) count (now (store .exit)) (now (index .exit)) c
+        (byWays (t .base) (t .place) (t .pre) (t .code) (upTo (unpack (node .state)) (setOf x) 4))) ⌝ }
 {
     let left = encode_states::gl(node.state);
     let right = encode_states::gr(node.state);
@@ -187,7 +194,9 @@ fn by_ways(
     x: u32,
 ) -> usize
     requires { ⌜ HasRoom (area .from) (area .cap) (now store) (now index) × Proper (node .state) × Small (node .cost) (node .link) × (x < 6) ⌝ }
-    ensures { λ c. ⌜ ((cs : List Cand) (most : ℕ) (t : Turn) → By cs t x (node .cost) (node .link) → node .cost + 6 ≤ most → Pushes cs (bounds (area .from) (area .cap) (node .back) most) (now (store .entry)) (now (index .entry)) count (now (store .exit)) (now (index .exit)) c (byWays (t .base) (t .place) (t .pre) (t .code) (ways (unpack (node .state)) (setOf x)))) ⌝ }
+    ensures { λ c. ⌜ ((cs : List Cand) (most : ℕ) (t : Turn) → By cs t x (node .cost) (node .link) → node .cost + 6 ≤ most →
+        Pushes cs (bounds (area .from) (area .cap) (node .back) most) (now (store .entry)) (now (index .entry)) count (now (store .exit)) (now (index .exit)) c
+        (byWays (t .base) (t .place) (t .pre) (t .code) (ways (unpack (node .state)) (setOf x)))) ⌝ }
 {
     let left = encode_states::set_in(node.state, encode_states::gl(node.state));
     let right = encode_states::set_in(node.state, encode_states::gr(node.state));
@@ -262,7 +271,10 @@ fn by_candidate(
     choice: Choice,
 ) -> usize
     requires { ⌜ HasRoom (area .from) (area .cap) (now store) (now index) × Proper (node .state) × (node .cost ≤ 65535) × (choice .len ≤ 2) × (node .link < 2097152) ⌝ }
-    ensures { λ c. ⌜ ((cs : List Cand) (k : Cand) (ks : List Cand) (most : ℕ) (n : Node) → drop (node .link / 131072) cs ≡ k ∷ ks → Matches (choice .set) (choice .size) (choice .len) k → Is n (node .state) (node .cost) → node .cost + 9 ≤ most → Pushes cs (bounds (area .from) (area .cap) (node .back) most) (now (store .entry)) (now (index .entry)) count (now (store .exit)) (now (index .exit)) c (byCand n (node .link % 131072) k)) ⌝ }
+    ensures { λ c. ⌜ ((cs : List Cand) (k : Cand) (ks : List Cand) (most : ℕ) (n : Node) → drop (node .link / 131072) cs ≡ k ∷ ks →
+        Matches (choice .set) (choice .size) (choice .len) k → Is n (node .state) (node .cost) → node .cost + 9 ≤ most →
+        Pushes cs (bounds (area .from) (area .cap) (node .back) most) (now (store .entry)) (now (index .entry)) count (now (store .exit)) (now (index .exit)) c
+        (byCand n (node .link % 131072) k)) ⌝ }
 {
     let z = size_control(node.state, choice.size);
     let state = sized(node.state, choice.size);
@@ -315,7 +327,9 @@ pub fn by_candidates<'a>(
 ) -> usize
     requires { ⌜ HasRoom (area .from) (area .cap) (now store) (now index) × Proper (node .state) × (node .cost ≤ 65535) × (node .link < 131072) × (m ≤ 9) ⌝ }
     ensures kept { λ _. ⌜ take (area .from * 4) (now (store .exit)) ≡ take (area .from * 4) (now (store .entry)) ⌝ }
-    ensures reached { λ c. ⌜ ((cs : List Cand) (most : ℕ) (n : Node) → MatchAll cs m (now (sets .entry)) (now (codes .entry)) (now (sizes .entry)) → Is n (node .state) (node .cost) → node .cost + 9 ≤ most → Changes cs (bounds (area .from) (area .cap) (node .back) most) (now (store .entry)) (now (index .entry)) count (now (store .exit)) (now (index .exit)) c (λ l. byCands n (node .link) l cs)) ⌝ }
+    ensures reached { λ c. ⌜ ((cs : List Cand) (most : ℕ) (n : Node) → MatchAll cs m (now (sets .entry)) (now (codes .entry)) (now (sizes .entry)) →
+        Is n (node .state) (node .cost) → node .cost + 9 ≤ most → Changes cs (bounds (area .from) (area .cap) (node .back) most) (now (store .entry)) (now (index .entry))
+        count (now (store .exit)) (now (index .exit)) c (λ l. byCands n (node .link) l cs)) ⌝ }
 {
     let state = node.state;
     let cost = node.cost;

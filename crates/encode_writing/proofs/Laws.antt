@@ -53,7 +53,8 @@ put-as e p = rw (sym e) p
 pub taken-length : (k : ℕ) (l : List ℕ) → length (take k l) ≤ k
 taken-length k l = omega (arith, length-take k l)
 
-pub further : (q : Sequence) {l m n : List ℕ} {i j k r : ℕ} → k < length (q .bytes) → WritesAt l i (take k (q .bytes)) m j → WritesAt m j (getD (q .bytes) k 0 ∷ []) n r → WritesAt l i (take (k + 1) (q .bytes)) n r
+pub further : (q : Sequence) {l m n : List ℕ} {i j k r : ℕ} → k < length (q .bytes) → WritesAt l i (take k (q .bytes)) m j → WritesAt m j (getD (q .bytes) k 0 ∷ []) n r →
+    WritesAt l i (take (k + 1) (q .bytes)) n r
 further q {k = k} h p s = put-as (sym (ap (λ (z : ℕ). take z (q .bytes)) (add-one k) ∙ take-suc (q .bytes) k 0 h)) (put-then p s)
 
 pub held-length : (q : Sequence) (xs : List ℕ) → length xs ≤ 5 → Holds q xs → length (q .bytes) ≡ 5

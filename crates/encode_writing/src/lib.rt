@@ -164,7 +164,8 @@ fn put_code(coding: &mut [u8], at: usize, code: u16, h: u8) -> usize
 /// Writes a code of a set, by its three bits, as `how` says.
 pub fn put_graphic(coding: &mut [u8], at: usize, x: u32, code: u16, how: u32) -> usize
     requires { ⌜ (at ≤ 4294967296) × (x < 7) × (code / 256 < 128) × (code % 256 < 128) ⌝ }
-    ensures { λ r. ⌜ ((size : ℕ) → WritesAt (now (coding .entry)) at (writtenBy (graphic (setOf x) (codeOf code) size) (how / 16 % 4) (how / 64 % 4) (how / 256 % 2) (how / 512)) (now (coding .exit)) r) ⌝ }
+    ensures { λ r. ⌜ ((size : ℕ) → WritesAt (now (coding .entry)) at
+        (writtenBy (graphic (setOf x) (codeOf code) size) (how / 16 % 4) (how / 64 % 4) (how / 256 % 2) (how / 512)) (now (coding .exit)) r) ⌝ }
 {
     let e = how / 64 % 4;
     let v = how / 512;

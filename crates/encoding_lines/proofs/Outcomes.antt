@@ -44,7 +44,8 @@ within c e =
 -- ---- lines
 
 -- buffer and store of the program's rooms
-pub answered-as : (cells text store : List ℕ) {a : Answer} {s b : List ℕ} → length store ≡ 1048576 → Answered (lent cells 0 0 text store (replicate 65529 0)) a s b → Answered (call cells text) a s b
+pub answered-as : (cells text store : List ℕ) {a : Answer} {s b : List ℕ} → length store ≡ 1048576 → Answered (lent cells 0 0 text store (replicate 65529 0)) a s b →
+    Answered (call cells text) a s b
 answered-as cells text store {a} {s} {b} h v =
     subst (λ (n : ℕ). Answered (record { cells = cells; initial = 0; width = 0; text = text; storeRoom = n; codingRoom = 65529 }) a s b) h
     (subst (λ (n : ℕ). Answered (record { cells = cells; initial = 0; width = 0; text = text; storeRoom = length store; codingRoom = n }) a s b) (length-replicate {A = ℕ} 65529 0) v)

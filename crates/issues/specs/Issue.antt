@@ -3,7 +3,21 @@ use Prim.Native.Nat.{ℕ, _+_}
 use mathlib.Core.List.{List, [], _∷_, _++_}
 use Rattle.issues.specs.declared.Numbers.{Numbers}
 use Rattle.issues.specs.declared.IssueKind.{IssueKind}
-use Rattle.issues.specs.declared.IssueKind.the-variants.{UnknownEscape, UndefinedControl, MalformedControl, Truncated, UndefinedCode, UnsupportedCode, Drcs, Mosaic, UndefinedMacro, MacroLimit, LoneSingleShift, DanglingNonSpacing, RepeatToEndOfLine}
+use Rattle.issues.specs.declared.IssueKind.the-variants.{
+  UnknownEscape,
+  UndefinedControl,
+  MalformedControl,
+  Truncated,
+  UndefinedCode,
+  UnsupportedCode,
+  Drcs,
+  Mosaic,
+  UndefinedMacro,
+  MacroLimit,
+  LoneSingleShift,
+  DanglingNonSpacing,
+  RepeatToEndOfLine,
+}
 
 abbrev three : ℕ → ℕ → ℕ → Numbers
 three kind first second = record { kind = kind; first = first; second = second }

@@ -98,7 +98,9 @@ module _ (bytes before cells : List ℕ) where
       go : length before ≡ 8836 → take (length cells) cells ≡ bigEndian bytes
       go h =
           let n : length (bigEndian bytes) ≡ length before = omega (arith, big-endian-long bytes) in
-          take-length cells ∙ e ∙ ap (λ (m : ℕ). padded m (bigEndian bytes)) (sym n) ∙ sym (take-all (length (bigEndian bytes)) (padded (length (bigEndian bytes)) (bigEndian bytes)) (omega (arith, length-padded (length (bigEndian bytes)) (bigEndian bytes))))
+          take-length cells ∙ e ∙ ap (λ (m : ℕ). padded m (bigEndian bytes)) (sym n) ∙
+          sym (take-all (length (bigEndian bytes)) (padded (length (bigEndian bytes)) (bigEndian bytes))
+          (omega (arith, length-padded (length (bigEndian bytes)) (bigEndian bytes))))
           ∙ take-padded (length (bigEndian bytes)) (bigEndian bytes) (omega arith)
 
   -- it is none

@@ -77,7 +77,8 @@ module _ (xs part rest : List ℕ) (at : ℕ) (e : length xs ≡ at) where
 -- ---- the line
 
 -- NUMBER and TAB stand at the front, and what ends the line is put behind them
-pub line-printed : (number : List ℕ) (at q len : ℕ) (part rest : List ℕ) {out out₁ out₃ : List ℕ} {m : ℕ} → Put out 0 (number ++ tab) out₁ at → length (number ++ tab) ≤ length out → len ≤ length part
+pub line-printed : (number : List ℕ) (at q len : ℕ) (part rest : List ℕ) {out out₁ out₃ : List ℕ} {m : ℕ} → Put out 0 (number ++ tab) out₁ at →
+    length (number ++ tab) ≤ length out → len ≤ length part
     → at + len < length (take at out₁ ++ (part ++ rest)) → at + 50 ≤ length (take at out₁ ++ (part ++ rest))
     → Put (take at out₁ ++ (part ++ rest)) (endingAt at q len) (ending q) out₃ m → m ≤ endingAt at q len + 50 → (m ≤ length out₃) × (take m out₃ ≡ lineOf number q (take len part))
 unfolding lineOf

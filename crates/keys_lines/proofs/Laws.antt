@@ -109,7 +109,16 @@ unfolding decimal
 decimal-lacks n = decimal-in-lacks (suc n) n
 
 word-lacks : Lacks 0x0A refusedWord
-word-lacks = ((λ e. omega arith), ((λ e. omega arith), ((λ e. omega arith), ((λ e. omega arith), ((λ e. omega arith), ((λ e. omega arith), ((λ e. omega arith), ((λ e. omega arith), tt))))))))
+word-lacks = (
+  (λ e. omega arith),
+  (
+    (λ e. omega arith),
+    (
+      (λ e. omega arith),
+      ((λ e. omega arith), ((λ e. omega arith), ((λ e. omega arith), ((λ e. omega arith), ((λ e. omega arith), tt))))),
+    ),
+  ),
+)
 
 refusal-lacks : (q : ℕ) → Lacks 0x0A (refusal q 0)
 unfolding refusal

@@ -23,7 +23,8 @@ answers q t b w more =
       | suc q ↦ refuse (suc q) 0
     ]
 
-not-seven : (q : ℕ) (t : Text) (b w : Option ℕ) (fits room : Bool) (more : Refusal) → (answers q t b w (cond fits more (refuse 7 0)) .number ≡ 7 → ⊥) → (answers q t b w (cond room more (refuse 7 0)) .number ≡ 7 → ⊥) → answers q t b w (cond fits more (refuse 7 0)) ≡ answers q t b w (cond room more (refuse 7 0))
+not-seven : (q : ℕ) (t : Text) (b w : Option ℕ) (fits room : Bool) (more : Refusal) → (answers q t b w (cond fits more (refuse 7 0)) .number ≡ 7 → ⊥) →
+    (answers q t b w (cond room more (refuse 7 0)) .number ≡ 7 → ⊥) → answers q t b w (cond fits more (refuse 7 0)) ≡ answers q t b w (cond room more (refuse 7 0))
 not-seven (suc q) t b w fits room more h k = refl
 not-seven zero (FaultAt p) b w fits room more h k = refl
 not-seven zero WellFormed (some p) w fits room more h k = refl
@@ -32,7 +33,8 @@ not-seven zero WellFormed none none true true more h k = refl
 not-seven zero WellFormed none none true false more h k = absurd (k refl)
 not-seven zero WellFormed none none false room more h k = absurd (h refl)
 
-passed : (q : ℕ) (t : Text) (b w : Option ℕ) (fits room : Bool) → answers q t b w (cond fits (cond room (refuse 0 0) (refuse 8 0)) (refuse 7 0)) .number ≡ 0 → (q ≡ 0) × (w ≡ none) × (room ≡ true)
+passed : (q : ℕ) (t : Text) (b w : Option ℕ) (fits room : Bool) → answers q t b w (cond fits (cond room (refuse 0 0) (refuse 8 0)) (refuse 7 0)) .number ≡ 0 → (q ≡ 0) ×
+    (w ≡ none) × (room ≡ true)
 passed zero WellFormed none none true true e = (refl, refl, refl)
 passed zero WellFormed none none true false e = absurd (omega arith)
 passed zero WellFormed none none false room e = absurd (omega arith)

@@ -32,7 +32,9 @@ pub data Chain (C : Type 0) (s : State) : List (List Cand) → List (List Node) 
 -- a layer that a search reaches is linked
 module _ (C : Type 0) (ks : List Cand) (fine : C → All Fine ks) (l : List Node) where
   node-links : (n : Node) (i : ℕ) → i < length l → at l i ≡ n → All (Link C ks l) (byEach n i ks)
-  node-links n i h e = all-map (Step C ks n i) (Link C ks l) (byEach n i ks) (λ m s. record { from = omega (arith, s .prev); step = subst (λ (j : ℕ). Step C ks (at l j) j m) (sym (s .prev)) (rw e s) }) (each-steps C ks n i ks fine (λ k m. m))
+  node-links n i h e =
+      all-map (Step C ks n i) (Link C ks l) (byEach n i ks) (λ m s.
+      record { from = omega (arith, s .prev); step = subst (λ (j : ℕ). Step C ks (at l j) j m) (sym (s .prev)) (rw e s) }) (each-steps C ks n i ks fine (λ k m. m))
 
   reached-links : (ns : List Node) (i : ℕ) → ((j : ℕ) → j < length ns → (i + j < length l) × (at l (i + j) ≡ at ns j)) → All (Link C ks l) (reached ks ns i)
   unfolding reached
@@ -44,7 +46,8 @@ module _ (C : Type 0) (ks : List Cand) (fine : C → All Fine ks) (l : List Node
   layer-links : (top : ℕ) → All (Link C ks l) (keep top (reach ks l 0 []))
   layer-links top = rw reach-flat (keep-every (Link C ks l) top _ (all-every (Link C ks l) [] (reached ks l 0) tt (reached-links l 0 (λ j h. rw (zero-add j) (h, refl)))))
 
-pub run-chain : (C : Type 0) (s : State) (css : List (List Cand)) → (C → All (All Fine) css) → (done : List (List Cand)) (r : Run) → Chain C s done (r .layers) → Chain C s (reverseAux css done) (run css r .layers)
+pub run-chain : (C : Type 0) (s : State) (css : List (List Cand)) → (C → All (All Fine) css) → (done : List (List Cand)) (r : Run) → Chain C s done (r .layers) →
+    Chain C s (reverseAux css done) (run css r .layers)
 unfolding run layer
 run-chain C s [] fine done r c = c
 run-chain C s (ks ∷ css) fine done r c =
@@ -59,7 +62,8 @@ node-at (n ∷ ns) zero = refl
 node-at (n ∷ ns) (suc i) = node-at ns i
 
 module _ (C : Type 0) (s : State) where
-  pub back-length : {css : List (List Cand)} {ls : List (List Node)} → Chain C s css ls → (i : ℕ) → i < length (newest ls) → (acc : List ℕ) → length (back ls i acc) ≡ at (newest ls) i .cost + length acc
+  pub back-length : {css : List (List Cand)} {ls : List (List Node)} → Chain C s css ls → (i : ℕ) → i < length (newest ls) → (acc : List ℕ) →
+      length (back ls i acc) ≡ at (newest ls) i .cost + length acc
   unfolding back newest
   back-length begins zero h acc = omega arith
   back-length begins (suc i) h acc = absurd (omega arith)
@@ -74,7 +78,8 @@ module _ (C : Type 0) (s : State) where
   small x z begins (suc i) h = absurd (omega arith)
   small x z (grows {ks = ks} {l = l} {ls = ls} a c) i h = let k = all-at (Link C ks (newest ls)) _ l a i h in k .step .small x (small x z c (at l i .prev) (k .from))
 
-  pub back-writes : {css : List (List Cand)} {ls : List (List Node)} → C → s .narrow ≤ 1 → Chain C s css ls → (i : ℕ) → i < length (newest ls) → (rest : List (List Cand)) (acc : List ℕ) → Admissible (at (newest ls) i .state) rest acc → Admissible s (reverseAux css rest) (back ls i acc)
+  pub back-writes : {css : List (List Cand)} {ls : List (List Node)} → C → s .narrow ≤ 1 → Chain C s css ls → (i : ℕ) → i < length (newest ls) →
+      (rest : List (List Cand)) (acc : List ℕ) → Admissible (at (newest ls) i .state) rest acc → Admissible s (reverseAux css rest) (back ls i acc)
   unfolding back newest
   back-writes x z begins zero h rest acc d = d
   back-writes x z begins (suc i) h rest acc d = absurd (omega arith)

@@ -36,8 +36,11 @@ nine-text c = rw (← choices-length c) (out-nine (choices c) (c .initial) (choi
 
 nine-character : (n : Node) (i : ℕ) (ks : List Cand) → All Fine ks → All (λ k. All (λ m. m .cost ≤ n .cost + 9) (byCand n i k)) ks
 nine-character n i [] a = tt
-nine-character n i (k ∷ ks) a =
-    (all-map (Step (Unit {0}) (k ∷ []) n i) (λ m. m .cost ≤ n .cost + 9) (byCand n i k) (λ m s. omega (arith, s .cost, s .nine tt)) (cand-steps (Unit {0}) (k ∷ []) n i k (λ x. a .0) (here refl)), nine-character n i ks (a .1))
+nine-character n i (k ∷ ks) a = (
+  all-map (Step (Unit {0}) (k ∷ []) n i) (λ m. m .cost ≤ n .cost + 9) (byCand n i k) (λ m s. omega (arith, s .cost, s .nine tt))
+      (cand-steps (Unit {0}) (k ∷ []) n i k (λ x. a .0) (here refl)),
+  nine-character n i ks (a .1),
+)
 
 pub nine-bytes : NineBytes
 nine-bytes =

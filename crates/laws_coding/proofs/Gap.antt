@@ -34,7 +34,8 @@ unfolding floorOf overs lowered
 layer-floor top rest f [] = refl
 layer-floor top rest f (n ∷ ns) = go (leb (n .cost) top) (λ g. layer-floor top rest g ns)
   where
-    go : (b : Bool) → ((g : ℕ) → floorOf top rest g ns ≡ lowered g (overs top rest ns)) → floorOf top rest (cond b f (lower f (n .cost + rest))) ns ≡ lowered f (cond b [] ((n .cost + rest) ∷ []) ++ overs top rest ns)
+    go : (b : Bool) → ((g : ℕ) → floorOf top rest g ns ≡ lowered g (overs top rest ns)) →
+        floorOf top rest (cond b f (lower f (n .cost + rest))) ns ≡ lowered f (cond b [] ((n .cost + rest) ∷ []) ++ overs top rest ns)
     go true h = h f
     go false h = h (lower f (n .cost + rest))
 
@@ -115,7 +116,8 @@ kept-or-dropped a top rest c (here {x = n} {xs = ns} h) = go (leb (n .cost) top)
     go false e = let q : n .cost + rest ≤ c + rest = omega arith in inr (rw e (here q))
 kept-or-dropped a top rest c (there {x = n} {xs = ns} r) = go (leb (n .cost) top) refl (kept-or-dropped a top rest c r)
   where
-    go : (b : Bool) → leb (n .cost) top ≡ b → Some (Near a c) (keep top ns) ⊎ Some (λ x. x ≤ c + rest) (overs top rest ns) → Some (Near a c) (keep top (n ∷ ns)) ⊎ Some (λ x. x ≤ c + rest) (overs top rest (n ∷ ns))
+    go : (b : Bool) → leb (n .cost) top ≡ b → Some (Near a c) (keep top ns) ⊎ Some (λ x. x ≤ c + rest) (overs top rest ns) →
+        Some (Near a c) (keep top (n ∷ ns)) ⊎ Some (λ x. x ≤ c + rest) (overs top rest (n ∷ ns))
     go true e (inl q) = inl (rw (e, keep) (there q))
     go false e (inl q) = inl (rw (e, keep) q)
     go true e (inr q) = inr (some-right (cond (leb (n .cost) top) [] ((n .cost + rest) ∷ [])) q)
@@ -130,6 +132,7 @@ ends (control {bs = bs} {cs = cs} k d) r c ok q = rw (length-append bs cs, ← a
 ends (write {s = s} {ks = ks} {css = css} {bs = bs} {cs = cs} w d) r c ok q =
     let full = reach ks (newest (r .layers)) 0 [] in
     rw (length-append bs cs, ← add-assoc) (
-    ⊎-elim (λ k. ⊎-map (λ x. x) (some-right (overs (least full + 10) (restOf css) full)) (ends d (layer r full css) (c + length bs) ok k)) (λ x. inr (some-left _ (some-map x (λ y h. omega (arith, rest-most d)))))
+    ⊎-elim (λ k. ⊎-map (λ x. x) (some-right (overs (least full + 10) (restOf css) full)) (ends d (layer r full css) (c + length bs) ok k))
+    (λ x. inr (some-left _ (some-map x (λ y h. omega (arith, rest-most d)))))
     (kept-or-dropped s (least full + 10) (restOf css) (c + length bs) (reach-near s ok c bs ks w (newest (r .layers)) q))
     )

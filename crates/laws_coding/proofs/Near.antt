@@ -79,5 +79,6 @@ cheaper : (a : State) (c : ℕ) (m n : Node) → sameState (m .state) (n .state)
 cheaper a c m n e (inl h) = by-test (Near a c) (leb (m .cost) (n .cost)) (λ t. h) (λ t. omega (arith, leb-false (m .cost) (n .cost) t, distance-same (m .state) (n .state) a e))
 cheaper a c m n e (inr h) = by-test (Near a c) (leb (m .cost) (n .cost)) (λ t. omega (arith, leb-true (m .cost) (n .cost) t, distance-same (m .state) (n .state) a e)) (λ t. h)
 
-pub reach-near : (a : State) → Invokes a → (c : ℕ) (bs : List ℕ) (ks : List Cand) → Some (λ k. Shows a k bs) ks → (ns : List Node) → Some (Near a c) ns → Some (Near a (c + length bs)) (reach ks ns 0 [])
+pub reach-near : (a : State) → Invokes a → (c : ℕ) (bs : List ℕ) (ks : List Cand) → Some (λ k. Shows a k bs) ks → (ns : List Node) → Some (Near a c) ns →
+    Some (Near a (c + length bs)) (reach ks ns 0 [])
 reach-near a ok c bs ks s ns r = rw reach-flat (all-some (Near a (c + length bs)) (cheaper a (c + length bs)) [] (reached ks ns 0) (inr (reached-near a ok c bs ks s 0 r)))

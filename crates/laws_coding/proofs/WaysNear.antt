@@ -21,7 +21,8 @@ abbrev pub Within : State → ℕ → Way → Type 0
 Within a c w = length (w .pre) + distance (w .to) a ≤ c
 
 -- the ways as a set is invoked, or else others
-as-it-is : (P : Way → Type 0) (p : List ℕ) (s : State) (gl gr : Bool) (others : List Way) → ((hi : ℕ) → P (way p s hi)) → (gl ≡ false → gr ≡ false → Some P others) → Some P (cond (gl || gr) (when gl (way p s 0) ++ when gr (way p s 128)) others)
+as-it-is : (P : Way → Type 0) (p : List ℕ) (s : State) (gl gr : Bool) (others : List Way) → ((hi : ℕ) → P (way p s hi)) → (gl ≡ false → gr ≡ false → Some P others) →
+    Some P (cond (gl || gr) (when gl (way p s 0) ++ when gr (way p s 128)) others)
 as-it-is P p s true gr others here? f = here (here? 0)
 as-it-is P p s false true others here? f = here (here? 128)
 as-it-is P p s false false others here? f = f refl refl
@@ -62,7 +63,8 @@ module _ (s a : State) (n k : ℕ) (element : n < 4) (by : (p : List ℕ) (t : S
       by-test (Some (Within a (distance s a + k))) (eqb (setIn s n) (setIn a n)) (λ e. some-map (by [] s) (λ w h. omega arith))
       (λ e. some-map (by (designation (setIn a n) n) (designate s n (setIn a n))) (λ w h. omega (arith, designated s a n element (eqb-false _ _ e))))
 
-  one-of-four : (x m : ℕ) → m < 4 → Some (Within a (distance s a + k)) (byElement s x m) → Some (Within a (distance s a + k)) (byElement s x 0 ++ (byElement s x 1 ++ (byElement s x 2 ++ byElement s x 3)))
+  one-of-four : (x m : ℕ) → m < 4 → Some (Within a (distance s a + k)) (byElement s x m) →
+      Some (Within a (distance s a + k)) (byElement s x 0 ++ (byElement s x 1 ++ (byElement s x 2 ++ byElement s x 3)))
   one-of-four x zero h r = some-left _ r
   one-of-four x (suc zero) h r = some-right (byElement s x 0) (some-left _ r)
   one-of-four x (suc (suc zero)) h r = some-right (byElement s x 0) (some-right (byElement s x 1) (some-left _ r))

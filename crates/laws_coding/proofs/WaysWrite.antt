@@ -30,7 +30,8 @@ leads-on s t p f {q} k css bs d = rw append-assoc (f css (q ++ bs) (control k d)
 pub record Writes (x : ℕ) (s : State) (w : Way) : Type 0 where
   pub few : length (w .pre) ≤ 6
   pub size : w .to .narrow ≡ s .narrow
-  pub write : (ks : List Cand) (code : List ℕ) (size : ℕ) → Some (λ k. k ≡ graphic x code size) ks → Sized s size → (css : List (List Cand)) (bs : List ℕ) → Admissible (w .to) css bs → Admissible s (ks ∷ css) (w .pre ++ (map (λ b. b + w .hi) code ++ bs))
+  pub write : (ks : List Cand) (code : List ℕ) (size : ℕ) → Some (λ k. k ≡ graphic x code size) ks → Sized s size → (css : List (List Cand)) (bs : List ℕ) →
+      Admissible (w .to) css bs → Admissible s (ks ∷ css) (w .pre ++ (map (λ b. b + w .hi) code ++ bs))
 
 resized : (s t : State) (size : ℕ) → s .narrow ≡ t .narrow → Sized s size → Sized t size
 resized s t size e either = either
@@ -68,7 +69,8 @@ module _ (s t : State) (p : List ℕ) (leads : Leads s p t) (size : t .narrow �
         few = rw length-append (omega (arith, single-one n));
         size = size;
         write = λ ks code z m k css bs d.
-            rw (append-assoc p (single n), ← append-assoc (single n)) (leads (ks ∷ css) ((single n ++ map (λ b. b + 0) code) ++ bs) (write (shown t _ _ m (shifted code z n 0 low (resized s t z (sym size) k) two four)) d));
+            rw (append-assoc p (single n), ← append-assoc (single n))
+            (leads (ks ∷ css) ((single n ++ map (λ b. b + 0) code) ++ bs) (write (shown t _ _ m (shifted code z n 0 low (resized s t z (sym size) k) two four)) d));
       }
 
 -- each of two ways, where its test holds

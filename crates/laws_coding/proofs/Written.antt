@@ -66,7 +66,8 @@ pub record Step (C : Type 0) (ks : List Cand) (n : Node) (i : ℕ) (m : Node) : 
   pub writes : C → n .state .narrow ≤ 1 → (css : List (List Cand)) (bs : List ℕ) → Admissible (m .state) css bs → Admissible (n .state) (ks ∷ css) (m .bytes ++ bs)
 
 module _ (C : Type 0) (ks : List Cand) (n : Node) (i : ℕ) where
-  ways-steps : (x : ℕ) (code : List ℕ) (size : ℕ) → (C → Fine (graphic x code size)) → Some (λ k. k ≡ graphic x code size) ks → (ws : List Way) → (C → All (Writes x (sized (n .state) size)) ws) → All (Step C ks n i) (byWays (n .cost) i (sizeBytes (n .state) size) code ws)
+  ways-steps : (x : ℕ) (code : List ℕ) (size : ℕ) → (C → Fine (graphic x code size)) → Some (λ k. k ≡ graphic x code size) ks → (ws : List Way) →
+      (C → All (Writes x (sized (n .state) size)) ws) → All (Step C ks n i) (byWays (n .cost) i (sizeBytes (n .state) size) code ws)
   unfolding byWays
   ways-steps x code size fine k [] a = tt
   ways-steps x code size fine k (w ∷ ws) a = (
@@ -77,7 +78,8 @@ module _ (C : Type 0) (ks : List Cand) (n : Node) (i : ℕ) where
       small = λ c h. rw (a c .0 .size) (sizes (n .state) size (fine c .2) .small h);
       writes = λ c h css bs d.
           rw (append-assoc (sizeBytes (n .state) size), append-assoc (w .pre))
-          (sizes (n .state) size (fine c .2) .leads h (ks ∷ css) (w .pre ++ (map (λ b. b + w .hi) code ++ bs)) (a c .0 .write ks code size k (sizes (n .state) size (fine c .2) .fits) css bs d));
+          (sizes (n .state) size (fine c .2) .leads h (ks ∷ css) (w .pre ++ (map (λ b. b + w .hi) code ++ bs))
+          (a c .0 .write ks code size k (sizes (n .state) size (fine c .2) .fits) css bs d));
     },
     ways-steps x code size fine k ws (λ c. a c .1),
   )
@@ -92,7 +94,8 @@ module _ (C : Type 0) (ks : List Cand) (n : Node) (i : ℕ) where
       nine = λ c. rw length-append (omega (arith, sizes (n .state) size (fine c) .one));
       small = λ c h. sizes (n .state) size (fine c) .small h;
       writes = λ c h css bs d.
-          rw (append-assoc (sizeBytes (n .state) size)) (sizes (n .state) size (fine c) .leads h (ks ∷ css) (b ∷ bs) (write (shown (sized (n .state) size) (plain b size) (b ∷ []) k (direct b size (sizes (n .state) size (fine c) .fits))) d));
+          rw (append-assoc (sizeBytes (n .state) size)) (sizes (n .state) size (fine c) .leads h (ks ∷ css) (b ∷ bs)
+          (write (shown (sized (n .state) size) (plain b size) (b ∷ []) k (direct b size (sizes (n .state) size (fine c) .fits))) d));
     },
     tt,
   )

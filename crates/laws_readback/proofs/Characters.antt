@@ -58,7 +58,8 @@ module _ (g : reading.Given) (depth : ℕ) (R : Run) where
 module _ (g : reading.Given) (depth : ℕ) (R : Run) (base origin : ℕ) (z : reading.State) where
   module _ (c n a : ℕ) (bs : List ℕ) (size h : ℕ) (s : State) (small : n < 4) (r : ReadsCode g depth R z c (setIn s n) a bs size) (w : Sized s size) (k : Half h) (o : Output) where
     -- the code from a code element
-    from-element : (rest : List ℕ) (at : ℕ) → graphic g depth R n (a + h) (map (λ b. b + h) bs ++ rest) at (read z s o) ≡ reading.took (suc (length (map (λ b. b + h) bs))) (read z s (puts c at o))
+    from-element : (rest : List ℕ) (at : ℕ) → graphic g depth R n (a + h) (map (λ b. b + h) bs ++ rest) at (read z s o) ≡ reading.took (suc (length (map (λ b. b + h) bs)))
+        (read z s (puts c at o))
     unfolding graphic
     from-element rest at =
         ap (λ (x : ℕ). graphicOf g depth R x (a + h) (map (λ b. b + h) bs ++ rest) at (read z s o)) (set-in s n small)
@@ -68,7 +69,9 @@ module _ (g : reading.Given) (depth : ℕ) (R : Run) (base origin : ℕ) (z : re
     -- as it is invoked
     invoked : ((rest : List ℕ) (place at : ℕ) → step g depth R (a + h) rest place at (read z s o) ≡ graphic g depth R n (a + h) rest at (read z s o)) → (i : ℕ)
         → Moves g depth R base origin (map (λ b. b + h) (a ∷ bs)) i (read z s o) (read z s (puts c (offset origin i) o))
-    invoked d i = one-step g depth R base origin (a + h) (map (λ b. b + h) bs) i _ _ (λ rest. d (map (λ b. b + h) bs ++ rest) (base + i) (offset origin i) ∙ from-element rest (offset origin i))
+    invoked d i =
+        one-step g depth R base origin (a + h) (map (λ b. b + h) bs) i _ _
+        (λ rest. d (map (λ b. b + h) bs ++ rest) (base + i) (offset origin i) ∙ from-element rest (offset origin i))
 
     -- by a single shift
     by-single : (x : ℕ) → ((rest : List ℕ) (place at : ℕ) → step g depth R x rest place at (read z s o) ≡ singleShift g depth R n rest at (read z s o)) → (i : ℕ)
@@ -94,7 +97,8 @@ module _ (g : reading.Given) (depth : ℕ) (R : Run) (base origin : ℕ) (z : re
   shows c (shifted (a ∷ bs) size zero h k w l m) r v i o = absurd (omega arith)
   shows c (shifted (a ∷ bs) size (suc zero) h k w l m) r v i o = absurd (omega arith)
   shows c (shifted {s = s} (a ∷ bs) size (suc (suc zero)) h k w l m) r v i o = by-single c 2 a bs size h s m r w k o 0x19 (λ rest place at. step-ss2 g depth R rest place at (read z s o)) i
-  shows c (shifted {s = s} (a ∷ bs) size (suc (suc (suc zero))) h k w l m) r v i o = by-single c 3 a bs size h s m r w k o 0x1D (λ rest place at. step-ss3 g depth R rest place at (read z s o)) i
+  shows c (shifted {s = s} (a ∷ bs) size (suc (suc (suc zero))) h k w l m) r v i o =
+      by-single c 3 a bs size h s m r w k o 0x1D (λ rest place at. step-ss3 g depth R rest place at (read z s o)) i
   shows c (shifted (a ∷ bs) size (suc (suc (suc (suc n)))) h k w l m) r v i o = absurd (omega arith)
   shows c (direct b size w) r v i o = one-step g depth R base origin b [] i _ _ (λ rest. r _ w rest (base + i) (offset origin i) o)
 

@@ -66,13 +66,17 @@ module _ (g : reading.Given) (depth : ℕ) (R : Run) (z : reading.State) where
 
   -- what reading does with the set x: one of one byte a character, one of two, and a cell of that
   abbrev OneByteSet : ℕ → Type 0
-  OneByteSet x = (y : ℕ) (rest : List ℕ) (at : ℕ) (s : reading.State) → graphicOf g depth R x y rest at s ≡ reading.took 1 (emitOr (UndefinedCode x (y % 128)) (letter (reading.isNarrow g s) x (y % 128)) at s)
+  OneByteSet x =
+      (y : ℕ) (rest : List ℕ) (at : ℕ) (s : reading.State) → graphicOf g depth R x y rest at s ≡ reading.took 1
+      (emitOr (UndefinedCode x (y % 128)) (letter (reading.isNarrow g s) x (y % 128)) at s)
 
   abbrev TwoByteSet : ℕ → Type 0
   TwoByteSet x = (y : ℕ) (rest : List ℕ) (at : ℕ) (s : reading.State) → graphicOf g depth R x y rest at s ≡ graphic2 g x y rest at s
 
   abbrev CellSet : ℕ → (ℕ → ℕ → ℕ) → Type 0
-  CellSet x at-cell = (row cell at : ℕ) (s : reading.State) → char2 g x (0x20 + row) (0x20 + cell) at s ≡ cellOr (UndefinedCode x ((0x20 + row) * 256 + (0x20 + cell))) (at-cell (0x20 + row - 0x20) (0x20 + cell - 0x20)) at s
+  CellSet x at-cell =
+      (row cell at : ℕ) (s : reading.State) → char2 g x (0x20 + row) (0x20 + cell) at s ≡ cellOr (UndefinedCode x ((0x20 + row) * 256 + (0x20 + cell)))
+      (at-cell (0x20 + row - 0x20) (0x20 + cell - 0x20)) at s
 
   one-byte-sets : OneByteSet 1 × OneByteSet 2 × OneByteSet 3 × OneByteSet 11
   unfolding graphicOf
@@ -158,7 +162,9 @@ module _ (g : reading.Given) (depth : ℕ) (R : Run) (z : reading.State) where
             let p : Byte b = record { from = f .from; to = f .to } in (
               record {
                 first = p;
-                reads = λ s h w q rest at o. reads (b + h) rest at (read z s o) ∙ rw (in-half b h p q .code, sized s o b w, f .reads) (ap (reading.took 1) (emit-or (UndefinedCode x b) at s o (f .character)));
+                reads =
+                    λ s h w q rest at o. reads (b + h) rest at (read z s o) ∙
+                    rw (in-half b h p q .code, sized s o b w, f .reads) (ap (reading.took 1) (emit-or (UndefinedCode x b) at s o (f .character)));
               },
               tt,
             )

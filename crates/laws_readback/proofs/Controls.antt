@@ -102,7 +102,8 @@ module _ (g : reading.Given) (depth : ℕ) (R : Run) (base origin : ℕ) (z : re
   control-moves (designates {s = s} x n hx hn) i o =
       rw (begins x n)
       (one-step g depth R base origin 0x1B (drop 1 (designation x n)) i _ _
-      (λ rest. designation-step g depth R x n hx hn rest (base + i) (offset origin i) (read z s o) ∙ ap (reading.took (suc (length (drop 1 (designation x n))))) (designate-read z s n x o hn)))
+      (λ rest. designation-step g depth R x n hx hn rest (base + i) (offset origin i) (read z s o) ∙
+      ap (reading.took (suc (length (drop 1 (designation x n))))) (designate-read z s n x o hn)))
   control-moves (locksGL zero h) i o = one-step g depth R base origin 0x0F [] i _ _ (λ rest. refl)
   control-moves (locksGL (suc zero) h) i o = one-step g depth R base origin 0x0E [] i _ _ (λ rest. refl)
   control-moves (locksGL (suc (suc zero)) h) i o = one-step g depth R base origin 0x1B (0x6E ∷ []) i _ _ (λ rest. refl)

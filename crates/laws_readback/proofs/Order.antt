@@ -16,8 +16,10 @@ use Rattle.coding.specs.Tokens.{Token, placed, tokens, ordered, inOrder, chars,
 -- character that is none, and none waits at a newline or at the end.
 pub data Coded (cells : List ℕ) (annexE : Bool) : List ℕ → List (List Cand) → List ℕ → Type 0 where
   end : Coded cells annexE [] [] []
-  with-mark : {ms ts : List ℕ} {css : List (List Cand)} (c : ℕ) → hasCharacter nonSpacing c ≡ true → Coded cells annexE (ms ++ (c ∷ [])) css ts → Coded cells annexE ms (candidates cells annexE c ∷ css) ts
-  with-base : {ms ts : List ℕ} {css : List (List Cand)} (c : ℕ) → hasCharacter nonSpacing c ≡ false → (eqb c 10 ≡ true → ms ≡ []) → Coded cells annexE [] css ts → Coded cells annexE ms (candidates cells annexE c ∷ css) (c ∷ (ms ++ ts))
+  with-mark : {ms ts : List ℕ} {css : List (List Cand)} (c : ℕ) → hasCharacter nonSpacing c ≡ true → Coded cells annexE (ms ++ (c ∷ [])) css ts →
+      Coded cells annexE ms (candidates cells annexE c ∷ css) ts
+  with-base : {ms ts : List ℕ} {css : List (List Cand)} (c : ℕ) → hasCharacter nonSpacing c ≡ false → (eqb c 10 ≡ true → ms ≡ []) → Coded cells annexE [] css ts →
+      Coded cells annexE ms (candidates cells annexE c ∷ css) (c ∷ (ms ++ ts))
 
 module _ (cells : List ℕ) (annexE : Bool) where
   -- the base b with the characters ts after it, of which the marks ms stand before b in coding order

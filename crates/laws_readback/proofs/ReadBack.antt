@@ -72,7 +72,8 @@ module _ (g : reading.Given) (depth : ℕ) (R : Run) (base origin : ℕ) (z : re
   coded {ms = ms} (control {bs = bs} {cs = cs} k d) q v text first i =
       on _ _ _ (control-moves g depth R base origin z k i (written text ms first) cs) (coded d q (still k v) text first (i + length bs))
   coded (write {s = s} {bs = bs} {cs = cs} w d) (with-mark {ms = ms} c m q) v text first i =
-      on _ _ _ (character-moves g depth R base origin z c w v i (written text ms first) cs ∙ ap (λ (o : Output). steps g depth R base origin cs (i + length bs) 0 (read z s o)) (puts-mark c (offset origin i) text ms first m))
+      on _ _ _ (character-moves g depth R base origin z c w v i (written text ms first) cs ∙
+      ap (λ (o : Output). steps g depth R base origin cs (i + length bs) 0 (read z s o)) (puts-mark c (offset origin i) text ms first m))
       (coded d q v text (firstAt ms first (offset origin i)) (i + length bs))
   coded (write {s = s} {bs = bs} {cs = cs} w d) (with-base {ms = ms} {ts = ts} c m n q) v text first i =
       let p = puts-base c (offset origin i) text ms first m n in
@@ -91,7 +92,8 @@ unfolding start
 invokes initial = record { left = omega arith; right = omega arith }
 
 -- the release at the end releases nothing
-released : (c : coding.Lent) (t : reading.State) (to : State) (first : ℕ) → t ≡ read (reading.start (c .initial)) to (written (scalars (c .text)) [] first) → ReadAs c (reading.writes release t)
+released : (c : coding.Lent) (t : reading.State) (to : State) (first : ℕ) → t ≡ read (reading.start (c .initial)) to (written (scalars (c .text)) [] first) →
+    ReadAs c (reading.writes release t)
 unfolding reading.writes release reading.start
 released c t to first e = rw e (record { text = refl; marks = refl; issues = refl; charged = refl })
 

@@ -24,4 +24,5 @@ based = refl
 pub longer : Codes accented (0x89 ∷ 0x21 ∷ 0x2D ∷ 0x8A ∷ 0x19 ∷ 0xA2 ∷ 0x0E ∷ [])
 unfolding coding.choices utf8s start setIn lockGL single
 longer =
-    control msz (write (here (left (0x21 ∷ 0x2D ∷ []) 0 either)) (control nsz (write (here (shifted (0x22 ∷ []) 2 2 128 high (wide refl) (omega arith) (omega arith))) (control (locksGL 1 (omega arith)) (done _)))))
+    control msz (write (here (left (0x21 ∷ 0x2D ∷ []) 0 either))
+    (control nsz (write (here (shifted (0x22 ∷ []) 2 2 128 high (wide refl) (omega arith) (omega arith))) (control (locksGL 1 (omega arith)) (done _)))))

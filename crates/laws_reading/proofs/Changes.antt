@@ -6,7 +6,21 @@ use native.Mathlib.Omega.{arith}
 use lib.ListN.{length, replicate, length-append, length-replicate}
 use Rattle.issues.specs.Issue.{Issue}
 use Rattle.issues.specs.declared.IssueKind.{IssueKind}
-use Rattle.issues.specs.declared.IssueKind.the-variants.{UnknownEscape, UndefinedControl, MalformedControl, Truncated, UndefinedCode, UnsupportedCode, Drcs, Mosaic, UndefinedMacro, MacroLimit, LoneSingleShift, DanglingNonSpacing, RepeatToEndOfLine}
+use Rattle.issues.specs.declared.IssueKind.the-variants.{
+  UnknownEscape,
+  UndefinedControl,
+  MalformedControl,
+  Truncated,
+  UndefinedCode,
+  UnsupportedCode,
+  Drcs,
+  Mosaic,
+  UndefinedMacro,
+  MacroLimit,
+  LoneSingleShift,
+  DanglingNonSpacing,
+  RepeatToEndOfLine,
+}
 use Rattle.decode_output.specs.Output.{Output, times, emit, mark, firstAt, report, release, releaseOf, newline, setRepeat}
 use Rattle.reading.specs.State.{State}
 use Rattle.base.specs.Lists.{All}
@@ -86,7 +100,15 @@ module _ (C : Type 0) (input : List ℕ) where
       }
 
   pub more : (u w : ℕ) (p q : Part) → u ≤ w → Change C input u p q → Change C input w p q
-  more u w p q h a = record { text = a .text; written = a .written; issues = a .issues; reported = a .reported; keeps = λ c f. let x = a .keeps c f in record { fine = x .fine; paid = omega arith } }
+  more u w p q h a =
+      record {
+        text = a .text;
+        written = a .written;
+        issues = a .issues;
+        reported = a .reported;
+        keeps = λ c f. let x = a .keeps c f in
+            record { fine = x .fine; paid = omega arith };
+      }
 
   -- an issue is reported
   pub reports : (at : ℕ) (kind : IssueKind) (p : Part) → (C → at < length input) → (C → Shown input kind) → Change C input 0 p (puts (report at kind (p .out)) p)
@@ -99,25 +121,38 @@ module _ (C : Type 0) (input : List ℕ) where
         reported = refl;
         keeps = λ c f.
             record {
-              fine = record { charge = f .charge; issues = all-append (Fit input) (p .out .issues) _ (f .issues) (record { offset = inside c; shown = shown c }, tt); marks = f .marks; repeat = f .repeat };
+              fine =
+                  record {
+                    charge = f .charge;
+                    issues = all-append (Fit input) (p .out .issues) _ (f .issues) (record { offset = inside c; shown = shown c }, tt);
+                    marks = f .marks;
+                    repeat = f .repeat;
+                  };
               paid = omega arith;
             };
       }
 
   -- what is written where no issue is reported
-  silent : (u : ℕ) (p : Part) (o : Output) (text : List ℕ) → o .text ≡ p .out .text ++ text → o .issues ≡ p .out .issues → (C → Fine input p → (o .marksAt + min 1 (length (o .marks)) ≤ length input) × (o .repeat ≤ 63) × (weight o ≤ weight (p .out) + 21 * u)) → Change C input u p (puts o p)
+  silent : (u : ℕ) (p : Part) (o : Output) (text : List ℕ) → o .text ≡ p .out .text ++ text → o .issues ≡ p .out .issues →
+      (C → Fine input p → (o .marksAt + min 1 (length (o .marks)) ≤ length input) × (o .repeat ≤ 63) × (weight o ≤ weight (p .out) + 21 * u)) → Change C input u p (puts o p)
   silent u p o text e i k =
       record {
         text = text;
         written = e;
         issues = [];
         reported = i ∙ sym (append-nil _);
-        keeps = λ c f. record { fine = record { charge = f .charge; issues = subst (All (Fit input)) (sym i) (f .issues); marks = k c f .0; repeat = k c f .1 }; paid = omega (arith, k c f .2) };
+        keeps =
+            λ c f. record {
+              fine = record { charge = f .charge; issues = subst (All (Fit input)) (sym i) (f .issues); marks = k c f .0; repeat = k c f .1 };
+              paid = omega (arith, k c f .2);
+            };
       }
 
   pub emits : (c : ℕ) (p : Part) → Change C input 1 p (puts (emit c (p .out)) p)
   unfolding emit
-  emits c p = silent 1 p (emit c (p .out)) (replicate (times (p .out .repeat)) c ++ p .out .marks) refl refl (λ d f. (omega arith, omega arith, rw (length-append, length-append, length-replicate) (omega (arith, few (p .out .repeat)))))
+  emits c p =
+      silent 1 p (emit c (p .out)) (replicate (times (p .out .repeat)) c ++ p .out .marks) refl refl
+      (λ d f. (omega arith, omega arith, rw (length-append, length-append, length-replicate) (omega (arith, few (p .out .repeat)))))
     where
       few : (n : ℕ) → times n ≤ n - 21 + 21
       few zero = omega arith
@@ -125,7 +160,9 @@ module _ (C : Type 0) (input : List ℕ) where
 
   pub marks : (m at : ℕ) (p : Part) → (C → at < length input) → Change C input 1 p (puts (mark m at (p .out)) p)
   unfolding mark
-  marks m at p inside = silent 1 p (mark m at (p .out)) [] (sym (append-nil _)) refl (λ c f. (rw length-append (go (p .out .marks) (f .marks) (inside c)), f .repeat, rw length-append (omega arith)))
+  marks m at p inside =
+      silent 1 p (mark m at (p .out)) [] (sym (append-nil _)) refl
+      (λ c f. (rw length-append (go (p .out .marks) (f .marks) (inside c)), f .repeat, rw length-append (omega arith)))
     where
       go : (ms : List ℕ) → p .out .marksAt + min 1 (length ms) ≤ length input → at < length input → firstAt ms (p .out .marksAt) at + min 1 (length ms + 1) ≤ length input
       go [] a b = omega arith
@@ -153,7 +190,8 @@ module _ (C : Type 0) (input : List ℕ) where
       go [] e = stays (C × Fine input p) input 0 p
       go (m ∷ ms) e =
           follows (C × Fine input p) input 0 0 0 p _ _ (omega arith)
-          (silent (C × Fine input p) input 0 p (record { text = p .out .text ++ (m ∷ ms); marks = []; marksAt = 0; repeat = p .out .repeat; issues = p .out .issues }) (m ∷ ms) refl refl (λ c f. (omega arith, f .repeat, rw length-append (omega (arith, ap length e)))))
+          (silent (C × Fine input p) input 0 p (record { text = p .out .text ++ (m ∷ ms); marks = []; marksAt = 0; repeat = p .out .repeat; issues = p .out .issues }) (m ∷ ms)
+          refl refl (λ c f. (omega arith, f .repeat, rw length-append (omega (arith, ap length e)))))
           (reports (C × Fine input p) input (p .out .marksAt) DanglingNonSpacing _ (λ c. omega (arith, c .1 .marks, ap length e)) (λ c. tt))
 
   -- a newline follows them

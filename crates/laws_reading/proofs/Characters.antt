@@ -42,7 +42,11 @@ module _ (C : Type 0) (g : Given) (at : ℕ) (inside : C → at < length (g .inp
 
   mosaic-to : (number c : ℕ) (s : State) → To C g 1 s (mosaic number c at s)
   unfolding mosaic
-  mosaic-to number c s = record { change = follows C (g .input) 0 0 1 (part s) (part (issue at (Mosaic number c) s)) _ (omega arith) (issued C g at inside (Mosaic number c) (λ c. tt) s .change) (clears C (g .input) _) }
+  mosaic-to number c s =
+      record {
+        change = follows C (g .input) 0 0 1 (part s) (part (issue at (Mosaic number c) s)) _ (omega arith) (issued C g at inside (Mosaic number c) (λ c. tt) s .change)
+            (clears C (g .input) _);
+      }
 
   graphic2-good : (number x : ℕ) (rest : List ℕ) (s : State) → Good C g rest s (graphic2 g number x rest at s)
   unfolding graphic2
@@ -56,7 +60,10 @@ module _ (C : Type 0) (g : Given) (left : ℕ) (R : Run) (runs : Runs C g R) (at
   char1-to : (number c : ℕ) (s : State) → To C g 1 s (char1 g left R number c at s)
   unfolding char1
   char1-to number c s =
-      either (To C g 1 s) (eqb number 15) (record { change = more C (g .input) 0 1 (part s) (part (runMacro g left R c at s)) (omega arith) (macro-to C g left R runs at inside c s .change) })
+      either (To C g 1 s) (eqb number 15) (record {
+        change = more C (g .input) 0 1 (part s) (part (runMacro g left R c at s)) (omega arith)
+            (macro-to C g left R runs at inside c s .change);
+      })
       (either (To C g 1 s) (leb 4 number && leb number 7) (mosaic-to C g at inside number c s)
       (either (To C g 1 s) (leb 17 number) (placed C g at inside (Drcs (number - 16) c) (λ c. tt) s)
       (emit-or C g at inside (UndefinedCode number c) (λ c. tt) (letter (isNarrow g s) number c) s)))

@@ -83,7 +83,11 @@ module _ (C : Type 0) (g : Given) (at : ℕ) (inside : C → at < length (g .inp
 
   repeat-to : (n : ℕ) (s : State) → n ≤ 63 → To C g 2 s (repeatBy n at s)
   unfolding repeatBy
-  repeat-to zero s h = record { change = follows C (g .input) 0 0 2 (part s) (part (issue at RepeatToEndOfLine s)) _ (omega arith) (issued RepeatToEndOfLine (λ c. tt) s .change) (clears C (g .input) _) }
+  repeat-to zero s h =
+      record {
+        change = follows C (g .input) 0 0 2 (part s) (part (issue at RepeatToEndOfLine s)) _ (omega arith) (issued RepeatToEndOfLine (λ c. tt) s .change)
+            (clears C (g .input) _);
+      }
   repeat-to (suc n) s h = record { change = repeats C (g .input) (suc n) (part s) h }
 
   pub rpc-good : (rest : List ℕ) (s : State) → Good C g rest s (rpc rest at s)
@@ -126,7 +130,9 @@ module _ (C : Type 0) (g : Given) (at : ℕ) (inside : C → at < length (g .inp
   fixed-of : (o : Option ℕ) (x : ℕ) (rest : List ℕ) (s : State) → Good C g rest s (fixedOf o x rest at s)
   unfolding fixedOf
   fixed-of none x rest s = tells rest s 1 (UndefinedControl x) (λ c. tt) (omega arith)
-  fixed-of (some n) x rest s = by-test (Good C g rest s) (leb n (length rest)) (λ e. passes C g rest s (n + 1) (omega (arith, leb-true n (length rest) e))) (λ e. cut rest s (length rest + 1) (omega arith))
+  fixed-of (some n) x rest s =
+      by-test (Good C g rest s) (leb n (length rest)) (λ e. passes C g rest s (n + 1) (omega (arith, leb-true n (length rest) e)))
+      (λ e. cut rest s (length rest + 1) (omega arith))
 
   pub fixed-good : (x : ℕ) (rest : List ℕ) (s : State) → Good C g rest s (fixed x rest at s)
   unfolding fixed

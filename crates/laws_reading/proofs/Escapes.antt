@@ -48,11 +48,16 @@ module _ (input : List ℕ) (place : ℕ) (inter : List ℕ) (f : ℕ) (r : List
   handed : (k : ℕ) → k ≤ 1 → escapePart input place (suc (length inter + k)) ≡ 0x1B ∷ (inter ++ take k (f ∷ (r ++ s .after)))
   unfolding escapePart
   handed k h =
-      rw
-      (le-leb place (length input) (omega (arith, long)), at-place, le-leb (suc (length inter + k)) (suc (length (inter ++ (f ∷ (r ++ s .after))))) (omega (arith, length-append inter (f ∷ (r ++ s .after)))))
+      rw (
+        le-leb place (length input) (omega (arith, long)),
+        at-place,
+        le-leb (suc (length inter + k)) (suc (length (inter ++ (f ∷ (r ++ s .after)))))
+            (omega (arith, length-append inter (f ∷ (r ++ s .after)))),
+      )
       (ap (λ (l : List ℕ). 0x1B ∷ l) (take-append-add inter (f ∷ (r ++ s .after)) k))
 
-  pub escape-of : (n k : ℕ) → n ≡ suc (length inter + k) → k ≤ 1 → take k (f ∷ (r ++ s .after)) ≡ cond (isFinal f) (f ∷ []) [] → All (λ b. isIntermediate b ≡ true) inter → isIntermediate f ≡ false → Escape input place n
+  pub escape-of : (n k : ℕ) → n ≡ suc (length inter + k) → k ≤ 1 → take k (f ∷ (r ++ s .after)) ≡ cond (isFinal f) (f ∷ []) [] → All (λ b. isIntermediate b ≡ true) inter →
+      isIntermediate f ≡ false → Escape input place n
   escape-of n k e h t a w =
       record {
         intermediates = inter;
@@ -97,18 +102,23 @@ module _ (C : Type 0) (g : Given) (place at : ℕ) (inside : C → at < length (
   applied-or none n k h e = tells C g at inside rest s n (UnknownEscape place n) e h
   applied-or (some t) n k h e = takes C g rest s 0 n t (omega arith) k
 
-  escape-at : (inter tail : List ℕ) → rest ≡ inter ++ tail → All (λ b. isIntermediate b ≡ true) inter → ((f : ℕ) (r : List ℕ) → tail ≡ f ∷ r → isIntermediate f ≡ false) → Good C g rest s (escapeAt inter tail place at s)
+  escape-at : (inter tail : List ℕ) → rest ≡ inter ++ tail → All (λ b. isIntermediate b ≡ true) inter → ((f : ℕ) (r : List ℕ) → tail ≡ f ∷ r → isIntermediate f ≡ false) →
+      Good C g rest s (escapeAt inter tail place at s)
   unfolding escapeAt
   escape-at inter [] e a w = cut C g at inside rest s (length inter + 1) (omega (arith, ap length e, length-append inter []))
   escape-at inter (f ∷ r) e a w =
       let m = ap length e ∙ length-append inter (f ∷ r) in
       by-test (Good C g rest s) (isFinal f)
-      (λ t. applied-or (applied (inter ++ (f ∷ [])) s) (length inter + 2) (applied-known C g s (inter ++ (f ∷ []))) (omega arith) (λ c. escape-of (g .input) place inter f r (here c) (length inter + 2) 1 (omega arith) (omega arith) (rw t) a (w f r refl)))
-      (λ t. tells C g at inside rest s (length inter + 1) (UnknownEscape place (length inter + 1)) (λ c. escape-of (g .input) place inter f r (here c) (length inter + 1) 0 (omega arith) (omega arith) (rw t) a (w f r refl)) (omega arith))
+      (λ t. applied-or (applied (inter ++ (f ∷ [])) s) (length inter + 2) (applied-known C g s (inter ++ (f ∷ []))) (omega arith)
+      (λ c. escape-of (g .input) place inter f r (here c) (length inter + 2) 1 (omega arith) (omega arith) (rw t) a (w f r refl)))
+      (λ t. tells C g at inside rest s (length inter + 1) (UnknownEscape place (length inter + 1))
+      (λ c. escape-of (g .input) place inter f r (here c) (length inter + 1) 0 (omega arith) (omega arith) (rw t) a (w f r refl)) (omega arith))
     where
       here : C → Stands (g .input) place (0x1B ∷ (inter ++ (f ∷ r)))
       here c = subst (λ (l : List ℕ). Stands (g .input) place (0x1B ∷ l)) e (stands c)
 
   pub escape-good : Good C g rest s (escape rest place at s)
   unfolding escape
-  escape-good = escape-at (take (leading 0x20 0x2F rest) rest) (drop (leading 0x20 0x2F rest) rest) (sym (take-append-drop (leading 0x20 0x2F rest) rest)) (leading-each rest) (leading-whole rest)
+  escape-good =
+      escape-at (take (leading 0x20 0x2F rest) rest) (drop (leading 0x20 0x2F rest) rest) (sym (take-append-drop (leading 0x20 0x2F rest) rest)) (leading-each rest)
+      (leading-whole rest)

@@ -67,7 +67,8 @@ module _ (C : Type 0) (g : Given) (left : ℕ) (R : Run) (runs : Runs C g R) (at
   body-to body base s b =
       by-test (To C g 0 s) (eqb left 0 || ltb (limit (g .input)) (s .charged + length body))
       (λ e. issued C g at inside MacroLimit (λ c. tt) s)
-      (λ e. charges C g (length body) s (R body base (suc at) (charge (length body) s)) (ltb-false _ _ (or-right (eqb left 0) _ e)) (runs body base at (charge (length body) s) (λ c. b) inside))
+      (λ e. charges C g (length body) s (R body base (suc at) (charge (length body) s)) (ltb-false _ _ (or-right (eqb left 0) _ e))
+      (runs body base at (charge (length body) s) (λ c. b) inside))
 
   pub macro-to : (code : ℕ) (s : State) → To C g 0 s (runMacro g left R code at s)
   unfolding runMacro
@@ -77,14 +78,21 @@ module _ (C : Type 0) (g : Given) (left : ℕ) (R : Run) (runs : Runs C g R) (at
       (λ e. body-to (builtin code) 0 s (inr (code - 0x60, omega (arith, leb-true code 0x6F (and-right (leb 0x60 code) _ e)), refl)))
       (λ e. issued C g at inside (UndefinedMacro code) (λ c. tt) s))
       (body-to (take (getD (s .lens) code 0) (drop (getD (s .starts) code 0) (g .input))) (getD (s .starts) code 0) s
-      (inl (record { after = drop (getD (s .lens) code 0) (drop (getD (s .starts) code 0) (g .input)); bytes = sym (take-append-drop (getD (s .lens) code 0) (drop (getD (s .starts) code 0) (g .input))) })))
+      (inl (record {
+        after = drop (getD (s .lens) code 0) (drop (getD (s .starts) code 0) (g .input));
+        bytes = sym (take-append-drop (getD (s .lens) code 0) (drop (getD (s .starts) code 0) (g .input)));
+      })))
 
   defined-good : (rest : List ℕ) (p code n place : ℕ) (s : State) → n + 5 ≤ suc (length rest) → Good C g rest s (defined g left R p code n place at s)
   unfolding defined
   defined-good rest p code n place s h =
       let t = define code (place + 3) n s in
       either (Good C g rest s) (eqb p 0x41)
-      (takes C g rest s 0 (n + 5) (runMacro g left R code at t) (omega arith) (record { change = follows C (g .input) 0 0 0 (part s) (part t) (part (runMacro g left R code at t)) (omega arith) (defines C g code (place + 3) n s .change) (macro-to code t .change) }))
+      (takes C g rest s 0 (n + 5) (runMacro g left R code at t) (omega arith)
+      (record {
+        change = follows C (g .input) 0 0 0 (part s) (part t) (part (runMacro g left R code at t)) (omega arith) (defines C g code (place + 3) n s .change)
+            (macro-to code t .change);
+      }))
       (takes C g rest s 0 (n + 5) t (omega arith) (defines C g code (place + 3) n s))
 
   definition-good : (p : ℕ) (r : List ℕ) (place : ℕ) (s : State) → Good C g (p ∷ r) s (definition g left R p r place at s)

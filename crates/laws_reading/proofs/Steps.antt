@@ -24,7 +24,8 @@ use Rattle.laws_reading.proofs.Escapes.{Stands, escape-good}
 use Rattle.laws_reading.proofs.Macros.{Body, Runs, command-good}
 use Rattle.laws_reading.proofs.Characters.{graphic-good, shift-good}
 
-module _ (C : Type 0) (g : Given) (left : ℕ) (R : Run) (runs : Runs C g R) (x : ℕ) (rest : List ℕ) (place at : ℕ) (s : State) (inside : C → at < length (g .input)) (stands : C → Stands (g .input) place (x ∷ rest)) where
+module _ (C : Type 0) (g : Given) (left : ℕ) (R : Run) (runs : Runs C g R) (x : ℕ) (rest : List ℕ) (place at : ℕ) (s : State) (inside : C → at < length (g .input))
+    (stands : C → Stands (g .input) place (x ∷ rest)) where
   abbrev Well : Step → Type 0
   Well w = Good C g rest s w
 
@@ -79,14 +80,18 @@ stands-next input base i x xs s =
     record { after = s .after; bytes = ap (λ (n : ℕ). drop n input) (sym (add-assoc base i 1)) ∙ (sym (drop-drop 1 (base + i) input) ∙ ap (drop 1) (s .bytes)) }
 
 -- the bytes of a body but those passed over
-pub steps-to : (C : Type 0) (g : Given) (left : ℕ) (R : Run) → Runs C g R → (base origin : ℕ) (xs : List ℕ) (i k : ℕ) (s : State) → (C → Inside (g .input) origin i xs) → (C → Stands (g .input) (base + i) xs) → To C g (length xs - k) s (steps g left R base origin xs i k s)
+pub steps-to : (C : Type 0) (g : Given) (left : ℕ) (R : Run) → Runs C g R → (base origin : ℕ) (xs : List ℕ) (i k : ℕ) (s : State) → (C → Inside (g .input) origin i xs) →
+    (C → Stands (g .input) (base + i) xs) → To C g (length xs - k) s (steps g left R base origin xs i k s)
 unfolding steps
 steps-to C g left R runs base origin [] i k s a b = record { change = stays C (g .input) (0 - k) (part s) }
 steps-to C g left R runs base origin (x ∷ xs) i zero s a b =
     let w = step g left R x xs (base + i) (offset origin i) s in
     let q = step-good C g left R runs x xs (base + i) (offset origin i) s (λ c. inside-here (g .input) origin i x xs (a c)) b in
     let r = steps-to C g left R runs base origin xs (i + 1) (w .used - 1) (w .to) (λ c. inside-next (g .input) origin i x xs (a c)) (λ c. stands-next (g .input) base i x xs (b c)) in
-    record { change = follows C (g .input) (w .used) (length xs - (w .used - 1)) (suc (length xs) - 0) (part s) (part (w .to)) _ (omega (arith, q .least, q .most)) (q .to .change) (r .change) }
+    record {
+      change = follows C (g .input) (w .used) (length xs - (w .used - 1)) (suc (length xs) - 0) (part s) (part (w .to)) _ (omega (arith, q .least, q .most))
+          (q .to .change) (r .change);
+    }
 steps-to C g left R runs base origin (x ∷ xs) i (suc k) s a b =
     let r = steps-to C g left R runs base origin xs (i + 1) k s (λ c. inside-next (g .input) origin i x xs (a c)) (λ c. stands-next (g .input) base i x xs (b c)) in
     record { change = more C (g .input) (length xs - k) (suc (length xs) - suc k) (part s) _ (omega arith) (r .change) }
@@ -98,7 +103,8 @@ built-in g left R base at s =
     (refl, (refl, (refl, (refl, (refl, (refl, (refl, (refl, (refl, (refl, (refl, (refl, (refl, (refl, (refl, (refl, tt))))))))))))))))
 
 -- the whole of a body
-body-to : (g : Given) (left : ℕ) (R : Run) → ((C : Type 0) → Runs C g R) → (C : Type 0) (b : List ℕ) (base at : ℕ) (s : State) → (C → Body (g .input) base b) → (C → at < length (g .input)) → To C g (length b) s (steps g left R base (suc at) b 0 0 s)
+body-to : (g : Given) (left : ℕ) (R : Run) → ((C : Type 0) → Runs C g R) → (C : Type 0) (b : List ℕ) (base at : ℕ) (s : State) → (C → Body (g .input) base b) →
+    (C → at < length (g .input)) → To C g (length b) s (steps g left R base (suc at) b 0 0 s)
 body-to g left R runs C b base at s body inside =
     let grows = steps-to ⊥ g left R (runs ⊥) base (suc at) b 0 0 s (λ c. absurd c) (λ c. absurd c) .change in
     record { change = record { text = grows .text; written = grows .written; issues = grows .issues; reported = grows .reported; keeps = λ c f. kept (inside c) f (body c) } }
@@ -108,7 +114,8 @@ body-to g left R runs C b base at s body inside =
         let x = steps-to (Unit {0}) g left R (runs (Unit {0})) base (suc at) b 0 0 s (λ c. h) (λ c. rw add-zero q) .change .keeps tt f in
         record { fine = x .fine; paid = omega arith }
     kept h f (inr q) =
-        let e : part (steps g left R base (suc at) b 0 0 s) ≡ part s = rw (q .2) (all-at (λ row. part (steps g left R base (suc at) (builtinOf row) 0 0 s) ≡ part s) [] builtinSets (built-in g left R base at s) (q .0) (q .1)) in
+        let e : part (steps g left R base (suc at) b 0 0 s) ≡ part s = rw (q .2)
+        (all-at (λ row. part (steps g left R base (suc at) (builtinOf row) 0 0 s) ≡ part s) [] builtinSets (built-in g left R base at s) (q .0) (q .1)) in
         rw e (record { fine = f; paid = omega arith })
 
 pub runs-to : (g : Given) (left : ℕ) (C : Type 0) → Runs C g (run g left)

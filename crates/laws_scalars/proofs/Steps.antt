@@ -12,10 +12,42 @@ use Rattle.utf8.specs.Utf8.{isScalar}
 use Rattle.addsym.specs.Symbols.{symbol}
 use Rattle.tables.specs.Kanji.{nonSpacing, hasCharacter, kanjiAt}
 use Rattle.issues.specs.declared.IssueKind.{IssueKind}
-use Rattle.issues.specs.declared.IssueKind.the-variants.{UnknownEscape, UndefinedControl, MalformedControl, Truncated, UndefinedCode, UnsupportedCode, Drcs, Mosaic, UndefinedMacro, MacroLimit, LoneSingleShift, RepeatToEndOfLine}
+use Rattle.issues.specs.declared.IssueKind.the-variants.{
+  UnknownEscape,
+  UndefinedControl,
+  MalformedControl,
+  Truncated,
+  UndefinedCode,
+  UnsupportedCode,
+  Drcs,
+  Mosaic,
+  UndefinedMacro,
+  MacroLimit,
+  LoneSingleShift,
+  RepeatToEndOfLine,
+}
 use Rattle.decode_output.specs.Output.{emit, newline}
 use Rattle.reading.specs.State.{Given, State, Step, took, issue, truncated, writes, isNarrow, designate, invokeGL, invokeGR, resize, define, charge}
-use Rattle.reading.specs.Controls.{leading, lockingShift, designated, applied, unknown, appliedOr, escapeAt, escape, szx, repeatBy, rpc, colour, ended, sequenceFrom, csi, time, fixedOf, fixed}
+use Rattle.reading.specs.Controls.{
+  leading,
+  lockingShift,
+  designated,
+  applied,
+  unknown,
+  appliedOr,
+  escapeAt,
+  escape,
+  szx,
+  repeatBy,
+  rpc,
+  colour,
+  ended,
+  sequenceFrom,
+  csi,
+  time,
+  fixedOf,
+  fixed,
+}
 use Rattle.reading.specs.Macros.{Run, builtin, limit, runBody, runMacro, endOf, defined, definition, macroCmd}
 use Rattle.reading.specs.Characters.{isGL, isGR, isGraphic, emitOr, cellOr, char2, letter, mosaic, char1, graphic2, graphicOf, graphic, singleShift}
 use Rattle.reading.specs.Steps.{space, control0, control1, step, offset, steps, run}
@@ -134,7 +166,9 @@ module _ (s : State) (k : Good s) where
   escape-at : (inter rest : List ℕ) (place at : ℕ) → To (escapeAt inter rest place at s)
   unfolding escapeAt
   escape-at inter [] place at = cut (length inter + 1) at
-  escape-at inter (f ∷ r) place at = either To (leb 0x30 f && leb f 0x7E) (applied-or (applied (inter ++ (f ∷ [])) s) (applied-known (inter ++ (f ∷ []))) (length inter + 2) place at) (unknown-to (length inter + 1) place at)
+  escape-at inter (f ∷ r) place at =
+      either To (leb 0x30 f && leb f 0x7E) (applied-or (applied (inter ++ (f ∷ [])) s) (applied-known (inter ++ (f ∷ []))) (length inter + 2) place at)
+      (unknown-to (length inter + 1) place at)
 
   escape-to : (rest : List ℕ) (place at : ℕ) → To (escape rest place at s)
   unfolding escape

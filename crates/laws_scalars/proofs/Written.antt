@@ -22,7 +22,12 @@ one c h = both (isScalar c) (areScalars []) h tt
 module _ (s : State) (g : Good s) where
   pub emits : (c : ℕ) → T (isScalar c) → Good (writes (emit c) s)
   unfolding writes emit areScalars
-  emits c h = record { text = scalars-append (s .out .text) _ (g .text) (scalars-append (replicate (times (s .out .repeat)) c) (s .out .marks) (scalars-replicate (times (s .out .repeat)) c h) (g .marks)); marks = tt }
+  emits c h =
+      record {
+        text = scalars-append (s .out .text) _ (g .text)
+            (scalars-append (replicate (times (s .out .repeat)) c) (s .out .marks) (scalars-replicate (times (s .out .repeat)) c h) (g .marks));
+        marks = tt;
+      }
 
   pub marked : (m at : ℕ) → T (isScalar m) → Good (writes (mark m at) s)
   unfolding writes mark

@@ -47,7 +47,9 @@ accepted-bounds c e p q =
 
 pub bounds : (c : Lent) → Bounds c
 unfolding refusal fits
-bounds c = go (firstRefusal (c .cells) (c .initial) (c .width) decodeLimit (length (c .input))) (leb (length (textBytes c)) (c .textRoom)) (leb (length (issueList c)) (c .issueRoom)) refl refl refl
+bounds c =
+    go (firstRefusal (c .cells) (c .initial) (c .width) decodeLimit (length (c .input))) (leb (length (textBytes c)) (c .textRoom)) (leb (length (issueList c)) (c .issueRoom))
+    refl refl refl
   where
     go : (q : ℕ) (a b : Bool) → firstRefusal (c .cells) (c .initial) (c .width) decodeLimit (length (c .input)) ≡ q
         → leb (length (textBytes c)) (c .textRoom) ≡ a → leb (length (issueList c)) (c .issueRoom) ≡ b → Bounds c
@@ -59,7 +61,8 @@ bounds c = go (firstRefusal (c .cells) (c .initial) (c .width) decodeLimit (leng
 -- ---- lines
 
 -- buffers of the program's rooms
-pub answered-as : (cells input : List ℕ) {a : Answer} {t i : List ℕ} → Answered (lent cells 0 0 input (replicate 65536 0) (replicate (256 * numbers) 0)) a t i → Answered (call cells input) a t i
+pub answered-as : (cells input : List ℕ) {a : Answer} {t i : List ℕ} → Answered (lent cells 0 0 input (replicate 65536 0) (replicate (256 * numbers) 0)) a t i →
+    Answered (call cells input) a t i
 answered-as cells input {a} {t} {i} v =
     subst (λ (n : ℕ). Answered (record { cells = cells; initial = 0; width = 0; input = input; textRoom = 65536; issueRoom = n }) a t i) (length-replicate {A = ℕ} (256 * numbers) 0)
     (subst (λ (n : ℕ). Answered (record { cells = cells; initial = 0; width = 0; input = input; textRoom = n; issueRoom = length {A = ℕ} (replicate (256 * numbers) 0) }) a t i)

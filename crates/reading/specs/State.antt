@@ -34,7 +34,8 @@ start initial = record { sets = initialSets initial; gl = 0; gr = 2; narrow = fa
 
 -- a set is designated to a code element
 unfoldable pub designate : ℕ → ℕ → State → State
-designate element number s = record { sets = set (s .sets) element number; gl = s .gl; gr = s .gr; narrow = s .narrow; starts = s .starts; lens = s .lens; charged = s .charged; out = s .out }
+designate element number s =
+    record { sets = set (s .sets) element number; gl = s .gl; gr = s .gr; narrow = s .narrow; starts = s .starts; lens = s .lens; charged = s .charged; out = s .out }
 
 -- a code element is invoked in GL, in GR
 unfoldable pub invokeGL : ℕ → State → State
@@ -49,7 +50,17 @@ resize b s = record { sets = s .sets; gl = s .gl; gr = s .gr; narrow = b; starts
 
 -- the macro of a code has its body at a place of the input
 unfoldable pub define : ℕ → ℕ → ℕ → State → State
-define code place len s = record { sets = s .sets; gl = s .gl; gr = s .gr; narrow = s .narrow; starts = set (s .starts) code place; lens = set (s .lens) code len; charged = s .charged; out = s .out }
+define code place len s =
+    record {
+      sets = s .sets;
+      gl = s .gl;
+      gr = s .gr;
+      narrow = s .narrow;
+      starts = set (s .starts) code place;
+      lens = set (s .lens) code len;
+      charged = s .charged;
+      out = s .out;
+    }
 
 -- "Running it charges its length"
 unfoldable pub charge : ℕ → State → State

@@ -81,7 +81,8 @@ drcs-unknown f h m out =
     (unknown f m out))
 
 -- a sequence that holds a row of Table 7-2 holds the designation, by what the code knows of the set
-pub designates : {q : Sequence} {count : ℕ} {form : Bool} (s n f : ℕ) (two drcs : Bool) → f ≡ finalByte s → count ≡ bytesPerChar s → eqb count 2 ≡ two → form ≡ isDrcsForm s → form ≡ drcs → Holds q (sequence two drcs n f) → Holds q (designation s n)
+pub designates : {q : Sequence} {count : ℕ} {form : Bool} (s n f : ℕ) (two drcs : Bool) → f ≡ finalByte s → count ≡ bytesPerChar s → eqb count 2 ≡ two → form ≡ isDrcsForm s →
+    form ≡ drcs → Holds q (sequence two drcs n f) → Holds q (designation s n)
 unfolding designation
 designates s n f two drcs e p t d u h = rw (← p, ← d, ← e, t, u) h
 

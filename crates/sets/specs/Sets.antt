@@ -9,7 +9,25 @@ use lib.Dec.{eqb, ltb, leb}
 use lib.ListN.{length, getD, replicate}
 use Rattle.control.specs.Codes.{ESC, LS0, LS1, SS2, SS3}
 use Rattle.sets.specs.declared.GraphicSet.{GraphicSet}
-use Rattle.sets.specs.declared.GraphicSet.the-variants.{Kanji, Alphanumeric, Hiragana, Katakana, MosaicA, MosaicB, MosaicC, MosaicD, ProportionalAlphanumeric, ProportionalHiragana, ProportionalKatakana, JisX0201Katakana, JisKanjiPlane1, JisKanjiPlane2, AdditionalSymbols, Drcs, Macro}
+use Rattle.sets.specs.declared.GraphicSet.the-variants.{
+  Kanji,
+  Alphanumeric,
+  Hiragana,
+  Katakana,
+  MosaicA,
+  MosaicB,
+  MosaicC,
+  MosaicD,
+  ProportionalAlphanumeric,
+  ProportionalHiragana,
+  ProportionalKatakana,
+  JisX0201Katakana,
+  JisKanjiPlane1,
+  JisKanjiPlane2,
+  AdditionalSymbols,
+  Drcs,
+  Macro,
+}
 use Rattle.sets.specs.declared.Designated.{Designated}
 use Rattle.sets.specs.declared.Designated.the-variants.{Set, Unknown}
 use Rattle.sets.specs.declared.Sequence.{Sequence}

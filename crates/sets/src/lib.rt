@@ -6,7 +6,23 @@ ghost use mathlib.Core.Path.{_≡_};
 ghost use mathlib.Core.Bool.{true, false};
 ghost use mathlib.Core.List.{map};
 ghost use Prim.Native.Nat.{_%_};
-ghost use Rattle.sets.specs.Sets.{setNumber, bytesPerChar, isDrcsForm, finalByte, designation, fromDesignation, designated, Holds, shiftBytes, shiftElement, Compared, isNarrow, initialNumber, initialSets, initialInvocations};
+ghost use Rattle.sets.specs.Sets.{
+  setNumber,
+  bytesPerChar,
+  isDrcsForm,
+  finalByte,
+  designation,
+  fromDesignation,
+  designated,
+  Holds,
+  shiftBytes,
+  shiftElement,
+  Compared,
+  isNarrow,
+  initialNumber,
+  initialSets,
+  initialInvocations,
+};
 
 /// A graphic set that can be designated to G0 .. G3: Table 7-3.
 pub enum GraphicSet {

@@ -71,7 +71,8 @@ has-place (a ∷ more) c = go (eqb (a .character) c) (has-place more c)
     go false e = ltb-suc (placeWith more c) (length more) ∙ e
 
 -- and its cell is that of the place
-pub cell-there : (list : List Assignment) (c : ℕ) → placeWith list c < length list → At (getD list (placeWith list c) outside .row) (getD list (placeWith list c) outside .cell) ≡ cellWith list c
+pub cell-there : (list : List Assignment) (c : ℕ) → placeWith list c < length list →
+    At (getD list (placeWith list c) outside .row) (getD list (placeWith list c) outside .cell) ≡ cellWith list c
 unfolding placeWith cellWith
 cell-there [] c h = absurd (omega arith)
 cell-there (a ∷ more) c h = go (eqb (a .character) c) h (cell-there more c)

@@ -28,7 +28,8 @@ pub record FirstCell (read : ℕ → ℕ → ℕ) (c row cell : ℕ) : Type 0 wh
 abbrev pub NoCell : (ℕ → ℕ → ℕ) → ℕ → Type 0
 NoCell read c = (row cell : ℕ) → 1 ≤ row → row ≤ 94 → 1 ≤ cell → cell ≤ 94 → read row cell ≡ c → ⊥
 
-module _ (f : ℕ → ℕ → ℕ) (t : List ℕ) (read : ℕ → ℕ → ℕ) (link : (row cell : ℕ) → 1 ≤ row → row ≤ 94 → 1 ≤ cell → cell ≤ 94 → f (place row cell) (getD t (place row cell) 0) ≡ read row cell) where
+module _ (f : ℕ → ℕ → ℕ) (t : List ℕ) (read : ℕ → ℕ → ℕ) (link : (row cell : ℕ) → 1 ≤ row → row ≤ 94 → 1 ≤ cell → cell ≤ 94 →
+    f (place row cell) (getD t (place row cell) 0) ≡ read row cell) where
   at-cell : (c row cell k : ℕ) → First f 8836 c t k → k / 94 + 1 ≡ row → k % 94 + 1 ≡ cell → FirstCell read c row cell
   at-cell c row cell k p er ec =
       let ka = p .inside in

@@ -17,7 +17,8 @@ pub extern "C" fn arib_decode(
     issues: &mut [u32],
     counts: &mut [usize],
 ) -> u32
-    ensures { λ r. ⌜ Decodes (lent (now (cells .entry)) initial width (now (input .entry)) (now (text .entry)) (now (issues .entry))) (now (counts .entry)) r (now (text .exit)) (now (issues .exit)) (now (counts .exit)) ⌝ }
+    ensures { λ r. ⌜ Decodes (lent (now (cells .entry)) initial width (now (input .entry)) (now (text .entry)) (now (issues .entry))) (now (counts .entry)) r
+        (now (text .exit)) (now (issues .exit)) (now (counts .exit)) ⌝ }
 {
     let answer = decode::call::decode_with(cells, initial, width, input, text, issues);
     let numbers = [
@@ -78,7 +79,8 @@ pub extern "C" fn arib_encode(
     coding: &mut [u8],
     counts: &mut [usize],
 ) -> u32
-    ensures { λ r. ⌜ Codes (codes.lent (now (cells .entry)) initial width (now (text .entry)) (now (store .entry)) (now (coding .entry))) (now (counts .entry)) r (now (store .exit)) (now (coding .exit)) (now (counts .exit)) ⌝ }
+    ensures { λ r. ⌜ Codes (codes.lent (now (cells .entry)) initial width (now (text .entry)) (now (store .entry)) (now (coding .entry))) (now (counts .entry)) r
+        (now (store .exit)) (now (coding .exit)) (now (counts .exit)) ⌝ }
 {
     let answer = encode::call::encode_with(cells, initial, width, text, store, coding);
     let numbers = [encode::values::length(answer), encode::values::gap(answer)];

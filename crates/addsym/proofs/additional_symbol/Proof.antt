@@ -42,7 +42,10 @@ array-read-table-7-19 c = search needs
 returns-4 : tie.Need-returns-4
 unfolding table719
 returns-4 c =
-    blank _ _ (sym (entry (c .before .before .before .before .before .args .row) (c .before .before .before .before .before .args .cell) (c .before .before .before .before .row-place .result) (c .before .before .before .before .row-place .ensures) (omega arith) (omega arith) (omega arith) table719) ∙ c .if4 .taken)
+    let at-row-place = c .before .before .before .before in
+    let at-start = at-row-place .before in
+    blank _ _ (sym (entry (at-start .args .row) (at-start .args .cell) (at-row-place .row-place .result) (at-row-place .row-place .ensures) (omega arith) (omega arith)
+    (omega arith) table719) ∙ c .if4 .taken)
 
 scalar-requires : tie.Need-scalar-requires
 scalar-requires c κs = search needs
@@ -50,9 +53,11 @@ scalar-requires c κs = search needs
 returns-5 : tie.Need-returns-5
 unfolding table719
 returns-5 c =
-    let k = c .before .before .before .before .before in
+    let at-if4 = c .before in
+    let at-place = at-if4 .before .before .before .before in
+    let k = at-place in
     let a = k .before .args in
-    found _ _ _ _ (entry (a .row) (a .cell) (k .row-place .result) (k .row-place .ensures) (omega arith) (omega arith) (omega arith) table719) (c .scalar .ensures) (c .before .if4 .left)
+    found _ _ _ _ (entry (a .row) (a .cell) (k .row-place .result) (k .row-place .ensures) (omega arith) (omega arith) (omega arith) table719) (c .scalar .ensures) (at-if4 .if4 .left)
 
 pub additional-symbol-spec : {M : Type 1} → statement M
 additional-symbol-spec =

@@ -114,7 +114,15 @@ returns-10 c =
     let a = c .before .before .before .args in
     let m = c .match .rest in
     let e : 7 ≡ rowPlace (a .row) =
-    simp (ne-eqb _ _ (m .0 .0 .0 .0 .0 .0 .1), ne-eqb _ _ (m .0 .0 .0 .0 .0 .1), ne-eqb _ _ (m .0 .0 .0 .0 .1), ne-eqb _ _ (m .0 .0 .0 .1), ne-eqb _ _ (m .0 .0 .1), ne-eqb _ _ (m .0 .1), ne-eqb _ _ (m .1)) in
+    simp (
+      ne-eqb _ _ (m .0 .0 .0 .0 .0 .0 .1),
+      ne-eqb _ _ (m .0 .0 .0 .0 .0 .1),
+      ne-eqb _ _ (m .0 .0 .0 .0 .1),
+      ne-eqb _ _ (m .0 .0 .0 .1),
+      ne-eqb _ _ (m .0 .0 .1),
+      ne-eqb _ _ (m .0 .1),
+      ne-eqb _ _ (m .1),
+    ) in
     sym (blank-symbol (a .row) (a .cell) (no-row (a .row) (a .cell) 7 e (omega arith)))
 
 pub scalar-spec : {M : Type 1} → statement M

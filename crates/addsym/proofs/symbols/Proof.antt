@@ -77,13 +77,20 @@ put-row-requires-7 c κs = search needs
 returns : tie.Need-returns
 unfolding symbol
 returns c =
-    let e₁ = c .before .before .before .before .before .before .before .before .before .before .before .before .before .before .before .before .before .before .before .before .before .before .before .before .before .put-row .ensures in
-    let e₂ = c .before .before .before .before .before .before .before .before .before .before .before .before .before .before .before .before .before .before .before .before .before .put-row2 .ensures in
-    let e₃ = c .before .before .before .before .before .before .before .before .before .before .before .before .before .before .before .before .before .put-row3 .ensures in
-    let e₄ = c .before .before .before .before .before .before .before .before .before .before .before .before .before .put-row4 .ensures in
-    let e₅ = c .before .before .before .before .before .before .before .before .before .put-row5 .ensures in
-    let e₆ = c .before .before .before .before .before .put-row6 .ensures in
-    let e₇ = c .before .put-row7 .ensures in
+    let at-put-row7 = c .before in
+    let at-put-row6 = at-put-row7 .before .before .before .before in
+    let at-put-row5 = at-put-row6 .before .before .before .before in
+    let at-put-row4 = at-put-row5 .before .before .before .before in
+    let at-put-row3 = at-put-row4 .before .before .before .before in
+    let at-put-row2 = at-put-row3 .before .before .before .before in
+    let at-put-row = at-put-row2 .before .before .before .before in
+    let e₁ = at-put-row .put-row .ensures in
+    let e₂ = at-put-row2 .put-row2 .ensures in
+    let e₃ = at-put-row3 .put-row3 .ensures in
+    let e₄ = at-put-row4 .put-row4 .ensures in
+    let e₅ = at-put-row5 .put-row5 .ensures in
+    let e₆ = at-put-row6 .put-row6 .ensures in
+    let e₇ = at-put-row7 .put-row7 .ensures in
     subst SymbolsIn
     (sym
     (e₇ ∙ ap (λ (l : List ℕ). sets l 564 (rowOf (symbol 94)))

@@ -70,7 +70,11 @@ decimal-returns : (t : ℕ) → decimal-lts.Need-returns (
   decimal-below t,
   decimal.Post,
 ) (decimal-at t) decimal.Post
-decimal-returns t c = (decimal-put (c .before .before .before .before .before .if1 .taken) (c .before .before .before .digit .ensures) (c .before .before .put .ensures), omega arith)
+decimal-returns t c =
+    let at-put = c .before .before in
+    let at-digit = at-put .before in
+    let at-if1 = at-digit .before .before in
+    (decimal-put (at-if1 .if1 .taken) (at-digit .digit .ensures) (at-put .put .ensures), omega arith)
 
 decimal-decimal-requires : (t : ℕ) → decimal-lts.Need-decimal-requires (
   digit-reads.Asked,
@@ -111,7 +115,8 @@ decimal-add-result-2 : (t : ℕ) → decimal-lts.Need-add-result-2 (
   decimal.Post,
 ) (decimal-at t) decimal.Post
 decimal-add-result-2 t c =
-    let at-decimal = c .before .before .before .before .before .before .before in
+    let at-place = c .before .before .before .before .before .before .before in
+    let at-decimal = at-place in
     let at-start = at-decimal .before .before .before .before in
     omega (arith, at-decimal .decimal .ensures .0 .next, decimal-few 19 (at-start .args .n / 10) (omega arith))
 

@@ -15,9 +15,11 @@ same-length c = search needs
 returns : tie.Need-returns
 unfolding issue
 returns c =
-    let entry = c .before .before .before .before .before .before in
+    let at-issue = c .before .before in
+    let at-place = at-issue .before .before .before .before in
+    let entry = at-place in
     let pre = entry .pre in
-    let issue = c .before .before .issue in
+    let issue = at-issue .issue in
     λ cells t. did-writes cells (omega arith) (omega arith) (pre) (issue .ensures t)
 
 pub report-spec : {M : Type 1} → statement M

@@ -16,10 +16,14 @@ same-length c = search needs
 returns : tie.Need-returns
 unfolding mosaic
 returns c =
-    let entry = c .before .before .before .before .before .before in
-    let issue = c .before .before .issue in
+    let at-issue = c .before .before in
+    let at-place = at-issue .before .before .before .before in
+    let entry = at-place in
+    let issue = at-issue .issue in
     let pre = entry .pre in
-    λ cells t. let w = issue .ensures t in did-writes cells (omega arith) (omega arith) (pre) (wrote-then w (wrote-repeat {n = 1} {k = 0} 0 t _ (room-left (pre .room) (w .grew)) (omega arith)))
+    λ cells t. let w =
+    issue .ensures t in did-writes cells (omega arith) (omega arith) (pre)
+    (wrote-then w (wrote-repeat {n = 1} {k = 0} 0 t _ (room-left (pre .room) (w .grew)) (omega arith)))
 
 pub report-mosaic-spec : {M : Type 1} → statement M
 report-mosaic-spec = tie.close (tie.spec issue-requires same-length returns)

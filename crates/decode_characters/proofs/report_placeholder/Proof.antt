@@ -27,11 +27,13 @@ same-length-2 c = search needs
 returns : tie.Need-returns
 unfolding placeholder
 returns c =
-    let at-issue = c .before .before .before .before .before .before in
+    let at-emit = c .before .before in
+    let at-place = at-emit .before .before .before .before in
+    let at-issue = at-place in
     let entry = at-issue .before .before .before .before .before in
     let pre = entry .pre in
     let a = entry .args in
-    let emit = c .before .before .emit in
+    let emit = at-emit .emit in
     λ cells. did-writes cells (omega arith) (omega arith) (pre) (wrote-then (at-issue .issue .ensures (a .text .now)) (emit .ensures _))
 
 pub report-placeholder-spec : {M : Type 1} → statement M

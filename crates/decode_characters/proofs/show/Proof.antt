@@ -13,9 +13,11 @@ same-length c = search needs
 
 returns : tie.Need-returns
 returns c =
-    let entry = c .before .before .before .before .before .before in
+    let at-emit = c .before .before in
+    let at-place = at-emit .before .before .before .before in
+    let entry = at-place in
     let pre = entry .pre in
-    let emit = c .before .before .emit in
+    let emit = at-emit .emit in
     λ cells i. did-writes cells (omega arith) (omega arith) (pre) (emit .ensures i)
 
 pub show-spec : {M : Type 1} → statement M

@@ -13,9 +13,11 @@ same-length c = search needs
 
 returns : tie.Need-returns
 returns c =
-    let entry = c .before .before .before .before .before .before in
+    let at-mark = c .before .before in
+    let at-place = at-mark .before .before .before .before in
+    let entry = at-place in
     let pre = entry .pre in
-    let mark = c .before .before .mark in
+    let mark = at-mark .mark in
     λ cells i. did-writes cells (omega arith) (omega arith) (pre) (mark .ensures i)
 
 pub wait-spec : {M : Type 1} → statement M

@@ -17,8 +17,10 @@ cut-requires c κs = search needs
 returns : tie.Need-returns
 unfolding colour
 returns c =
-    let a = c .before .before .before .args in
-    c .cut .ensures _ (λ place at s. at-end (λ l. colour l at s) (a .b .now) (a .i) at s refl (c .before .before .before .pre) (c .before .if1 .taken))
+    let at-if1 = c .before in
+    let at-start = at-if1 .before .before in
+    let a = at-start .args in
+    c .cut .ensures _ (λ place at s. at-end (λ l. colour l at s) (a .b .now) (a .i) at s refl (at-start .pre) (at-if1 .if1 .taken))
 
 add-if2 : tie.Need-add-if2
 add-if2 c = search needs
@@ -31,8 +33,11 @@ second-requires c κs = search needs
 
 returns-2 : tie.Need-returns-2
 returns-2 c =
-    let a = c .before .before .before .before .before .args in
-    reads-as (λ place at s. at-head (λ l. colour l at s) (a .b .now) (a .i) _ (c .before .before .before .if1 .left) (colour-two _ _ at s (c .before .if2 .taken))) (c .second .ensures)
+    let at-if2 = c .before in
+    let at-if1 = at-if2 .before .before in
+    let at-start = at-if1 .before .before in
+    let a = at-start .args in
+    reads-as (λ place at s. at-head (λ l. colour l at s) (a .b .now) (a .i) _ (at-if1 .if1 .left) (colour-two _ _ at s (at-if2 .if2 .taken))) (c .second .ensures)
 
 returns-3 : tie.Need-returns-3
 returns-3 c =

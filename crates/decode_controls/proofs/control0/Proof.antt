@@ -27,16 +27,20 @@ fixed-requires c κs = search needs
 returns : tie.Need-returns
 unfolding control0
 returns c =
-    let a = c .before .before .before .before .args in
+    let at-match = c .before in
+    let at-start = at-match .before .before .before in
+    let a = at-start .args in
     λ g left R.
-    reads-as (λ place at s. ap (λ (x : ℕ). control0 g left R x (drop (a .i + 1) (a .b .now)) place at s) (c .before .match .keys1)) (c .invoke .ensures _ _ (c .before .before .before .before .pre .0))
+    reads-as (λ place at s. ap (λ (x : ℕ). control0 g left R x (drop (a .i + 1) (a .b .now)) place at s) (at-match .match .keys1)) (c .invoke .ensures _ _ (at-start .pre .0))
 
 returns-2 : tie.Need-returns-2
 unfolding control0
 returns-2 c =
-    let a = c .before .before .before .before .args in
+    let at-match = c .before in
+    let at-start = at-match .before .before .before in
+    let a = at-start .args in
     λ g left R.
-    reads-as (λ place at s. ap (λ (x : ℕ). control0 g left R x (drop (a .i + 1) (a .b .now)) place at s) (c .before .match .keys2)) (c .invoke2 .ensures _ _ (c .before .before .before .before .pre .0))
+    reads-as (λ place at s. ap (λ (x : ℕ). control0 g left R x (drop (a .i + 1) (a .b .now)) place at s) (at-match .match .keys2)) (c .invoke2 .ensures _ _ (at-start .pre .0))
 
 returns-3 : tie.Need-returns-3
 unfolding control0
@@ -47,9 +51,11 @@ returns-3 c =
 
 returns-4 : tie.Need-returns-4
 returns-4 c =
-    let a = c .before .before .before .before .args in
-    let m = c .before .match .rest in
-    let h = c .before .before .before .before .pre .1 in
+    let at-match = c .before in
+    let at-start = at-match .before .before .before in
+    let a = at-start .args in
+    let m = at-match .match .rest in
+    let h = at-start .pre .1 in
     λ g left R.
     reads-as
     (λ place at s.

@@ -43,23 +43,29 @@ fixed-requires c κs = search needs
 returns : tie.Need-returns
 unfolding control1
 returns c =
-    let a = c .before .before .before .before .args in
+    let at-match = c .before in
+    let at-start = at-match .before .before .before in
+    let a = at-start .args in
     λ g left R.
-    reads-as (λ place at s. ap (λ (x : ℕ). control1 g left R x (drop (a .i + 1) (a .b .now)) place at s) (c .before .match .keys1)) (c .size .ensures _ _ (c .before .before .before .before .pre .0))
+    reads-as (λ place at s. ap (λ (x : ℕ). control1 g left R x (drop (a .i + 1) (a .b .now)) place at s) (at-match .match .keys1)) (c .size .ensures _ _ (at-start .pre .0))
 
 returns-2 : tie.Need-returns-2
 unfolding control1
 returns-2 c =
-    let a = c .before .before .before .before .args in
+    let at-match = c .before in
+    let at-start = at-match .before .before .before in
+    let a = at-start .args in
     λ g left R.
-    reads-as (λ place at s. ap (λ (x : ℕ). control1 g left R x (drop (a .i + 1) (a .b .now)) place at s) (c .before .match .keys2)) (c .size2 .ensures _ _ (c .before .before .before .before .pre .0))
+    reads-as (λ place at s. ap (λ (x : ℕ). control1 g left R x (drop (a .i + 1) (a .b .now)) place at s) (at-match .match .keys2)) (c .size2 .ensures _ _ (at-start .pre .0))
 
 returns-3 : tie.Need-returns-3
 unfolding control1
 returns-3 c =
-    let a = c .before .before .before .before .args in
+    let at-match = c .before in
+    let at-start = at-match .before .before .before in
+    let a = at-start .args in
     λ g left R.
-    reads-as (λ place at s. ap (λ (x : ℕ). control1 g left R x (drop (a .i + 1) (a .b .now)) place at s) (c .before .match .keys3)) (c .size3 .ensures _ _ (c .before .before .before .before .pre .0))
+    reads-as (λ place at s. ap (λ (x : ℕ). control1 g left R x (drop (a .i + 1) (a .b .now)) place at s) (at-match .match .keys3)) (c .size3 .ensures _ _ (at-start .pre .0))
 
 returns-4 : tie.Need-returns-4
 unfolding control1
@@ -96,8 +102,10 @@ returns-8 c =
 
 returns-9 : tie.Need-returns-9
 returns-9 c =
-    let a = c .before .before .before .before .args in
-    let m = c .before .match .rest in
+    let at-match = c .before in
+    let at-start = at-match .before .before .before in
+    let a = at-start .args in
+    let m = at-match .match .rest in
     λ g left R.
     reads-as
     (λ place at s.
@@ -109,7 +117,7 @@ returns-9 c =
       szx = m .0 .0 .0 .0 .1;
       col = λ e. m .0 .0 .0 .1 (inl e);
       cdc = λ e. m .0 .0 .0 .1 (inr e);
-      macro = c .before .before .before .before .pre .1 .macro;
+      macro = at-start .pre .1 .macro;
       rpc = m .0 .0 .1;
       csi = m .0 .1;
       time = m .1;

@@ -27,7 +27,11 @@ enum-told : tie.Need-enum-told
 enum-told c = search needs
 
 returns : tie.Need-returns
-returns c = means-set _ _ _ (c .before .before .before .before .before .pre) (sym (c .before .before .before .before .from-designation .ensures) ∙ ap designated (c .before .before .d .given .1) ∙ ap some (sym (c .number .ensures)))
+returns c =
+    let at-d = c .before .before in
+    let at-from-designation = at-d .before .before in
+    let at-start = at-from-designation .before in
+    means-set _ _ _ (at-start .pre) (sym (at-from-designation .from-designation .ensures) ∙ ap designated (at-d .d .given .1) ∙ ap some (sym (c .number .ensures)))
 
 returns-2 : tie.Need-returns-2
 returns-2 c = means-none _ _ (sym (c .before .before .from-designation .ensures) ∙ ap designated (c .enum-told .given .1))

@@ -21,7 +21,9 @@ designate-requires : tie.Need-designate-requires
 designate-requires c κs = search needs
 
 returns-5 : tie.Need-returns-5
-returns-5 c = three-drcs _ _ _ _ (c .before .before .before .before .if1 .left) (c .before .before .before .if2 .left) (c .before .before .if3 .left) (c .before .if4 .left) (c .designate .ensures)
+returns-5 c =
+    three-drcs _ _ _ _ (c .before .before .before .before .if1 .left) (c .before .before .before .if2 .left) (c .before .before .if3 .left) (c .before .if4 .left)
+    (c .designate .ensures)
 
 pub designation3-spec : {M : Type 1} → statement M
 designation3-spec =

@@ -20,9 +20,12 @@ cut-requires c κs = search needs
 
 returns : tie.Need-returns
 returns c =
-    let a = c .before .before .before .before .args in
-    let led = c .before .before .leading in
-    c .cut .ensures _ (λ place at s. escape-cut (a .b .now) (a .i) (led .result) place at s (c .before .before .before .before .pre .0) (led .ensures) (c .before .if1 .taken))
+    let at-if1 = c .before in
+    let at-leading = at-if1 .before in
+    let at-start = at-leading .before .before in
+    let a = at-start .args in
+    let led = at-leading .leading in
+    c .cut .ensures _ (λ place at s. escape-cut (a .b .now) (a .i) (led .result) place at s (at-start .pre .0) (led .ensures) (at-if1 .if1 .taken))
 
 shared-slice-read-is-final : tie.Need-shared-slice-read-is-final
 shared-slice-read-is-final c = search needs
@@ -41,14 +44,19 @@ sub-t11 c = search needs
 
 returns-2 : tie.Need-returns-2
 returns-2 c =
-    let a = c .before .before .before .before .before .before .before .args in
-    let inside = c .before .before .before .before .before .before .before .pre .0 in
-    let led = c .before .before .before .before .before .leading in
-    let more = c .before .before .before .before .if1 .left in
+    let at-if2 = c .before in
+    let at-is-final = at-if2 .before in
+    let at-if1 = at-is-final .before .before in
+    let at-leading = at-if1 .before in
+    let at-start = at-leading .before .before in
+    let a = at-start .args in
+    let inside = at-start .pre .0 in
+    let led = at-leading .leading in
+    let more = at-if1 .if1 .left in
     let means = c .escape-at .ensures in
     reads-of _ _ (means .bounded) (omega (arith, led .ensures)) (omega (arith, led .ensures))
     (λ place at s.
-    escape-final (a .b .now) (a .i) (led .result) place at s inside (led .ensures) more (sym (c .before .before .is-final .ensures) ∙ c .before .if2 .taken) ∙ means .says _ place at s)
+    escape-final (a .b .now) (a .i) (led .result) place at s inside (led .ensures) more (sym (at-is-final .is-final .ensures) ∙ at-if2 .if2 .taken) ∙ means .says _ place at s)
 
 sub-t4 : tie.Need-sub-t4
 sub-t4 c = search needs
@@ -56,12 +64,16 @@ sub-t4 c = search needs
 returns-3 : tie.Need-returns-3
 unfolding stepOf
 returns-3 c =
-    let a = c .before .before .before .before .before .before .args in
-    let inside = c .before .before .before .before .before .before .pre .0 in
-    let led = c .before .before .before .before .leading in
-    let more = c .before .before .before .if1 .left in
+    let at-is-final = c .before in
+    let at-if1 = at-is-final .before .before in
+    let at-leading = at-if1 .before in
+    let at-start = at-leading .before .before in
+    let a = at-start .args in
+    let inside = at-start .pre .0 in
+    let led = at-leading .leading in
+    let more = at-if1 .if1 .left in
     reads-of _ _ (bounded refl refl) (omega (arith, led .ensures)) (omega (arith, led .ensures))
-    (λ place at s. escape-none (a .b .now) (a .i) (led .result) place at s inside (led .ensures) more (sym (c .before .is-final .ensures) ∙ c .if2 .left))
+    (λ place at s. escape-none (a .b .now) (a .i) (led .result) place at s inside (led .ensures) more (sym (at-is-final .is-final .ensures) ∙ c .if2 .left))
 
 pub escape-spec : {M : Type 1} → statement M
 escape-spec =

@@ -84,31 +84,38 @@ returns c =
     let b = start .args .b .now in
     let i = start .args .i in
     let j = start .args .j in
-    means-shift b i j (start .pre .1) (c .before .before .match .keys1) (c .locking-shift .ensures (getD b j 0) (shift-bytes b i j (start .pre .1) (c .before .before .match .keys1) (start .pre .2)))
+    means-shift b i j (start .pre .1) (c .before .before .match .keys1)
+    (c .locking-shift .ensures (getD b j 0) (shift-bytes b i j (start .pre .1) (c .before .before .match .keys1) (start .pre .2)))
 
 returns-2 : tie.Need-returns-2
 returns-2 c =
-    let start = c .before .before .before .before .before in
+    let at-match = c .before .before .before in
+    let at-place = at-match .before .before in
+    let start = at-place in
     let b = start .args .b .now in
     let i = start .args .i in
     let j = start .args .j in
-    means-one b i j (start .pre .1) (c .before .before .before .match .keys2) (c .designation1 .ensures)
+    means-one b i j (start .pre .1) (at-match .match .keys2) (c .designation1 .ensures)
 
 returns-3 : tie.Need-returns-3
 returns-3 c =
-    let start = c .before .before .before .before .before .before in
+    let at-match = c .before .before .before .before in
+    let at-place = at-match .before .before in
+    let start = at-place in
     let b = start .args .b .now in
     let i = start .args .i in
     let j = start .args .j in
-    means-two b i j (start .pre .1) (c .before .before .before .before .match .keys3) (c .designation2 .ensures)
+    means-two b i j (start .pre .1) (at-match .match .keys3) (c .designation2 .ensures)
 
 returns-4 : tie.Need-returns-4
 returns-4 c =
-    let start = c .before .before .before .before .before .before .before in
+    let at-match = c .before .before .before .before .before in
+    let at-place = at-match .before .before in
+    let start = at-place in
     let b = start .args .b .now in
     let i = start .args .i in
     let j = start .args .j in
-    means-three b i j (start .pre .1) (c .before .before .before .before .before .match .keys4) (c .designation3 .ensures)
+    means-three b i j (start .pre .1) (at-match .match .keys4) (c .designation3 .ensures)
 
 returns-5 : tie.Need-returns-5
 returns-5 c =

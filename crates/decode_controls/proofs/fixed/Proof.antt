@@ -31,24 +31,34 @@ enum-told c = search needs
 
 returns : tie.Need-returns
 returns c =
-    let a = c .before .before .before .before .before .before .before .args in
-    let inside = c .before .before .before .before .before .before .before .pre in
+    let at-params = c .before .before in
+    let at-fixed-params = at-params .before .before in
+    let at-start = at-fixed-params .before .before .before in
+    let a = at-start .args in
+    let inside = at-start .pre in
     let all = c .if1 .taken in
     reads-nothing _ (omega arith) (omega arith)
-    (λ at s. fixed-all (a .b .now) (a .i) at s inside _ (count-some _ _ (sym (c .before .before .before .before .fixed-params .ensures) ∙ c .before .before .params .given .1)) all)
+    (λ at s. fixed-all (a .b .now) (a .i) at s inside _ (count-some _ _ (sym (at-fixed-params .fixed-params .ensures) ∙ at-params .params .given .1)) all)
 
 returns-2 : tie.Need-returns-2
 returns-2 c =
-    let a = c .before .before .before .before .before .before .before .before .args in
-    c .cut .ensures _ (λ place at s. fixed-cut (a .b .now) (a .i) at s (c .before .before .before .before .before .before .before .before .pre) _ (count-some _ _ (sym (c .before .before .before .before .before .fixed-params .ensures) ∙ c .before .before .before .params .given .1)) (c .before .if1 .left))
+    let at-if1 = c .before in
+    let at-params = at-if1 .before .before in
+    let at-fixed-params = at-params .before .before in
+    let at-start = at-fixed-params .before .before .before in
+    let a = at-start .args in
+    c .cut .ensures _ (λ place at s. fixed-cut (a .b .now) (a .i) at s (at-start .pre) _
+    (count-some _ _ (sym (at-fixed-params .fixed-params .ensures) ∙ at-params .params .given .1)) (at-if1 .if1 .left))
 
 returns-3 : tie.Need-returns-3
 unfolding stepOf
 returns-3 c =
-    let a = c .before .before .before .before .before .args in
-    let inside = c .before .before .before .before .before .pre in
+    let at-fixed-params = c .before .before in
+    let at-start = at-fixed-params .before .before .before in
+    let a = at-start .args in
+    let inside = at-start .pre in
     reads-of _ _ (bounded refl refl) (omega arith) (omega arith)
-    (λ place at s. fixed-undefined (a .b .now) (a .i) at s inside (count-none _ (sym (c .before .before .fixed-params .ensures) ∙ c .enum-told .given .1)))
+    (λ place at s. fixed-undefined (a .b .now) (a .i) at s inside (count-none _ (sym (at-fixed-params .fixed-params .ensures) ∙ c .enum-told .given .1)))
 
 pub fixed-spec : {M : Type 1} → statement M
 fixed-spec =

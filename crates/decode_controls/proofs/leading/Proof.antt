@@ -28,9 +28,13 @@ returns c =
 
 returns-2 : tie.Need-returns-2 Inv-loop μ-loop
 returns-2 c =
-    let start = c .before .before .before .before .before in
-    let p : 0x20 ≤ getD (start .args .b .now) (c .before .before .before .before .loop .j) 0 = omega (arith, c .before .if1 .left) in
-    omega (arith, leading-high (start .args .high) (start .args .b .now) (c .before .before .before .before .loop .j) (c .before .before .before .loop-test .taken) p (c .if2 .taken))
+    let at-if1 = c .before in
+    let at-loop-test = at-if1 .before .before in
+    let at-loop = at-loop-test .before in
+    let at-place = at-loop .before in
+    let start = at-place in
+    let p : 0x20 ≤ getD (start .args .b .now) (at-loop .loop .j) 0 = omega (arith, at-if1 .if1 .left) in
+    omega (arith, leading-high (start .args .high) (start .args .b .now) (at-loop .loop .j) (at-loop-test .loop-test .taken) p (c .if2 .taken))
 
 add-j : tie.Need-add-j Inv-loop μ-loop
 add-j c = search needs
@@ -40,10 +44,14 @@ loop-less c = search needs
 
 loop-again : tie.Need-loop-again Inv-loop μ-loop
 loop-again c =
-    let start = c .before .before .before .before .before in
-    let p : 0x20 ≤ getD (start .args .b .now) (c .before .before .before .before .loop .j) 0 = omega (arith, c .before .if1 .left) in
-    let q : getD (start .args .b .now) (c .before .before .before .before .loop .j) 0 ≤ start .args .high = omega (arith, c .if2 .left) in
-    omega (arith, leading-more (start .args .high) (start .args .b .now) (c .before .before .before .before .loop .j) (c .before .before .before .loop-test .taken) p q)
+    let at-if1 = c .before in
+    let at-loop-test = at-if1 .before .before in
+    let at-loop = at-loop-test .before in
+    let at-place = at-loop .before in
+    let start = at-place in
+    let p : 0x20 ≤ getD (start .args .b .now) (at-loop .loop .j) 0 = omega (arith, at-if1 .if1 .left) in
+    let q : getD (start .args .b .now) (at-loop .loop .j) 0 ≤ start .args .high = omega (arith, c .if2 .left) in
+    omega (arith, leading-more (start .args .high) (start .args .b .now) (at-loop .loop .j) (at-loop-test .loop-test .taken) p q)
 
 returns-3 : tie.Need-returns-3 Inv-loop μ-loop
 returns-3 c =

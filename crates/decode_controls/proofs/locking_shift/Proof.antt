@@ -36,9 +36,18 @@ returns-5 c = λ f e. shift-ls3r f (is-final f 0x7C e (c .before .is5 .ensures) 
 
 returns-6 : tie.Need-returns-6
 returns-6 c =
+    let at-is5 = c .before in
+    let at-if4 = at-is5 .before in
+    let at-is4 = at-if4 .before in
+    let at-if3 = at-is4 .before in
+    let at-is3 = at-if3 .before in
+    let at-if2 = at-is3 .before in
+    let at-is2 = at-if2 .before in
+    let at-if1 = at-is2 .before in
+    let at-is = at-if1 .before in
     λ f e.
-    shift-none f (not-final f 0x6E e (c .before .before .before .before .before .before .before .before .before .is .ensures) (c .before .before .before .before .before .before .before .before .if1 .left)) (not-final f 0x6F e (c .before .before .before .before .before .before .before .is2 .ensures) (c .before .before .before .before .before .before .if2 .left))
-    (not-final f 0x7E e (c .before .before .before .before .before .is3 .ensures) (c .before .before .before .before .if3 .left)) (not-final f 0x7D e (c .before .before .before .is4 .ensures) (c .before .before .if4 .left)) (not-final f 0x7C e (c .before .is5 .ensures) (c .if5 .left))
+    shift-none f (not-final f 0x6E e (at-is .is .ensures) (at-if1 .if1 .left)) (not-final f 0x6F e (at-is2 .is2 .ensures) (at-if2 .if2 .left))
+    (not-final f 0x7E e (at-is3 .is3 .ensures) (at-if3 .if3 .left)) (not-final f 0x7D e (at-is4 .is4 .ensures) (at-if4 .if4 .left)) (not-final f 0x7C e (at-is5 .is5 .ensures) (c .if5 .left))
 
 pub locking-shift-spec : {M : Type 1} → statement M
 locking-shift-spec =

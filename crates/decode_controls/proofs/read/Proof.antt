@@ -15,18 +15,22 @@ control0-requires c κs = search needs
 
 returns : tie.Need-returns
 returns c =
-    let a = c .before .before .before .before .args in
-    let h = c .before .before .before .before .pre .1 in
-    λ g left R. reads-as (λ place at s. step-0 g left R _ (drop (a .i + 1) (a .b .now)) place at s (h .gl) (c .before .if1 .taken)) (c .control0 .ensures g left R)
+    let at-if1 = c .before in
+    let at-start = at-if1 .before .before .before in
+    let a = at-start .args in
+    let h = at-start .pre .1 in
+    λ g left R. reads-as (λ place at s. step-0 g left R _ (drop (a .i + 1) (a .b .now)) place at s (h .gl) (at-if1 .if1 .taken)) (c .control0 .ensures g left R)
 
 control1-requires : tie.Need-control1-requires
 control1-requires c κs = search needs
 
 returns-2 : tie.Need-returns-2
 returns-2 c =
-    let a = c .before .before .before .before .args in
-    let h = c .before .before .before .before .pre .1 in
-    λ g left R. reads-as (λ place at s. step-1 g left R _ (drop (a .i + 1) (a .b .now)) place at s (h .gr) (c .before .if1 .left)) (c .control1 .ensures g left R)
+    let at-if1 = c .before in
+    let at-start = at-if1 .before .before .before in
+    let a = at-start .args in
+    let h = at-start .pre .1 in
+    λ g left R. reads-as (λ place at s. step-1 g left R _ (drop (a .i + 1) (a .b .now)) place at s (h .gr) (at-if1 .if1 .left)) (c .control1 .ensures g left R)
 
 pub read-spec : {M : Type 1} → statement M
 read-spec =

@@ -20,8 +20,10 @@ cut-requires c κs = search needs
 
 returns-2 : tie.Need-returns-2
 returns-2 c =
-    let a = c .before .before .before .args in
-    c .cut .ensures _ (λ place at s. second-none (a .b .now) (a .i) at s (c .before .before .before .pre) (c .before .if1 .left))
+    let at-if1 = c .before in
+    let at-start = at-if1 .before .before in
+    let a = at-start .args in
+    c .cut .ensures _ (λ place at s. second-none (a .b .now) (a .i) at s (at-start .pre) (at-if1 .if1 .left))
 
 pub second-spec : {M : Type 1} → statement M
 second-spec = tie.close (tie.spec add-if1 returns cut-requires returns-2)

@@ -16,10 +16,13 @@ cut-requires c κs = search needs
 
 returns : tie.Need-returns
 returns c =
-    let a = c .before .before .before .before .args in
-    let p = c .before .before .before .before .pre in
-    let led = c .before .before .leading in
-    c .cut .ensures _ (λ place at s. sequence-cut (a .strict) (a .code) (a .b .now) (a .i) (a .from) (led .result) at s (p .0) (p .1) (led .ensures) (c .before .if1 .taken))
+    let at-if1 = c .before in
+    let at-leading = at-if1 .before in
+    let at-start = at-leading .before .before in
+    let a = at-start .args in
+    let p = at-start .pre in
+    let led = at-leading .leading in
+    c .cut .ensures _ (λ place at s. sequence-cut (a .strict) (a .code) (a .b .now) (a .i) (a .from) (led .result) at s (p .0) (p .1) (led .ensures) (at-if1 .if1 .taken))
 
 shared-slice-read-is-final : tie.Need-shared-slice-read-is-final
 shared-slice-read-is-final c = search needs
@@ -35,12 +38,16 @@ sub-t14 c = search needs
 
 returns-2 : tie.Need-returns-2
 returns-2 c =
-    let a = c .before .before .before .before .before .before .args in
-    let p = c .before .before .before .before .before .before .pre in
-    let led = c .before .before .before .before .leading in
-    let more = c .before .before .before .if1 .left in
+    let at-is-final = c .before in
+    let at-if1 = at-is-final .before .before in
+    let at-leading = at-if1 .before in
+    let at-start = at-leading .before .before in
+    let a = at-start .args in
+    let p = at-start .pre in
+    let led = at-leading .leading in
+    let more = at-if1 .if1 .left in
     reads-nothing _ (omega (arith, led .ensures)) (omega (arith, led .ensures))
-    (λ at s. sequence-final (a .strict) (a .code) (a .b .now) (a .i) (a .from) (led .result) at s (p .0) (p .1) (led .ensures) more (sym (c .before .is-final .ensures) ∙ c .if2 .taken))
+    (λ at s. sequence-final (a .strict) (a .code) (a .b .now) (a .i) (a .from) (led .result) at s (p .0) (p .1) (led .ensures) more (sym (at-is-final .is-final .ensures) ∙ c .if2 .taken))
 
 sub-t16 : tie.Need-sub-t16
 sub-t16 c = search needs
@@ -48,24 +55,36 @@ sub-t16 c = search needs
 returns-3 : tie.Need-returns-3
 unfolding stepOf
 returns-3 c =
-    let a = c .before .before .before .before .before .before .before .args in
-    let p = c .before .before .before .before .before .before .before .pre in
-    let led = c .before .before .before .before .before .leading in
-    let more = c .before .before .before .before .if1 .left in
+    let at-if2 = c .before in
+    let at-is-final = at-if2 .before in
+    let at-if1 = at-is-final .before .before in
+    let at-leading = at-if1 .before in
+    let at-start = at-leading .before .before in
+    let a = at-start .args in
+    let p = at-start .pre in
+    let led = at-leading .leading in
+    let more = at-if1 .if1 .left in
     reads-of _ _ (bounded refl refl) (omega (arith, led .ensures)) (omega (arith, led .ensures))
-    (λ place at s. sequence-malformed (a .strict) (a .code) (a .b .now) (a .i) (a .from) (led .result) at s (p .0) (p .1) (led .ensures) more (sym (c .before .before .is-final .ensures) ∙ c .before .if2 .left) (c .if3 .taken))
+    (λ place at s. sequence-malformed (a .strict) (a .code) (a .b .now) (a .i) (a .from) (led .result) at s (p .0) (p .1) (led .ensures) more
+    (sym (at-is-final .is-final .ensures) ∙ at-if2 .if2 .left) (c .if3 .taken))
 
 sub-t7 : tie.Need-sub-t7
 sub-t7 c = search needs
 
 returns-4 : tie.Need-returns-4
 returns-4 c =
-    let a = c .before .before .before .before .before .before .before .args in
-    let p = c .before .before .before .before .before .before .before .pre in
-    let led = c .before .before .before .before .before .leading in
-    let more = c .before .before .before .before .if1 .left in
+    let at-if2 = c .before in
+    let at-is-final = at-if2 .before in
+    let at-if1 = at-is-final .before .before in
+    let at-leading = at-if1 .before in
+    let at-start = at-leading .before .before in
+    let a = at-start .args in
+    let p = at-start .pre in
+    let led = at-leading .leading in
+    let more = at-if1 .if1 .left in
     reads-nothing _ (omega (arith, led .ensures)) (omega (arith, led .ensures))
-    (λ at s. sequence-other (a .strict) (a .code) (a .b .now) (a .i) (a .from) (led .result) at s (p .0) (p .1) (led .ensures) more (sym (c .before .before .is-final .ensures) ∙ c .before .if2 .left) (c .if3 .left))
+    (λ at s. sequence-other (a .strict) (a .code) (a .b .now) (a .i) (a .from) (led .result) at s (p .0) (p .1) (led .ensures) more
+    (sym (at-is-final .is-final .ensures) ∙ at-if2 .if2 .left) (c .if3 .left))
 
 pub sequence-spec : {M : Type 1} → statement M
 sequence-spec =

@@ -22,8 +22,10 @@ cut-requires c κs = search needs
 returns : tie.Need-returns
 unfolding time
 returns c =
-    let a = c .before .before .before .args in
-    c .cut .ensures _ (λ place at s. at-end (λ l. time l at s) (a .b .now) (a .i) at s refl (c .before .before .before .pre) (c .before .if1 .taken))
+    let at-if1 = c .before in
+    let at-start = at-if1 .before .before in
+    let a = at-start .args in
+    c .cut .ensures _ (λ place at s. at-end (λ l. time l at s) (a .b .now) (a .i) at s refl (at-start .pre) (at-if1 .if1 .taken))
 
 add-match : tie.Need-add-match
 add-match c = search needs
@@ -42,17 +44,23 @@ sequence-requires c κs = search needs
 
 returns-2 : tie.Need-returns-2
 returns-2 c =
-    let a = c .before .before .before .before .before .args in
-    reads-as (λ place at s. at-head (λ l. time l at s) (a .b .now) (a .i) _ (c .before .before .before .if1 .left) (time-two _ _ at s (c .before .match .keys1))) (c .second .ensures)
+    let at-match = c .before in
+    let at-if1 = at-match .before .before in
+    let at-start = at-if1 .before .before in
+    let a = at-start .args in
+    reads-as (λ place at s. at-head (λ l. time l at s) (a .b .now) (a .i) _ (at-if1 .if1 .left) (time-two _ _ at s (at-match .match .keys1))) (c .second .ensures)
 
 returns-3 : tie.Need-returns-3
 returns-3 c =
-    let a = c .before .before .before .before .before .args in
+    let at-match = c .before in
+    let at-if1 = at-match .before .before in
+    let at-start = at-if1 .before .before in
+    let a = at-start .args in
     let n : 2 ≡ a .i + 2 - a .i = omega arith in
     reads-as
     (λ place at s.
-    at-head (λ l. time l at s) (a .b .now) (a .i) _ (c .before .before .before .if1 .left)
-    (time-sequence _ _ at s (c .before .match .keys2) ∙ ap (λ (k : ℕ). sequenceFrom false 0x9D k (drop (a .i + 2) (a .b .now)) at s) n))
+    at-head (λ l. time l at s) (a .b .now) (a .i) _ (at-if1 .if1 .left)
+    (time-sequence _ _ at s (at-match .match .keys2) ∙ ap (λ (k : ℕ). sequenceFrom false 0x9D k (drop (a .i + 2) (a .b .now)) at s) n))
     (c .sequence .ensures)
 
 returns-4 : tie.Need-returns-4

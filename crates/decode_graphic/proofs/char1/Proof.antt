@@ -33,10 +33,12 @@ same-length c = search needs
 
 returns : tie.Need-returns
 returns c =
-    let at-if1 = c .before .before .before .before .before in
+    let at-report-mosaic = c .before .before in
+    let at-place = at-report-mosaic .before .before .before in
+    let at-if1 = at-place in
     let entry = at-if1 .before .before .before in
     let pre = entry .pre in
-    let report-mosaic = c .before .before .report-mosaic in
+    let report-mosaic = at-report-mosaic .report-mosaic in
     λ cells left R. did-as (λ g q starts lens t₀ i₀ x k. char1-mosaic g left R _ _ _ x (pre .1 .1) (at-if1 .if1 .left) (omega arith)) (report-mosaic .ensures cells _)
 
 same-length-2 : tie.Need-same-length-2

@@ -16,9 +16,11 @@ same-length c = search needs
 returns : tie.Need-returns
 unfolding truncated
 returns c =
-    let entry = c .before .before .before .before .before in
+    let at-report = c .before .before in
+    let at-place = at-report .before .before .before in
+    let entry = at-place in
     let a = entry .args in
-    let report = c .before .before .report in
+    let report = at-report .report in
     λ cells b t i h. took-did (λ g. truncated 1 (a .at)) 1 (omega arith) (omega arith) (λ g x. refl) (report .ensures cells t)
 
 pub truncated-spec : {M : Type 1} → statement M

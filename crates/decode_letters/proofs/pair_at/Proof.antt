@@ -28,16 +28,21 @@ is-second-requires c κs = search needs
 
 sub-row : tie.Need-sub-row
 sub-row c =
-    let entry = c .before .before .before .before .before .before .before in
+    let at-shared-slice-known2 = c .before .before .before .before .before in
+    let at-place = at-shared-slice-known2 .before .before in
+    let entry = at-place in
     let a = entry .args in
-    let x : getD (a .b .now) (a .i) 0 < 256 = omega (arith, c .before .before .before .before .before .shared-slice-known2 .given (a .i)) in
+    let x : getD (a .b .now) (a .i) 0 < 256 = omega (arith, at-shared-slice-known2 .shared-slice-known2 .given (a .i)) in
     omega (arith, in-area _ x (entry .pre .2) .low)
 
 sub-cell : tie.Need-sub-cell
 sub-cell c =
-    let a = c .before .before .before .before .before .before .before .args in
-    let y : getD (a .b .now) (a .i + 1) 0 < 256 = omega (arith, c .before .before .before .before .before .shared-slice-known2 .given (a .i + 1)) in
-    omega (arith, in-area _ y (and-left _ _ (sym (c .before .is-second .ensures) ∙ c .if2 .taken)) .low)
+    let at-is-second = c .before in
+    let at-shared-slice-known2 = at-is-second .before .before .before .before in
+    let at-start = at-shared-slice-known2 .before .before in
+    let a = at-start .args in
+    let y : getD (a .b .now) (a .i + 1) 0 < 256 = omega (arith, at-shared-slice-known2 .shared-slice-known2 .given (a .i + 1)) in
+    omega (arith, in-area _ y (and-left _ _ (sym (at-is-second .is-second .ensures) ∙ c .if2 .taken)) .low)
 
 cell-at-requires : tie.Need-cell-at-requires
 cell-at-requires c κs = search needs

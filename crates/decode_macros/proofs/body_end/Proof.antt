@@ -33,9 +33,13 @@ shared-slice-read-if2 c = search needs
 
 returns : tie.Need-returns Inv-loop μ-loop
 returns c =
-    let b = c .before .before .before .before .before .before .args .b .now in
-    let j = c .before .before .before .before .before .loop .j in
-    let e = end-stop b j (c .before .before .before .before .loop-test .taken) (c .before .before .if1 .taken) (c .if2 .taken) in
+    let at-if1 = c .before .before in
+    let at-loop-test = at-if1 .before .before in
+    let at-loop = at-loop-test .before in
+    let at-start = at-loop .before in
+    let b = at-start .args .b .now in
+    let j = at-loop .loop .j in
+    let e = end-stop b j (at-loop-test .loop-test .taken) (at-if1 .if1 .taken) (c .if2 .taken) in
     omega (arith, e)
 
 add-j : tie.Need-add-j Inv-loop μ-loop

@@ -42,8 +42,11 @@ index-2-put-body-3 c = search needs
 put-body-requires : tie.Need-put-body-requires
 unfolding builtin
 put-body-requires c κs =
-    let t = c .before .before .before .before .before .before .before in
-    room (t .args .body .now) (t .args .code) (c .before .before .before .before .before .if1 .left) (c .before .before .before .before .if2 .left) (t .pre)
+    let at-if2 = c .before .before .before .before in
+    let at-if1 = at-if2 .before in
+    let at-place = at-if1 .before .before in
+    let t = at-place in
+    room (t .args .body .now) (t .args .code) (at-if1 .if1 .left) (at-if2 .if2 .left) (t .pre)
 
 same-length : tie.Need-same-length
 same-length c = search needs

@@ -44,12 +44,14 @@ sub-t14 c = search needs
 returns-2 : tie.Need-returns-2
 unfolding commanded
 returns-2 c =
-    let b = c .before .before .before .before .before .args .b .now in
-    let i = c .before .before .before .before .before .args .i in
+    let at-body-end = c .before in
+    let at-start = at-body-end .before .before .before .before in
+    let b = at-start .args .b .now in
+    let i = at-start .args .i in
     let h : i + 2 < length b = omega arith in
     let k : i + 3 + endOf (drop (i + 3) b) < length b = omega arith in
-    let p : ℕ = cond (c .before .before .before .before .before .args .runs) 0x41 0x40 in
-    let e : endOf (drop (i + 3) b) ≡ c .before .body-end .result - (i + 3) = omega arith in (
+    let p : ℕ = cond (at-start .args .runs) 0x41 0x40 in
+    let e : endOf (drop (i + 3) b) ≡ at-body-end .body-end .result - (i + 3) = omega arith in (
       λ g left R place at s. definition-ends b i g left R p place at s h k ∙ ap (λ n. defined g left R p (getD b (i + 2) 0 % 128) n place at s) e,
       subst (λ n. Defined (getD b (i + 2) 0 % 128) n b i) e (defined-at b i (getD b (i + 2) 0) k),
     )
@@ -57,8 +59,9 @@ returns-2 c =
 returns-3 : tie.Need-returns-3
 unfolding commanded
 returns-3 c =
-    let b = c .before .before .before .before .before .args .b .now in
-    let i = c .before .before .before .before .before .args .i in
+    let at-start = c .before .before .before .before .before in
+    let b = at-start .args .b .now in
+    let i = at-start .args .i in
     let h : i + 2 < length b = omega arith in
     let k : length b ≤ i + 3 + endOf (drop (i + 3) b) = omega arith in
     (λ g left R place at s. definition-open b i g left R _ place at s h k, tt)

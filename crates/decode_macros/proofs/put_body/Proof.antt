@@ -15,17 +15,20 @@ put-designation-requires c κs =
 
 put-designation-requires-2 : tie.Need-put-designation-requires-2
 put-designation-requires-2 c κs =
-    let a = c .before .before .before .before .before .before .args in
+    let at-start = c .before .before .before .before .before .before in
+    let a = at-start .args in
     omega (arith, parts (a .g0 ∷ a .g1 ∷ a .g2 ∷ []))
 
 put-designation-requires-3 : tie.Need-put-designation-requires-3
 put-designation-requires-3 c κs =
-    let a = c .before .before .before .before .before .before .before .before .before .before .args in
+    let at-start = c .before .before .before .before .before .before .before .before .before .before in
+    let a = at-start .args in
     omega (arith, parts (a .g0 ∷ a .g1 ∷ a .g2 ∷ []))
 
 put-designation-requires-4 : tie.Need-put-designation-requires-4
 put-designation-requires-4 c κs =
-    let a = c .before .before .before .before .before .before .before .before .before .before .before .before .before .before .args in
+    let at-start = c .before .before .before .before .before .before .before .before .before .before .before .before .before .before in
+    let a = at-start .args in
     omega (arith, parts (a .g0 ∷ a .g1 ∷ a .g2 ∷ []))
 
 slice-aggregate-put-bytes : tie.Need-slice-aggregate-put-bytes
@@ -33,7 +36,8 @@ slice-aggregate-put-bytes c = search needs
 
 put-bytes-requires : tie.Need-put-bytes-requires
 put-bytes-requires c κs =
-    let a = c .before .before .before .before .before .before .before .before .before .before .before .before .before .before .before .before .before .before .before .args in
+    let at-start = c .before .before .before .before .before .before .before .before .before .before .before .before .before .before .before .before .before .before .before in
+    let a = at-start .args in
     omega (arith, parts (a .g0 ∷ a .g1 ∷ a .g2 ∷ []))
 
 same-length : tie.Need-same-length

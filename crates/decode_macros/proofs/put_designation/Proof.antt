@@ -23,7 +23,10 @@ slice-aggregate-put-bytes c = sym (length-take-le _ _ (holds-fits (c .before .be
 
 put-bytes-requires : tie.Need-put-bytes-requires
 put-bytes-requires c κs =
-    let e = holds-take (c .before .before .before .before .before .before .args .n % 4) (c .before .before .before .designation .ensures) (c .before .before .before .before .from-number .ensures) in
+    let at-designation = c .before .before .before in
+    let at-from-number = at-designation .before in
+    let at-start = at-from-number .before .before in
+    let e = holds-take (at-start .args .n % 4) (at-designation .designation .ensures) (at-from-number .from-number .ensures) in
     omega (arith, ap length e)
 
 same-length : tie.Need-same-length

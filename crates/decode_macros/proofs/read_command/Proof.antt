@@ -36,28 +36,33 @@ definition-requires-2 c κs = search needs
 returns-2 : tie.Need-returns-2
 unfolding commanded
 returns-2 c =
-    let b = c .before .before .before .before .args .b .now in
-    let i = c .before .before .before .before .args .i in
+    let at-start = c .before .before .before .before in
+    let b = at-start .args .b .now in
+    let i = at-start .args .i in
     let h : i + 1 < length b = omega arith in
     let e : getD b (i + 1) 0 ≡ 0x4F = c .match .keys1 in
     (λ g left R place at s. cmd-ends b i g left R h place at s e, record { room = omega arith; byte = e })
 
 returns-3 : tie.Need-returns-3
 returns-3 c =
-    let b = c .before .before .before .before .before .args .b .now in
-    let i = c .before .before .before .before .before .args .i in
+    let at-match = c .before in
+    let at-start = at-match .before .before .before .before in
+    let b = at-start .args .b .now in
+    let i = at-start .args .i in
     let h : i + 1 < length b = omega arith in
-    let e : getD b (i + 1) 0 ≡ 0x40 = c .before .match .keys2 in (
+    let e : getD b (i + 1) 0 ≡ 0x40 = at-match .match .keys2 in (
       λ g left R place at s. cmd-defines b i g left R h 0x40 place at s (refl, refl) e ∙ c .definition .ensures .0 g left R place at s,
       c .definition .ensures .1,
     )
 
 returns-4 : tie.Need-returns-4
 returns-4 c =
-    let b = c .before .before .before .before .before .args .b .now in
-    let i = c .before .before .before .before .before .args .i in
+    let at-match = c .before in
+    let at-start = at-match .before .before .before .before in
+    let b = at-start .args .b .now in
+    let i = at-start .args .i in
     let h : i + 1 < length b = omega arith in
-    let e : getD b (i + 1) 0 ≡ 0x41 = c .before .match .keys3 in (
+    let e : getD b (i + 1) 0 ≡ 0x41 = at-match .match .keys3 in (
       λ g left R place at s. cmd-defines b i g left R h 0x41 place at s (refl, refl) e ∙ c .definition2 .ensures .0 g left R place at s,
       c .definition2 .ensures .1,
     )
@@ -65,8 +70,9 @@ returns-4 c =
 returns-5 : tie.Need-returns-5
 unfolding commanded
 returns-5 c =
-    let b = c .before .before .before .before .args .b .now in
-    let i = c .before .before .before .before .args .i in
+    let at-start = c .before .before .before .before in
+    let b = at-start .args .b .now in
+    let i = at-start .args .i in
     let h : i + 1 < length b = omega arith in
     (λ g left R place at s. cmd-other b i g left R h place at s (c .match .rest .0 .0 .1) (c .match .rest .0 .1) (c .match .rest .1), omega arith)
 

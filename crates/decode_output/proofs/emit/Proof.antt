@@ -16,11 +16,14 @@ same-length c = search needs
 
 returns : tie.Need-returns
 returns c =
-    let a = c .before .before .before .before .before .before .before .args in
+    let at-emit-times = c .before .before in
+    let at-if1 = at-emit-times .before .before in
+    let at-start = at-if1 .before .before .before in
+    let a = at-start .args in
     λ i.
-    let w = c .before .before .emit-times .ensures i in
+    let w = at-emit-times .emit-times .ensures i in
     record {
-      does = λ t₀ i₀ o h. rw (emit-times o (a .c) (times-some (a .o .repeat) (c .before .before .before .before .if1 .taken) ∙ ap times (held-repeat h))) at (w .does t₀ i₀ o h);
+      does = λ t₀ i₀ o h. rw (emit-times o (a .c) (times-some (a .o .repeat) (at-if1 .if1 .taken) ∙ ap times (held-repeat h))) at (w .does t₀ i₀ o h);
       grew = w .grew;
     }
 
@@ -33,11 +36,14 @@ same-length-2 c = search needs
 returns-2 : tie.Need-returns-2
 unfolding times
 returns-2 c =
-    let a = c .before .before .before .before .before .before .before .before .before .args in
+    let at-emit-times2 = c .before .before in
+    let at-if1 = at-emit-times2 .before .before .before .before in
+    let at-start = at-if1 .before .before .before in
+    let a = at-start .args in
     λ i.
-    let w = c .before .before .emit-times2 .ensures i in
+    let w = at-emit-times2 .emit-times2 .ensures i in
     record {
-      does = λ t₀ i₀ o h. rw (emit-times o (a .c) (ap times (sym (c .before .before .before .before .before .before .if1 .left) ∙ held-repeat h))) at (w .does t₀ i₀ o h);
+      does = λ t₀ i₀ o h. rw (emit-times o (a .c) (ap times (sym (at-if1 .if1 .left) ∙ held-repeat h))) at (w .does t₀ i₀ o h);
       grew = w .grew;
     }
 
@@ -46,19 +52,25 @@ put-requires c κs = search needs
 
 add-to : tie.Need-add-to
 add-to c =
-    let a = c .before .before .before .before .before .before .before .before .before .args in
-    omega (arith, c .before .before .put .ensures .count, length-utf8 (a .c) .most)
+    let at-put = c .before .before in
+    let at-start = at-put .before .before .before .before .before .before .before in
+    let a = at-start .args in
+    omega (arith, at-put .put .ensures .count, length-utf8 (a .c) .most)
 
 same-length-3 : tie.Need-same-length-3
 same-length-3 c = search needs
 
 returns-3 : tie.Need-returns-3
 returns-3 c =
-    let a = c .before .before .before .before .before .before .before .before .before .args in
-    let w = c .before .before .put .ensures in
+    let at-put = c .before .before in
+    let at-if2 = at-put .before .before in
+    let at-if1 = at-if2 .before .before in
+    let at-start = at-if1 .before .before .before in
+    let a = at-start .args in
+    let w = at-put .put .ensures in
     λ i.
     record {
-      does = λ t₀ i₀ o h. rw (w .bytes, w .count) (holds-plain h (a .c) (c .before .before .before .before .if2 .left) (c .before .before .before .before .before .before .if1 .left));
+      does = λ t₀ i₀ o h. rw (w .bytes, w .count) (holds-plain h (a .c) (at-if2 .if2 .left) (at-if1 .if1 .left));
       grew = record { ordered = omega arith; repeat = omega arith; text = omega (arith, length-utf8 (a .c) .most); issues = omega arith };
     }
 

@@ -42,11 +42,15 @@ same-length c = search needs
 
 returns : tie.Need-returns
 returns c =
-    let a = c .before .before .before .before .before .before .before .args in
-    let e = width-times (a .n) (a .c) (c .before .before .before .before .before .width .ensures) in
+    let at-insert = c .before .before in
+    let at-if1 = at-insert .before .before in
+    let at-width = at-if1 .before in
+    let at-start = at-width .before .before in
+    let a = at-start .args in
+    let e = width-times (a .n) (a .c) (at-width .width .ensures) in
     λ i.
     record {
-      does = λ t₀ i₀ o h. holds-moved h (a .n) (a .c) e (c .before .before .before .before .if1 .taken) refl (c .before .before .insert .ensures);
+      does = λ t₀ i₀ o h. holds-moved h (a .n) (a .c) e (at-if1 .if1 .taken) refl (at-insert .insert .ensures);
       grew = record { ordered = omega arith; repeat = omega arith; text = omega (arith, e, times-most (a .n) (a .c)); issues = omega arith };
     }
 

@@ -26,8 +26,11 @@ same-length c = search needs
 
 returns : tie.Need-returns
 returns c =
-    let a = c .before .before .before .before .before .before .before .before .before .args in
-    c .before .before .put-times .ensures ∙ ap (λ (l : List ℕ). sets l 0 (utf8s (replicate (a .n) (a .c)))) (c .before .before .before .before .before .before .shift-up .ensures)
+    let at-put-times = c .before .before in
+    let at-shift-up = at-put-times .before .before .before .before in
+    let at-start = at-shift-up .before .before .before in
+    let a = at-start .args in
+    at-put-times .put-times .ensures ∙ ap (λ (l : List ℕ). sets l 0 (utf8s (replicate (a .n) (a .c)))) (at-shift-up .shift-up .ensures)
 
 pub insert-spec : {M : Type 1} → statement M
 insert-spec = tie.close (tie.spec shift-up-requires put-times-requires same-length returns)

@@ -40,18 +40,24 @@ same-length c = search needs
 
 returns : tie.Need-returns
 returns c =
-    let start = c .before .before .before .before .before .before .before .before .before .before .before .before .before .before .before .before .before .before .before .before in
+    let at-put324 = c .before .before .before in
+    let at-put323 = at-put324 .before .before .before .before in
+    let at-put322 = at-put323 .before .before .before .before in
+    let at-put32 = at-put322 .before .before .before .before in
+    let at-numbers = at-put32 .before .before .before in
+    let at-place = at-numbers .before .before in
+    let start = at-place in
     let a = start .args in
     let p = start .pre in
     λ t.
     record {
       does = λ t₀ i₀ o h.
           rw (
-            c .before .before .before .put324 .ensures,
-            c .before .before .before .before .before .before .before .put323 .ensures,
-            c .before .before .before .before .before .before .before .before .before .before .before .put322 .ensures,
-            c .before .before .before .before .before .before .before .before .before .before .before .before .before .before .before .put32 .ensures,
-            c .before .before .before .before .before .before .before .before .before .before .before .before .before .before .before .before .before .before .numbers .ensures,
+            at-put324 .put324 .ensures,
+            at-put323 .put323 .ensures,
+            at-put322 .put322 .ensures,
+            at-put32 .put32 .ensures,
+            at-numbers .numbers .ensures,
           )
           (holds-report h (a .at) (a .kind));
       grew = record { ordered = p .ordered; repeat = p .repeat; text = omega arith; issues = omega arith };

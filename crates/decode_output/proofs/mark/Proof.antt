@@ -10,17 +10,22 @@ put-requires : tie.Need-put-requires
 put-requires c κs = search needs
 
 add-r : tie.Need-add-r
-add-r c = omega (arith, c .before .before .put .ensures .count, length-utf8 (c .before .before .before .before .before .args .m) .most)
+add-r c =
+    let at-put = c .before .before in
+    let at-start = at-put .before .before .before in
+    omega (arith, at-put .put .ensures .count, length-utf8 (at-start .args .m) .most)
 
 same-length : tie.Need-same-length
 same-length c = search needs
 
 returns : tie.Need-returns
 returns c =
-    let start = c .before .before .before .before .before .before .before in
+    let at-put = c .before .before .before .before in
+    let at-place = at-put .before .before .before in
+    let start = at-place in
     let a = start .args in
     let p = start .pre in
-    let w = c .before .before .before .before .put .ensures in
+    let w = at-put .put .ensures in
     λ i.
     record {
       does = λ t₀ i₀ o h. rw (w .bytes, w .count) (holds-mark h (a .m) (a .at) (first-none h (a .at) (c .if1 .taken)));
@@ -32,10 +37,12 @@ same-length-2 c = search needs
 
 returns-2 : tie.Need-returns-2
 returns-2 c =
-    let start = c .before .before .before .before .before .before .before in
+    let at-put = c .before .before .before .before in
+    let at-place = at-put .before .before .before in
+    let start = at-place in
     let a = start .args in
     let p = start .pre in
-    let w = c .before .before .before .before .put .ensures in
+    let w = at-put .put .ensures in
     λ i.
     record {
       does = λ t₀ i₀ o h. rw (w .bytes, w .count) (holds-mark h (a .m) (a .at) (first-some h (a .at) (c .if1 .left)));

@@ -14,9 +14,12 @@ put-requires c κs = search needs
 
 add-to : tie.Need-add-to
 add-to c =
-    let t = c .before .before .before .before .before .before .before .before .before .before .args .text .now in
-    let g = c .before .before .before .before .before .before .flush-dangling .ensures t .grew in
-    omega (arith, c .before .before .put .ensures .count, length-utf8 0x0A .most)
+    let at-put = c .before .before in
+    let at-flush-dangling = at-put .before .before .before .before in
+    let at-start = at-flush-dangling .before .before .before .before in
+    let t = at-start .args .text .now in
+    let g = at-flush-dangling .flush-dangling .ensures t .grew in
+    omega (arith, at-put .put .ensures .count, length-utf8 0x0A .most)
 
 same-length : tie.Need-same-length
 same-length c = search needs
@@ -26,9 +29,12 @@ same-length-2 c = search needs
 
 returns : tie.Need-returns
 returns c =
-    let t = c .before .before .before .before .before .before .before .before .before .before .args .text .now in
-    let f = c .before .before .before .before .before .before .flush-dangling .ensures t in
-    let w = c .before .before .put .ensures in
+    let at-put = c .before .before in
+    let at-flush-dangling = at-put .before .before .before .before in
+    let at-start = at-flush-dangling .before .before .before .before in
+    let t = at-start .args .text .now in
+    let f = at-flush-dangling .flush-dangling .ensures t in
+    let w = at-put .put .ensures in
     record {
       does = λ t₀ i₀ o h. rw (w .bytes, w .count) (holds-newline o (f .does t₀ i₀ o h));
       grew = record { ordered = omega arith; repeat = f .grew .repeat; text = omega (arith, length-utf8 0x0A .most, f .grew .text); issues = f .grew .issues };

@@ -29,9 +29,12 @@ put-requires c κs = search needs
 
 add-to : tie.Need-add-to Inv-loop μ-loop
 add-to c =
-    let a = c .before .before .before .before .before .before .before .args in
-    let l = c .before .before .before .before .before .loop in
-    omega (arith, c .before .before .put .ensures .count, length-utf8 (a .c) .most, times-most (l .k) (a .c))
+    let at-put = c .before .before in
+    let at-loop = at-put .before .before .before in
+    let at-start = at-loop .before .before in
+    let a = at-start .args in
+    let l = at-loop .loop in
+    omega (arith, at-put .put .ensures .count, length-utf8 (a .c) .most, times-most (l .k) (a .c))
 
 add-k : tie.Need-add-k Inv-loop μ-loop
 add-k c = omega arith
@@ -41,10 +44,14 @@ loop-less c = omega arith
 
 loop-again : tie.Need-loop-again Inv-loop μ-loop
 loop-again c =
-    let a = c .before .before .before .before .before .before .before .args in
-    let l = c .before .before .before .before .before .loop in
-    let p = c .before .before .put .ensures in
-    let m : utf8s (replicate (l .k) (a .c)) ++ utf8 (a .c) ≡ utf8s (replicate (l .k + 1) (a .c)) = sym (times-more (l .k) (a .c)) ∙ ap (λ (n : ℕ). utf8s (replicate n (a .c))) (sym (add-one (l .k))) in (
+    let at-put = c .before .before in
+    let at-loop = at-put .before .before .before in
+    let at-start = at-loop .before .before in
+    let a = at-start .args in
+    let l = at-loop .loop in
+    let p = at-put .put .ensures in
+    let m : utf8s (replicate (l .k) (a .c)) ++ utf8 (a .c) ≡ utf8s (replicate (l .k + 1) (a .c)) = sym (times-more (l .k) (a .c)) ∙
+    ap (λ (n : ℕ). utf8s (replicate n (a .c))) (sym (add-one (l .k))) in (
       omega arith,
       ap length (p .bytes) ∙ length-sets (l .part) (l .to) (utf8 (a .c)) ∙ l .inv .1,
       omega (arith, p .count, ap length m, length-append (utf8s (replicate (l .k) (a .c))) (utf8 (a .c))),

@@ -33,7 +33,10 @@ enum-known-effect-5 : tie.Need-enum-known-effect-5
 enum-known-effect-5 c = search needs
 
 repeat-requires : tie.Need-repeat-requires
-repeat-requires c κs = (subst Bounded (c .before .before .effect5 .given .1) (c .before .before .before .before .before .pre .0 .0) .count, c .before .before .before .before .before .pre .1)
+repeat-requires c κs =
+    let at-effect5 = c .before .before in
+    let at-start = at-effect5 .before .before .before in
+    (subst Bounded (at-effect5 .effect5 .given .1) (at-start .pre .0 .0) .count, at-start .pre .1)
 
 enum-told-2 : tie.Need-enum-told-2
 enum-told-2 c = search needs
@@ -65,36 +68,45 @@ report-requires-4 c κs = search needs
 returns : tie.Need-returns
 unfolding stepOf
 returns c =
-    let a = c .before .before .before .args in
-    λ t. moved-effect (a .start) (a .at) (c .enum-told .given .1) (moved-same (a .s) t (a .issues .now) (c .before .before .before .pre .1) (a .used))
+    let at-start = c .before .before .before in
+    let a = at-start .args in
+    λ t. moved-effect (a .start) (a .at) (c .enum-told .given .1) (moved-same (a .s) t (a .issues .now) (at-start .pre .1) (a .used))
 
 returns-2 : tie.Need-returns-2
 unfolding stepOf
 returns-2 c =
-    let a = c .before .before .before .before .args in
-    let p = c .before .before .before .before .pre in
-    let is = c .before .effect .given .1 in
+    let at-effect = c .before in
+    let at-start = at-effect .before .before .before in
+    let a = at-start .args in
+    let p = at-start .pre in
+    let is = at-effect .effect .given .1 in
     λ t. moved-effect (a .start) (a .at) is (moved-gl (a .s) t (a .issues .now) (p .1) (a .used) _ (subst Bounded is (p .0 .0) .element))
 
 returns-3 : tie.Need-returns-3
 unfolding stepOf
 returns-3 c =
-    let a = c .before .before .before .before .args in
-    let p = c .before .before .before .before .pre in
-    let is = c .before .effect2 .given .1 in
+    let at-effect2 = c .before in
+    let at-start = at-effect2 .before .before .before in
+    let a = at-start .args in
+    let p = at-start .pre in
+    let is = at-effect2 .effect2 .given .1 in
     λ t. moved-effect (a .start) (a .at) is (moved-gr (a .s) t (a .issues .now) (p .1) (a .used) _ (subst Bounded is (p .0 .0) .element))
 
 returns-4 : tie.Need-returns-4
 unfolding stepOf
 returns-4 c =
-    let a = c .before .before .before .before .args in
-    λ t. moved-effect (a .start) (a .at) (c .before .effect3 .given .1) (moved-sets (a .s) t (a .issues .now) (c .before .before .before .before .pre .1) (a .used) _ _)
+    let at-effect3 = c .before in
+    let at-start = at-effect3 .before .before .before in
+    let a = at-start .args in
+    λ t. moved-effect (a .start) (a .at) (at-effect3 .effect3 .given .1) (moved-sets (a .s) t (a .issues .now) (at-start .pre .1) (a .used) _ _)
 
 returns-5 : tie.Need-returns-5
 unfolding stepOf
 returns-5 c =
-    let a = c .before .before .before .before .args in
-    λ t. moved-effect (a .start) (a .at) (c .before .effect4 .given .1) (moved-narrow (a .s) t (a .issues .now) (c .before .before .before .before .pre .1) (a .used) _)
+    let at-effect4 = c .before in
+    let at-start = at-effect4 .before .before .before in
+    let a = at-start .args in
+    λ t. moved-effect (a .start) (a .at) (at-effect4 .effect4 .given .1) (moved-narrow (a .s) t (a .issues .now) (at-start .pre .1) (a .used) _)
 
 same-length : tie.Need-same-length
 same-length c = search needs
@@ -102,8 +114,11 @@ same-length c = search needs
 returns-6 : tie.Need-returns-6
 unfolding stepOf
 returns-6 c =
-    let a = c .before .before .before .before .before .before .before .before .args in
-    λ t. moved-effect (a .start) (a .at) (c .before .before .before .before .before .effect5 .given .1) (c .before .before .repeat .ensures t)
+    let at-repeat = c .before .before in
+    let at-effect5 = at-repeat .before .before .before in
+    let at-start = at-effect5 .before .before .before in
+    let a = at-start .args in
+    λ t. moved-effect (a .start) (a .at) (at-effect5 .effect5 .given .1) (at-repeat .repeat .ensures t)
 
 same-length-2 : tie.Need-same-length-2
 same-length-2 c = search needs
@@ -111,8 +126,11 @@ same-length-2 c = search needs
 returns-7 : tie.Need-returns-7
 unfolding stepOf truncated
 returns-7 c =
-    let a = c .before .before .before .before .before .before .before .args in
-    λ t. moved-effect (a .start) (a .at) (c .before .before .before .before .enum-told2 .given .1) (c .before .before .report .ensures t)
+    let at-report = c .before .before in
+    let at-enum-told2 = at-report .before .before in
+    let at-start = at-enum-told2 .before .before .before in
+    let a = at-start .args in
+    λ t. moved-effect (a .start) (a .at) (at-enum-told2 .enum-told2 .given .1) (at-report .report .ensures t)
 
 same-length-3 : tie.Need-same-length-3
 same-length-3 c = search needs
@@ -120,8 +138,11 @@ same-length-3 c = search needs
 returns-8 : tie.Need-returns-8
 unfolding stepOf
 returns-8 c =
-    let a = c .before .before .before .before .before .before .before .before .args in
-    λ t. moved-effect (a .start) (a .at) (c .before .before .before .before .before .effect6 .given .1) (c .before .before .report2 .ensures t)
+    let at-report2 = c .before .before in
+    let at-effect6 = at-report2 .before .before .before in
+    let at-start = at-effect6 .before .before .before in
+    let a = at-start .args in
+    λ t. moved-effect (a .start) (a .at) (at-effect6 .effect6 .given .1) (at-report2 .report2 .ensures t)
 
 same-length-4 : tie.Need-same-length-4
 same-length-4 c = search needs
@@ -129,8 +150,11 @@ same-length-4 c = search needs
 returns-9 : tie.Need-returns-9
 unfolding stepOf unknown
 returns-9 c =
-    let a = c .before .before .before .before .before .before .before .args in
-    λ t. moved-effect (a .start) (a .at) (c .before .before .before .before .enum-told3 .given .1) (c .before .before .report3 .ensures t)
+    let at-report3 = c .before .before in
+    let at-enum-told3 = at-report3 .before .before in
+    let at-start = at-enum-told3 .before .before .before in
+    let a = at-start .args in
+    λ t. moved-effect (a .start) (a .at) (at-enum-told3 .enum-told3 .given .1) (at-report3 .report3 .ensures t)
 
 same-length-5 : tie.Need-same-length-5
 same-length-5 c = search needs
@@ -138,8 +162,11 @@ same-length-5 c = search needs
 returns-10 : tie.Need-returns-10
 unfolding stepOf
 returns-10 c =
-    let a = c .before .before .before .before .before .before .before .before .args in
-    λ t. moved-effect (a .start) (a .at) (c .before .before .before .before .before .effect7 .given .1) (c .before .before .report4 .ensures t)
+    let at-report4 = c .before .before in
+    let at-effect7 = at-report4 .before .before .before in
+    let at-start = at-effect7 .before .before .before in
+    let a = at-start .args in
+    λ t. moved-effect (a .start) (a .at) (at-effect7 .effect7 .given .1) (at-report4 .report4 .ensures t)
 
 pub apply-spec : {M : Type 1} → statement M
 apply-spec =

@@ -19,10 +19,13 @@ same-length c = search needs
 
 returns : tie.Need-returns
 returns c =
-    let a = c .before .before .before .before .before .before .before .args in
+    let at-apply = c .before .before in
+    let at-read = at-apply .before .before in
+    let at-start = at-read .before .before .before in
+    let a = at-start .args in
     λ g left R t.
-    let r = c .before .before .before .before .read .ensures g left R in
-    took-of (λ σ. r .says (a .place) (a .at) σ) (c .before .before .apply .ensures t) (r .some) (r .within)
+    let r = at-read .read .ensures g left R in
+    took-of (λ σ. r .says (a .place) (a .at) σ) (at-apply .apply .ensures t) (r .some) (r .within)
 
 pub control-spec : {M : Type 1} → statement M
 control-spec = tie.close (tie.spec read-requires apply-requires same-length returns)

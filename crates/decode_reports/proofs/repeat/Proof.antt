@@ -17,16 +17,21 @@ same-length c = search needs
 
 returns : tie.Need-returns
 returns c =
-    let a = c .before .before .before .before .before .before .before .args in
-    λ t. moved-as (λ σ. ap (λ (n : ℕ). took (a .used) (repeatBy n (a .at) σ)) (c .before .before .before .before .before .if1 .taken)) (moved-line (a .used) (c .before .before .before .before .before .before .before .pre .1) (c .before .before .before .issue .ensures t))
+    let at-issue = c .before .before .before in
+    let at-if1 = at-issue .before .before in
+    let at-start = at-if1 .before .before in
+    let a = at-start .args in
+    λ t. moved-as (λ σ. ap (λ (n : ℕ). took (a .used) (repeatBy n (a .at) σ)) (at-if1 .if1 .taken)) (moved-line (a .used) (at-start .pre .1) (at-issue .issue .ensures t))
 
 returns-2 : tie.Need-returns-2
 returns-2 c =
-    let a = c .before .before .before .args in
-    let six = c .before .before .before .pre .0 in
+    let at-if1 = c .before in
+    let at-start = at-if1 .before .before in
+    let a = at-start .args in
+    let six = at-start .pre .0 in
     λ t.
-    moved-as (λ σ. ap (λ (s : State). took (a .used) s) (repeat-some (a .n) (a .at) σ (c .before .if1 .left)))
-    (moved-wait (a .s) t (a .issues .now) (c .before .before .before .pre .1) (a .used) (a .n) (omega arith))
+    moved-as (λ σ. ap (λ (s : State). took (a .used) s) (repeat-some (a .n) (a .at) σ (at-if1 .if1 .left)))
+    (moved-wait (a .s) t (a .issues .now) (at-start .pre .1) (a .used) (a .n) (omega arith))
 
 pub repeat-spec : {M : Type 1} → statement M
 repeat-spec = tie.close (tie.spec issue-requires same-length returns returns-2)

@@ -19,8 +19,10 @@ same-length c = search needs
 returns : tie.Need-returns
 unfolding truncated
 returns c =
-    let inside = c .before .before .before .before .before .before .pre .0 in
-    λ t. took-of (λ σ. refl) (c .before .before .report .ensures t) (omega arith) (omega arith)
+    let at-report = c .before .before in
+    let at-start = at-report .before .before .before .before in
+    let inside = at-start .pre .0 in
+    λ t. took-of (λ σ. refl) (at-report .report .ensures t) (omega arith) (omega arith)
 
 pub truncated-spec : {M : Type 1} → statement M
 truncated-spec = tie.close (tie.spec sub-report report-requires same-length returns)

@@ -28,7 +28,8 @@ add-to c = search needs
 
 loop-holds : tie.Need-loop-holds Inv-loop μ-loop
 loop-holds c =
-    let entry = c .before .before .before .before .before in
+    let at-place = c .before .before .before .before .before in
+    let entry = at-place in
     let fits = c .fitting .ensures in
     running-start (entry .pre .0) (omega (arith, fits .0, entry .pre .2)) (entry .pre .3)
 

@@ -34,8 +34,10 @@ cast-put c = search needs
 
 put-requires-3 : tie.Need-put-requires-3
 put-requires-3 c κs =
-    let p = c .before .before .before .before .before .pre in
-    let four = subst (λ (e : Effect). elementOf e < 4) (c .before .before .effect3 .given .1) (p .0) in
+    let at-effect3 = c .before .before in
+    let at-start = at-effect3 .before .before .before in
+    let p = at-start .pre in
+    let four = subst (λ (e : Effect). elementOf e < 4) (at-effect3 .effect3 .given .1) (p .0) in
     omega (arith, p .1 .seven, four)
 
 enum-known-effect-4 : tie.Need-enum-known-effect-4
@@ -59,10 +61,13 @@ same-length c = search needs
 returns-2 : tie.Need-returns-2
 unfolding stepOf
 returns-2 c =
-    let p = c .before .before .before .before .before .before .before .before .pre in
-    let is = c .before .before .before .before .before .effect .given .1 in
+    let at-put = c .before .before in
+    let at-effect = at-put .before .before .before in
+    let at-start = at-effect .before .before .before in
+    let p = at-start .pre in
+    let is = at-effect .effect .given .1 in
     let four = subst (λ (e : Effect). elementOf e < 4) is (p .0) in
-    λ f b i r place at. turns-read r is place at (turns-gl (p .1) (r .some) (r .within) _ four (c .before .before .put .ensures))
+    λ f b i r place at. turns-read r is place at (turns-gl (p .1) (r .some) (r .within) _ four (at-put .put .ensures))
 
 same-length-2 : tie.Need-same-length-2
 same-length-2 c = search needs
@@ -70,10 +75,13 @@ same-length-2 c = search needs
 returns-3 : tie.Need-returns-3
 unfolding stepOf
 returns-3 c =
-    let p = c .before .before .before .before .before .before .before .before .pre in
-    let is = c .before .before .before .before .before .effect2 .given .1 in
+    let at-put2 = c .before .before in
+    let at-effect2 = at-put2 .before .before .before in
+    let at-start = at-effect2 .before .before .before in
+    let p = at-start .pre in
+    let is = at-effect2 .effect2 .given .1 in
     let four = subst (λ (e : Effect). elementOf e < 4) is (p .0) in
-    λ f b i r place at. turns-read r is place at (turns-gr (p .1) (r .some) (r .within) _ four (c .before .before .put2 .ensures))
+    λ f b i r place at. turns-read r is place at (turns-gr (p .1) (r .some) (r .within) _ four (at-put2 .put2 .ensures))
 
 same-length-3 : tie.Need-same-length-3
 same-length-3 c = search needs
@@ -81,10 +89,13 @@ same-length-3 c = search needs
 returns-4 : tie.Need-returns-4
 unfolding stepOf
 returns-4 c =
-    let p = c .before .before .before .before .before .before .before .before .pre in
-    let is = c .before .before .before .before .before .effect3 .given .1 in
+    let at-put3 = c .before .before in
+    let at-effect3 = at-put3 .before .before .before in
+    let at-start = at-effect3 .before .before .before in
+    let p = at-start .pre in
+    let is = at-effect3 .effect3 .given .1 in
     let four = subst (λ (e : Effect). elementOf e < 4) is (p .0) in
-    λ f b i r place at. turns-read r is place at (turns-set (p .1) (r .some) (r .within) _ _ four (c .before .before .put3 .ensures))
+    λ f b i r place at. turns-read r is place at (turns-set (p .1) (r .some) (r .within) _ _ four (at-put3 .put3 .ensures))
 
 same-length-4 : tie.Need-same-length-4
 same-length-4 c = search needs
@@ -92,11 +103,14 @@ same-length-4 c = search needs
 returns-5 : tie.Need-returns-5
 unfolding stepOf
 returns-5 c =
-    let a = c .before .before .before .before .before .before .before .before .args in
-    let p = c .before .before .before .before .before .before .before .before .pre in
+    let at-put4 = c .before .before in
+    let at-effect4 = at-put4 .before .before .before in
+    let at-start = at-effect4 .before .before .before in
+    let a = at-start .args in
+    let p = at-start .pre in
     λ f b i r place at.
-    turns-read r (c .before .before .before .before .before .effect4 .given .1) place at
-    (turns-as (λ s. ap (λ (u : Bool). took (a .c .used) (resize u s)) (byte _)) (turns-size (p .1) (r .some) (r .within) _ (c .before .before .put4 .ensures)))
+    turns-read r (at-effect4 .effect4 .given .1) place at
+    (turns-as (λ s. ap (λ (u : Bool). took (a .c .used) (resize u s)) (byte _)) (turns-size (p .1) (r .some) (r .within) _ (at-put4 .put4 .ensures)))
 
 returns-6 : tie.Need-returns-6
 returns-6 c =

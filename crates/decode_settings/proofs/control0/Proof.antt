@@ -18,16 +18,20 @@ invoke-requires c κs = search needs
 
 apply-requires : tie.Need-apply-requires
 apply-requires c κs =
-    let a = c .before .before .before .before .before .before .args in
-    (c .before .invoke .ensures (a .b .now) (a .i) (c .before .before .before .before .before .before .pre .0) .bounded .element, c .before .before .before .before .before .before .pre .1)
+    let at-invoke = c .before in
+    let at-start = at-invoke .before .before .before .before .before in
+    let a = at-start .args in
+    (at-invoke .invoke .ensures (a .b .now) (a .i) (at-start .pre .0) .bounded .element, at-start .pre .1)
 
 invoke-requires-2 : tie.Need-invoke-requires-2
 invoke-requires-2 c κs = search needs
 
 apply-requires-2 : tie.Need-apply-requires-2
 apply-requires-2 c κs =
-    let a = c .before .before .before .before .before .before .args in
-    (c .before .invoke2 .ensures (a .b .now) (a .i) (c .before .before .before .before .before .before .pre .0) .bounded .element, c .before .before .before .before .before .before .pre .1)
+    let at-invoke2 = c .before in
+    let at-start = at-invoke2 .before .before .before .before .before in
+    let a = at-start .args in
+    (at-invoke2 .invoke2 .ensures (a .b .now) (a .i) (at-start .pre .0) .bounded .element, at-start .pre .1)
 
 escape-requires : tie.Need-escape-requires
 escape-requires c κs = search needs
@@ -47,9 +51,14 @@ same-length c = search needs
 returns : tie.Need-returns
 unfolding control0
 returns c =
-    let a = c .before .before .before .before .before .before .before .before .before .args in
+    let at-apply = c .before .before in
+    let at-invoke = at-apply .before .before in
+    let at-match = at-invoke .before in
+    let at-start = at-match .before .before .before .before in
+    let a = at-start .args in
     λ g left R place at.
-    turns-as (λ s. ap (λ (x : ℕ). control0 g left R x (drop (a .i + 1) (a .b .now)) place at s) (c .before .before .before .before .before .match .keys1)) (c .before .before .apply .ensures _ _ _ (c .before .before .before .before .invoke .ensures (a .b .now) (a .i) (c .before .before .before .before .before .before .before .before .before .pre .0)) place at)
+    turns-as (λ s. ap (λ (x : ℕ). control0 g left R x (drop (a .i + 1) (a .b .now)) place at s) (at-match .match .keys1))
+    (at-apply .apply .ensures _ _ _ (at-invoke .invoke .ensures (a .b .now) (a .i) (at-start .pre .0)) place at)
 
 same-length-2 : tie.Need-same-length-2
 same-length-2 c = search needs
@@ -57,9 +66,14 @@ same-length-2 c = search needs
 returns-2 : tie.Need-returns-2
 unfolding control0
 returns-2 c =
-    let a = c .before .before .before .before .before .before .before .before .before .args in
+    let at-apply2 = c .before .before in
+    let at-invoke2 = at-apply2 .before .before in
+    let at-match = at-invoke2 .before in
+    let at-start = at-match .before .before .before .before in
+    let a = at-start .args in
     λ g left R place at.
-    turns-as (λ s. ap (λ (x : ℕ). control0 g left R x (drop (a .i + 1) (a .b .now)) place at s) (c .before .before .before .before .before .match .keys2)) (c .before .before .apply2 .ensures _ _ _ (c .before .before .before .before .invoke2 .ensures (a .b .now) (a .i) (c .before .before .before .before .before .before .before .before .before .pre .0)) place at)
+    turns-as (λ s. ap (λ (x : ℕ). control0 g left R x (drop (a .i + 1) (a .b .now)) place at s) (at-match .match .keys2))
+    (at-apply2 .apply2 .ensures _ _ _ (at-invoke2 .invoke2 .ensures (a .b .now) (a .i) (at-start .pre .0)) place at)
 
 same-length-3 : tie.Need-same-length-3
 same-length-3 c = search needs
@@ -67,20 +81,31 @@ same-length-3 c = search needs
 returns-3 : tie.Need-returns-3
 unfolding control0
 returns-3 c =
-    let a = c .before .before .before .before .before .before .before .before .before .args in
+    let at-apply3 = c .before .before in
+    let at-escape = at-apply3 .before .before in
+    let at-match = at-escape .before in
+    let at-start = at-match .before .before .before .before in
+    let a = at-start .args in
     λ g left R place at.
-    turns-as (λ s. ap (λ (x : ℕ). control0 g left R x (drop (a .i + 1) (a .b .now)) place at s) (c .before .before .before .before .before .match .keys3)) (c .before .before .apply3 .ensures _ _ _ (c .before .before .before .before .escape .ensures) place at)
+    turns-as (λ s. ap (λ (x : ℕ). control0 g left R x (drop (a .i + 1) (a .b .now)) place at s) (at-match .match .keys3))
+    (at-apply3 .apply3 .ensures _ _ _ (at-escape .escape .ensures) place at)
 
 returns-4 : tie.Need-returns-4
-returns-4 c = λ g left R place at. turns-none (c .before .before .before .before .pre .1) (c .before .before .before .before .pre .0)
+returns-4 c =
+    let at-start = c .before .before .before .before in
+    λ g left R place at. turns-none (at-start .pre .1) (at-start .pre .0)
 
 same-length-4 : tie.Need-same-length-4
 same-length-4 c = search needs
 
 returns-5 : tie.Need-returns-5
 returns-5 c =
-    let a = c .before .before .before .before .before .before .before .before .before .args in
-    let m = c .before .before .before .before .before .match .rest in
+    let at-apply4 = c .before .before in
+    let at-fixed = at-apply4 .before .before in
+    let at-match = at-fixed .before in
+    let at-start = at-match .before .before .before .before in
+    let a = at-start .args in
+    let m = at-match .match .rest in
     λ g left R place at.
     turns-as
     (λ s.
@@ -94,7 +119,7 @@ returns-5 c =
       esc = m .0 .1;
       newline = λ e. m .1 (inl e);
     }))
-    (c .before .before .apply4 .ensures _ _ _ (c .before .before .before .before .fixed .ensures) place at)
+    (at-apply4 .apply4 .ensures _ _ _ (at-fixed .fixed .ensures) place at)
 
 pub control0-spec : {M : Type 1} → statement M
 control0-spec =

@@ -20,24 +20,30 @@ size-requires c κs = search needs
 
 apply-requires : tie.Need-apply-requires
 apply-requires c κs =
-    let a = c .before .before .before .before .before .before .args in
-    (c .before .size .ensures (a .b .now) (a .i) (c .before .before .before .before .before .before .pre .0) .bounded .element, c .before .before .before .before .before .before .pre .1)
+    let at-size = c .before in
+    let at-start = at-size .before .before .before .before .before in
+    let a = at-start .args in
+    (at-size .size .ensures (a .b .now) (a .i) (at-start .pre .0) .bounded .element, at-start .pre .1)
 
 size-requires-2 : tie.Need-size-requires-2
 size-requires-2 c κs = search needs
 
 apply-requires-2 : tie.Need-apply-requires-2
 apply-requires-2 c κs =
-    let a = c .before .before .before .before .before .before .args in
-    (c .before .size2 .ensures (a .b .now) (a .i) (c .before .before .before .before .before .before .pre .0) .bounded .element, c .before .before .before .before .before .before .pre .1)
+    let at-size2 = c .before in
+    let at-start = at-size2 .before .before .before .before .before in
+    let a = at-start .args in
+    (at-size2 .size2 .ensures (a .b .now) (a .i) (at-start .pre .0) .bounded .element, at-start .pre .1)
 
 size-requires-3 : tie.Need-size-requires-3
 size-requires-3 c κs = search needs
 
 apply-requires-3 : tie.Need-apply-requires-3
 apply-requires-3 c κs =
-    let a = c .before .before .before .before .before .before .args in
-    (c .before .size3 .ensures (a .b .now) (a .i) (c .before .before .before .before .before .before .pre .0) .bounded .element, c .before .before .before .before .before .before .pre .1)
+    let at-size3 = c .before in
+    let at-start = at-size3 .before .before .before .before .before in
+    let a = at-start .args in
+    (at-size3 .size3 .ensures (a .b .now) (a .i) (at-start .pre .0) .bounded .element, at-start .pre .1)
 
 szx-requires : tie.Need-szx-requires
 szx-requires c κs = search needs
@@ -75,9 +81,14 @@ same-length c = search needs
 returns : tie.Need-returns
 unfolding control1
 returns c =
-    let a = c .before .before .before .before .before .before .before .before .before .args in
+    let at-apply = c .before .before in
+    let at-size = at-apply .before .before in
+    let at-match = at-size .before in
+    let at-start = at-match .before .before .before .before in
+    let a = at-start .args in
     λ g left R place at.
-    turns-as (λ s. ap (λ (x : ℕ). control1 g left R x (drop (a .i + 1) (a .b .now)) place at s) (c .before .before .before .before .before .match .keys1)) (c .before .before .apply .ensures _ _ _ (c .before .before .before .before .size .ensures (a .b .now) (a .i) (c .before .before .before .before .before .before .before .before .before .pre .0)) place at)
+    turns-as (λ s. ap (λ (x : ℕ). control1 g left R x (drop (a .i + 1) (a .b .now)) place at s) (at-match .match .keys1))
+    (at-apply .apply .ensures _ _ _ (at-size .size .ensures (a .b .now) (a .i) (at-start .pre .0)) place at)
 
 same-length-2 : tie.Need-same-length-2
 same-length-2 c = search needs
@@ -85,9 +96,14 @@ same-length-2 c = search needs
 returns-2 : tie.Need-returns-2
 unfolding control1
 returns-2 c =
-    let a = c .before .before .before .before .before .before .before .before .before .args in
+    let at-apply2 = c .before .before in
+    let at-size2 = at-apply2 .before .before in
+    let at-match = at-size2 .before in
+    let at-start = at-match .before .before .before .before in
+    let a = at-start .args in
     λ g left R place at.
-    turns-as (λ s. ap (λ (x : ℕ). control1 g left R x (drop (a .i + 1) (a .b .now)) place at s) (c .before .before .before .before .before .match .keys2)) (c .before .before .apply2 .ensures _ _ _ (c .before .before .before .before .size2 .ensures (a .b .now) (a .i) (c .before .before .before .before .before .before .before .before .before .pre .0)) place at)
+    turns-as (λ s. ap (λ (x : ℕ). control1 g left R x (drop (a .i + 1) (a .b .now)) place at s) (at-match .match .keys2))
+    (at-apply2 .apply2 .ensures _ _ _ (at-size2 .size2 .ensures (a .b .now) (a .i) (at-start .pre .0)) place at)
 
 same-length-3 : tie.Need-same-length-3
 same-length-3 c = search needs
@@ -95,9 +111,14 @@ same-length-3 c = search needs
 returns-3 : tie.Need-returns-3
 unfolding control1
 returns-3 c =
-    let a = c .before .before .before .before .before .before .before .before .before .args in
+    let at-apply3 = c .before .before in
+    let at-size3 = at-apply3 .before .before in
+    let at-match = at-size3 .before in
+    let at-start = at-match .before .before .before .before in
+    let a = at-start .args in
     λ g left R place at.
-    turns-as (λ s. ap (λ (x : ℕ). control1 g left R x (drop (a .i + 1) (a .b .now)) place at s) (c .before .before .before .before .before .match .keys3)) (c .before .before .apply3 .ensures _ _ _ (c .before .before .before .before .size3 .ensures (a .b .now) (a .i) (c .before .before .before .before .before .before .before .before .before .pre .0)) place at)
+    turns-as (λ s. ap (λ (x : ℕ). control1 g left R x (drop (a .i + 1) (a .b .now)) place at s) (at-match .match .keys3))
+    (at-apply3 .apply3 .ensures _ _ _ (at-size3 .size3 .ensures (a .b .now) (a .i) (at-start .pre .0)) place at)
 
 same-length-4 : tie.Need-same-length-4
 same-length-4 c = search needs
@@ -105,17 +126,26 @@ same-length-4 c = search needs
 returns-4 : tie.Need-returns-4
 unfolding control1
 returns-4 c =
-    let a = c .before .before .before .before .before .before .before .before .before .args in
+    let at-apply4 = c .before .before in
+    let at-szx = at-apply4 .before .before in
+    let at-match = at-szx .before in
+    let at-start = at-match .before .before .before .before in
+    let a = at-start .args in
     λ g left R place at.
-    turns-as (λ s. ap (λ (x : ℕ). control1 g left R x (drop (a .i + 1) (a .b .now)) place at s) (c .before .before .before .before .before .match .keys4)) (c .before .before .apply4 .ensures _ _ _ (c .before .before .before .before .szx .ensures) place at)
+    turns-as (λ s. ap (λ (x : ℕ). control1 g left R x (drop (a .i + 1) (a .b .now)) place at s) (at-match .match .keys4)) (at-apply4 .apply4 .ensures _ _ _ (at-szx .szx .ensures) place at)
 
 same-length-5 : tie.Need-same-length-5
 same-length-5 c = search needs
 
 returns-5 : tie.Need-returns-5
 returns-5 c =
-    let a = c .before .before .before .before .before .before .before .before .before .args in
-    λ g left R place at. turns-as (λ s. control1-colour g left R _ (drop (a .i + 1) (a .b .now)) place at s (c .before .before .before .before .before .match .keys5)) (c .before .before .apply5 .ensures _ _ _ (c .before .before .before .before .colour .ensures) place at)
+    let at-apply5 = c .before .before in
+    let at-colour = at-apply5 .before .before in
+    let at-match = at-colour .before in
+    let at-start = at-match .before .before .before .before in
+    let a = at-start .args in
+    λ g left R place at. turns-as (λ s. control1-colour g left R _ (drop (a .i + 1) (a .b .now)) place at s (at-match .match .keys5))
+    (at-apply5 .apply5 .ensures _ _ _ (at-colour .colour .ensures) place at)
 
 same-length-6 : tie.Need-same-length-6
 same-length-6 c = search needs
@@ -123,9 +153,13 @@ same-length-6 c = search needs
 returns-6 : tie.Need-returns-6
 unfolding control1
 returns-6 c =
-    let a = c .before .before .before .before .before .before .before .before .before .args in
+    let at-apply6 = c .before .before in
+    let at-csi = at-apply6 .before .before in
+    let at-match = at-csi .before in
+    let at-start = at-match .before .before .before .before in
+    let a = at-start .args in
     λ g left R place at.
-    turns-as (λ s. ap (λ (x : ℕ). control1 g left R x (drop (a .i + 1) (a .b .now)) place at s) (c .before .before .before .before .before .match .keys6)) (c .before .before .apply6 .ensures _ _ _ (c .before .before .before .before .csi .ensures) place at)
+    turns-as (λ s. ap (λ (x : ℕ). control1 g left R x (drop (a .i + 1) (a .b .now)) place at s) (at-match .match .keys6)) (at-apply6 .apply6 .ensures _ _ _ (at-csi .csi .ensures) place at)
 
 same-length-7 : tie.Need-same-length-7
 same-length-7 c = search needs
@@ -133,21 +167,29 @@ same-length-7 c = search needs
 returns-7 : tie.Need-returns-7
 unfolding control1
 returns-7 c =
-    let a = c .before .before .before .before .before .before .before .before .before .args in
+    let at-apply7 = c .before .before in
+    let at-time = at-apply7 .before .before in
+    let at-match = at-time .before in
+    let at-start = at-match .before .before .before .before in
+    let a = at-start .args in
     λ g left R place at.
-    turns-as (λ s. ap (λ (x : ℕ). control1 g left R x (drop (a .i + 1) (a .b .now)) place at s) (c .before .before .before .before .before .match .keys7)) (c .before .before .apply7 .ensures _ _ _ (c .before .before .before .before .time .ensures) place at)
+    turns-as (λ s. ap (λ (x : ℕ). control1 g left R x (drop (a .i + 1) (a .b .now)) place at s) (at-match .match .keys7)) (at-apply7 .apply7 .ensures _ _ _ (at-time .time .ensures) place at)
 
 returns-8 : tie.Need-returns-8
-returns-8 c = λ g left R place at. turns-none (c .before .before .before .before .pre .1) (c .before .before .before .before .pre .0)
+returns-8 c =
+    let at-start = c .before .before .before .before in
+    λ g left R place at. turns-none (at-start .pre .1) (at-start .pre .0)
 
 returns-9 : tie.Need-returns-9
 returns-9 c =
-    let a = c .before .before .before .before .before .before .args in
-    let inside = c .before .before .before .before .before .before .pre .0 in
-    let p = c .before .if1 .left in
+    let at-if1 = c .before in
+    let at-start = at-if1 .before .before .before .before .before in
+    let a = at-start .args in
+    let inside = at-start .pre .0 in
+    let p = at-if1 .if1 .left in
     let q = c .if2 .taken in
     λ g left R place at.
-    turns-same (c .before .before .before .before .before .before .pre .1) (omega arith)
+    turns-same (at-start .pre .1) (omega arith)
     (λ s.
     control1-fixed g left R _ (drop (a .i + 1) (a .b .now)) place at s
     (record {
@@ -169,8 +211,12 @@ same-length-8 c = search needs
 
 returns-10 : tie.Need-returns-10
 returns-10 c =
-    let a = c .before .before .before .before .before .before .before .before .before .before .args in
-    let m = c .before .before .before .before .before .before .match .rest in
+    let at-apply8 = c .before .before in
+    let at-fixed = at-apply8 .before .before in
+    let at-match = at-fixed .before .before in
+    let at-start = at-match .before .before .before .before in
+    let a = at-start .args in
+    let m = at-match .match .rest in
     λ g left R place at.
     turns-as
     (λ s.
@@ -187,7 +233,7 @@ returns-10 c =
       csi = m .0 .0 .1;
       time = m .0 .1;
     }))
-    (c .before .before .apply8 .ensures _ _ _ (c .before .before .before .before .fixed .ensures) place at)
+    (at-apply8 .apply8 .ensures _ _ _ (at-fixed .fixed .ensures) place at)
 
 pub control1-spec : {M : Type 1} → statement M
 control1-spec =

@@ -24,7 +24,10 @@ same-length : tie.Need-same-length Inv-loop μ-loop
 same-length c = search needs
 
 returns : tie.Need-returns Inv-loop μ-loop
-returns c = controls-left (c .before .before .before .before .before .before .loop .inv) (c .before .before .before .control .ensures) (c .if1 .taken)
+returns c =
+    let at-control = c .before .before .before in
+    let at-loop = at-control .before .before .before in
+    controls-left (at-loop .loop .inv) (at-control .control .ensures) (c .if1 .taken)
 
 add-i : tie.Need-add-i Inv-loop μ-loop
 add-i c =
@@ -35,7 +38,10 @@ loop-less c = search needs
 
 loop-again : tie.Need-loop-again Inv-loop μ-loop
 loop-again c =
-    controls-more (c .before .before .before .before .before .before .loop .inv) (c .before .before .before .control .ensures) (c .if1 .left) (c .before .before .before .before .before .loop-test .taken)
+    let at-control = c .before .before .before in
+    let at-loop-test = at-control .before .before in
+    let at-loop = at-loop-test .before in
+    controls-more (at-loop .loop .inv) (at-control .control .ensures) (c .if1 .left) (at-loop-test .loop-test .taken)
 
 same-length-2 : tie.Need-same-length-2 Inv-loop μ-loop
 same-length-2 c = search needs

@@ -43,7 +43,8 @@ newline-requires c κs = search needs
 
 fixed-requires : tie.Need-fixed-requires
 fixed-requires c κs =
-    let entry = c .before .before .before .before .before .before .before in
+    let at-place = c .before .before .before .before .before .before .before in
+    let entry = at-place in
     (entry .pre .0 .0, entry .pre .1 .0)
 
 same-length : tie.Need-same-length

@@ -11,7 +11,8 @@ use Rattle.decode_steps.proofs.plain.Tie as tie
 
 returns : tie.Need-returns
 returns c =
-    let entry = c .before .before .before .before .before in
+    let at-place = c .before .before .before .before .before in
+    let entry = at-place in
     record { stretch = stretch-start _ _ _ _ _ _ _ _ (entry .pre .0 .0) (entry .pre .1); stop = c .if1 .taken }
 
 stop-at-requires : tie.Need-stop-at-requires
@@ -22,9 +23,11 @@ enum-told c = search needs
 
 returns-2 : tie.Need-returns-2
 returns-2 c =
-    let entry = c .before .before .before .before .before .before .before in
+    let at-place = c .before in
+    let at-place-2 = at-place .before .before .before .before .before .before in
+    let entry = at-place-2 in
     let a = entry .args in
-    let at-stop = c .before in
+    let at-stop = at-place in
     let n : at-stop .stop-at .result ≡ End → ⊥ =
     λ e. ⊎-elim (λ z. omega (arith, z)) (⊎-elim (λ z. omega (arith, z)) (λ z. omega (arith, z))) (rw e at (c .match .keys2)) in
     record {

@@ -93,35 +93,41 @@ add-simple c =
 
 simple-requires : tie.Need-simple-requires Inv-loop μ-loop
 simple-requires c κs =
-    let k = c .before .before .before .before .before .before in
+    let at-place = c .before .before .before in
+    let at-place-2 = at-place .before .before .before in
+    let k = at-place-2 in
     let l = k .before .before .before .before in
     let h = l .before .before in
     let a = h .before .before .before .before .before in
     let w = way-on (h .loop .inv) (l .letters .ensures (a .args .base) (a .args .origin) (h .loop .issues)) (l .letters .kept .1 .1 .1 .1 .0) in
-    let told = c .before .before .before in
+    let told = at-place in
     let v =
     subst (λ (r : Stop). Verdict r (a .args .b .now) (l .letters .result .at) (l .letters .result .core)) (told .enum-told .given .1) (told .before .before .stop-at .ensures) in
     ((k .if1 .left, a .pre .0 .1), (good-next (way-good w (a .pre .1)) (omega (arith, k .if1 .left)), v))
 
 add-i : tie.Need-add-i Inv-loop μ-loop
 add-i c =
-    let at-simple = c .before .before .before .before .before .before in
+    let at-place = c .before .before .before .before .before .before in
+    let at-simple = at-place in
     let at-test = at-simple .before .before .before .before .before .before .before in
     let entry = at-test .before .before .before .before .before .before .before .before .before .before .before in
     omega (arith, at-simple .simple .ensures 0 (λ b₁ base₁ origin₁ s₁. s₁) .within, entry .pre .0 .1)
 
 loop-less : tie.Need-loop-less Inv-loop μ-loop
 loop-less c =
-    let k = c .before .before .before .before .before .before .before .before .before .before .before .before .before in
+    let at-simple = c .before .before .before .before .before .before in
+    let at-place = at-simple .before .before .before .before .before .before .before in
+    let k = at-place in
     let l = k .before .before .before .before in
     let h = l .before .before in
     let a = h .before .before .before .before .before in
-    let step = c .before .before .before .before .before .before .simple .ensures 0 (λ b₁ base₁ origin₁ s₁. s₁) in
+    let step = at-simple .simple .ensures 0 (λ b₁ base₁ origin₁ s₁. s₁) in
     omega (arith, k .if1 .left, step .some, l .letters .ensures (a .args .base) (a .args .origin) (h .loop .issues) .past)
 
 loop-again : tie.Need-loop-again Inv-loop μ-loop
 loop-again c =
-    let p = c .before .before .before .before .before .before in
+    let at-place = c .before .before .before .before .before .before in
+    let p = at-place in
     let o = p .before .before .before in
     let k = o .before .before .before .before in
     let l = k .before .before .before .before in

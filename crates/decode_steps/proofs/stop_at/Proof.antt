@@ -22,7 +22,8 @@ cast-stop-char c = search needs
 
 stop-char-requires : tie.Need-stop-char-requires
 stop-char-requires c κs =
-    let entry = c .before .before .before .before .before .before in
+    let at-place = c .before .before .before .before .before .before in
+    let entry = at-place in
     record { element = entry .pre .1; through = inl (gl-in _ (omega arith) (omega arith), refl) }
 
 cast-stop-char-2 : tie.Need-cast-stop-char-2
@@ -30,7 +31,8 @@ cast-stop-char-2 c = search needs
 
 stop-char-requires-2 : tie.Need-stop-char-requires-2
 stop-char-requires-2 c κs =
-    let entry = c .before .before .before .before .before .before .before .before in
+    let at-place = c .before .before .before .before .before .before .before .before in
+    let entry = at-place in
     record { element = entry .pre .2; through = inr (gl-above _ (omega arith), gr-in _ (omega arith) (omega arith), refl) }
 
 returns : tie.Need-returns
@@ -44,12 +46,14 @@ returns-3 c = search needs
 
 returns-4 : tie.Need-returns-4
 returns-4 c =
-    let entry = c .before .before .before .before .before .before .before in
+    let at-place = c .before .before .before .before .before .before .before in
+    let entry = at-place in
     c .stop-char .ensures (entry .args .b .now) (entry .args .i) (entry .pre .0) refl
 
 returns-5 : tie.Need-returns-5
 returns-5 c =
-    let entry = c .before .before .before .before .before .before .before .before .before in
+    let at-place = c .before .before .before .before .before .before .before .before .before in
+    let entry = at-place in
     c .stop-char2 .ensures (entry .args .b .now) (entry .args .i) (entry .pre .0) refl
 
 returns-6 : tie.Need-returns-6
@@ -60,14 +64,18 @@ returns-6 c =
 
 returns-7 : tie.Need-returns-7
 returns-7 c =
-    let a = c .before .before .before .before .before .before .args in
-    let rest = c .before .before .before .match .rest in
+    let at-match = c .before .before .before in
+    let at-start = at-match .before .before .before in
+    let a = at-start .args in
+    let rest = at-match .match .rest in
     passes-other (a .b .now) (a .i) (a .s) (gl-above _ (omega arith)) (gr-below _ (omega arith)) (rest .0 .0 .1) (rest .0 .1) (rest .1)
 
 returns-8 : tie.Need-returns-8
 returns-8 c =
-    let a = c .before .before .before .before .before .before .before .args in
-    let rest = c .before .before .before .before .match .rest in
+    let at-match = c .before .before .before .before in
+    let at-start = at-match .before .before .before in
+    let a = at-start .args in
+    let rest = at-match .match .rest in
     passes-other (a .b .now) (a .i) (a .s) (gl-above _ (omega arith)) (gr-above _ (omega arith)) (rest .0 .0 .1) (rest .0 .1) (rest .1)
 
 pub stop-at-spec : {M : Type 1} → statement M

@@ -11,16 +11,18 @@ array-read-if1 c = search needs
 
 returns : tie.Need-returns
 returns c =
-    let a = c .before .before .before .args in
-    passes-shift (a .b .now) (a .i) (a .s) (a .e) (c .before .before .before .pre .2) (λ s l g. c .if1 .taken s)
+    let at-start = c .before .before .before in
+    let a = at-start .args in
+    passes-shift (a .b .now) (a .i) (a .s) (a .e) (at-start .pre .2) (λ s l g. c .if1 .taken s)
 
 add-if2 : tie.Need-add-if2
 add-if2 c = search needs
 
 returns-2 : tie.Need-returns-2
 returns-2 c =
-    let a = c .before .before .before .before .args in
-    passes-shift (a .b .now) (a .i) (a .s) (a .e) (c .before .before .before .before .pre .2) (λ s l g. omega (arith, c .if2 .taken))
+    let at-start = c .before .before .before .before in
+    let a = at-start .args in
+    passes-shift (a .b .now) (a .i) (a .s) (a .e) (at-start .pre .2) (λ s l g. omega (arith, c .if2 .taken))
 
 add-is-graphic : tie.Need-add-is-graphic
 add-is-graphic c = search needs
@@ -44,8 +46,10 @@ returns-3 c =
 
 returns-4 : tie.Need-returns-4
 returns-4 c =
-    let a = c .before .before .before .before .before .before .before .args in
-    passes-shift (a .b .now) (a .i) (a .s) (a .e) (c .before .before .before .before .before .before .before .pre .2) (λ s l g. never g (sym (c .before .is-graphic .ensures) ∙ c .if3 .left))
+    let at-is-graphic = c .before in
+    let at-start = at-is-graphic .before .before .before .before .before .before in
+    let a = at-start .args in
+    passes-shift (a .b .now) (a .i) (a .s) (a .e) (at-start .pre .2) (λ s l g. never g (sym (at-is-graphic .is-graphic .ensures) ∙ c .if3 .left))
 
 pub stop-shift-spec : {M : Type 1} → statement M
 stop-shift-spec =

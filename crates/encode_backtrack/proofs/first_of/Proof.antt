@@ -37,7 +37,13 @@ shared-slice-read-if1 c = omega (arith, c .before .before .before .good)
 
 returns : tie.Need-returns Inv-loop μ-loop
 unfolding nodeOf
-returns c = λ cs. passed-here _ _ (c .before .before .before .loop .i) (omega (arith, length-layer (c .before .before .before .before .args .store .now) (c .before .before .before .before .args .from) (c .before .before .before .before .args .count) (c .before .before .before .before .pre) cs)) (ap (λ (n : Node). n .cost) (at-layer (c .before .before .before .before .args .store .now) (c .before .before .before .before .args .from) (c .before .before .before .before .args .count) (c .before .before .before .before .pre) cs (c .before .before .before .loop .i) (c .before .before .loop-test .taken)) ∙ c .if1 .taken) (c .before .before .before .loop .inv .1 cs)
+returns c =
+    let at-loop-test = c .before .before in
+    let at-loop = at-loop-test .before in
+    let at-start = at-loop .before in
+    λ cs. passed-here _ _ (at-loop .loop .i) (omega (arith, length-layer (at-start .args .store .now) (at-start .args .from) (at-start .args .count) (at-start .pre) cs))
+    (ap (λ (n : Node). n .cost) (at-layer (at-start .args .store .now) (at-start .args .from) (at-start .args .count) (at-start .pre) cs (at-loop .loop .i)
+    (at-loop-test .loop-test .taken)) ∙ c .if1 .taken) (at-loop .loop .inv .1 cs)
 
 add-i : tie.Need-add-i Inv-loop μ-loop
 add-i c = omega (arith, c .before .before .before .before .good)
@@ -47,10 +53,24 @@ loop-less c = omega (arith, c .before .before .before .before .good)
 
 loop-again : tie.Need-loop-again Inv-loop μ-loop
 unfolding nodeOf
-loop-again c = (omega arith, λ cs. passed-on _ _ (c .before .before .before .loop .i) (omega (arith, length-layer (c .before .before .before .before .args .store .now) (c .before .before .before .before .args .from) (c .before .before .before .before .args .count) (c .before .before .before .before .pre) cs)) (λ e. c .if1 .left (sym (ap (λ (n : Node). n .cost) (at-layer (c .before .before .before .before .args .store .now) (c .before .before .before .before .args .from) (c .before .before .before .before .args .count) (c .before .before .before .before .pre) cs (c .before .before .before .loop .i) (c .before .before .loop-test .taken))) ∙ e)) (c .before .before .before .loop .inv .1 cs))
+loop-again c =
+    let at-loop-test = c .before .before in
+    let at-loop = at-loop-test .before in
+    let at-start = at-loop .before in (
+      omega arith,
+      λ cs. passed-on _ _ (at-loop .loop .i) (omega
+          (arith, length-layer (at-start .args .store .now) (at-start .args .from) (at-start .args .count) (at-start .pre) cs))
+          (λ e. c .if1 .left (sym (ap (λ (n : Node). n .cost) (at-layer (at-start .args .store .now) (at-start .args .from) (at-start .args .count) (at-start .pre) cs
+          (at-loop .loop .i) (at-loop-test .loop-test .taken))) ∙ e)) (at-loop .loop .inv .1 cs),
+    )
 
 returns-2 : tie.Need-returns-2 Inv-loop μ-loop
-returns-2 c = λ cs. passed-all _ _ (c .before .loop .i) (omega (arith, length-layer (c .before .before .args .store .now) (c .before .before .args .from) (c .before .before .args .count) (c .before .before .pre) cs)) (c .before .loop .inv .1 cs)
+returns-2 c =
+    λ cs. passed-all _ _ (c .before .loop .i) (omega (
+      arith,
+      length-layer (c .before .before .args .store .now) (c .before .before .args .from)
+          (c .before .before .args .count) (c .before .before .pre) cs,
+    )) (c .before .loop .inv .1 cs)
 
 pub first-of-spec : {M : Type 1} → statement M
 first-of-spec =

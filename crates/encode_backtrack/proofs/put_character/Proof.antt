@@ -26,7 +26,10 @@ element-copy-out-code : tie.Need-element-copy-out-code
 element-copy-out-code c = search needs
 
 cast-put-plain : tie.Need-cast-put-plain
-cast-put-plain c = let q : FitsAt (c .before .before .before .before .before .before .args .t3) (c .before .before .before .before .before .before .args .how % 16) = c .before .before .before .before .before .before .pre .1 .fits (c .before .before .before .before .before .before .args .how % 16) (omega arith) in omega (arith, q .plain (c .before .if2 .taken))
+cast-put-plain c =
+    let at-if2 = c .before in
+    let at-start = at-if2 .before .before .before .before .before in
+    let q : FitsAt (at-start .args .t3) (at-start .args .how % 16) = at-start .pre .1 .fits (at-start .args .how % 16) (omega arith) in omega (arith, q .plain (at-if2 .if2 .taken))
 
 put-plain-requires : tie.Need-put-plain-requires
 put-plain-requires c κs = search needs
@@ -35,21 +38,34 @@ same-length : tie.Need-same-length
 same-length c = search needs
 
 returns-2 : tie.Need-returns-2
-returns-2 c = c .before .before .put-plain .ensures (getD (c .before .before .before .before .before .before .before .before .before .args .t3 .sizes) (c .before .before .before .before .before .before .before .before .before .args .how % 16) 0) .written ∙ ap (sets (c .before .before .before .before .before .before .before .before .before .args .coding .now) (c .before .before .before .before .before .before .before .before .before .args .at)) (written-plain (c .before .before .before .before .before .before .before .before .before .args .t3) (c .before .before .before .before .before .before .before .before .before .args .how) (omega arith) (c .before .before .before .before .if2 .taken))
+returns-2 c =
+    let at-put-plain = c .before .before in
+    let at-if2 = at-put-plain .before .before in
+    let at-start = at-if2 .before .before .before .before .before in
+    at-put-plain .put-plain .ensures (getD (at-start .args .t3 .sizes) (at-start .args .how % 16) 0) .written ∙
+    ap (sets (at-start .args .coding .now) (at-start .args .at)) (written-plain (at-start .args .t3) (at-start .args .how) (omega arith) (at-if2 .if2 .taken))
 
 cast-put-graphic : tie.Need-cast-put-graphic
 cast-put-graphic c = search needs
 
 put-graphic-requires : tie.Need-put-graphic-requires
-put-graphic-requires c κs = let q : FitsAt (c .before .before .before .before .before .before .args .t3) (c .before .before .before .before .before .before .args .how % 16) = c .before .before .before .before .before .before .pre .1 .fits (c .before .before .before .before .before .before .args .how % 16) (omega arith) in (c .before .before .before .before .before .before .pre .0, omega (arith, q .set, c .before .if2 .left), q .row, q .last)
+put-graphic-requires c κs =
+    let at-if2 = c .before in
+    let at-start = at-if2 .before .before .before .before .before in
+    let q : FitsAt (at-start .args .t3) (at-start .args .how % 16) = at-start .pre .1 .fits (at-start .args .how % 16) (omega arith) in
+    (at-start .pre .0, omega (arith, q .set, at-if2 .if2 .left), q .row, q .last)
 
 same-length-2 : tie.Need-same-length-2
 same-length-2 c = search needs
 
 returns-3 : tie.Need-returns-3
 returns-3 c =
-    let a = c .before .before .before .before .before .before .before .before .before .args in
-    c .before .before .put-graphic .ensures (getD (a .t3 .sizes) (a .how % 16) 0) .written ∙ ap (sets (a .coding .now) (a .at)) (written-graphic (a .t3) (a .how) (omega arith) (c .before .before .before .before .if2 .left))
+    let at-put-graphic = c .before .before in
+    let at-if2 = at-put-graphic .before .before in
+    let at-start = at-if2 .before .before .before .before .before in
+    let a = at-start .args in
+    at-put-graphic .put-graphic .ensures (getD (a .t3 .sizes) (a .how % 16) 0) .written ∙
+    ap (sets (a .coding .now) (a .at)) (written-graphic (a .t3) (a .how) (omega arith) (at-if2 .if2 .left))
 
 pub put-character-spec : {M : Type 1} → statement M
 put-character-spec =

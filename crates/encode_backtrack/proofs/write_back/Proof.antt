@@ -16,101 +16,187 @@ use Rattle.encode_backtrack.proofs.write_back.Tie as tie
 
 abbrev Inv-loop : tie.InvT-loop
 Inv-loop chars kanji symbols annex n store from i coding₀ k₀ p₀ coding k p =
-    (k ≤ n) × (length coding ≡ length coding₀) × ((f : Searched annex chars kanji symbols n store from i) → Going (f .css) store k p coding₀ coding (back (run (f .css) (begin (f .initial)) .layers) i []))
+    (k ≤ n) × (length coding ≡ length coding₀) × ((f : Searched annex chars kanji symbols n store from i) →
+    Going (f .css) store k p coding₀ coding (back (run (f .css) (begin (f .initial)) .layers) i []))
 
 abbrev μ-loop : tie.MeasureT-loop
 μ-loop chars kanji symbols annex n store from i coding₀ k₀ p₀ coding k p = k
 
 add-p : tie.Need-add-p Inv-loop μ-loop
-add-p c = omega (arith, c .before .before .before .before .before .pre .1 .fits, c .before .before .before .before .before .pre .1 .node)
+add-p c =
+    let at-start = c .before .before .before .before .before in
+    omega (arith, at-start .pre .1 .fits, at-start .pre .1 .node)
 
 loop-holds : tie.Need-loop-holds Inv-loop μ-loop
-loop-holds c = (omega arith, refl, λ f. going-start f (c .before .before .before .before .before .args .coding .now))
+loop-holds c =
+    let at-start = c .before .before .before .before .before in
+    (omega arith, refl, λ f. going-start f (at-start .args .coding .now))
 
 sub-k : tie.Need-sub-k Inv-loop μ-loop
 sub-k c = omega arith
 
 mul-link : tie.Need-mul-link Inv-loop μ-loop
-mul-link c = omega (arith, c .before .before .before .before .before .before .before .good, going-fits (c .before .loop .inv .2 (c .before .before .before .before .before .before .before .pre .1)))
+mul-link c =
+    let at-loop = c .before in
+    let at-start = at-loop .before .before .before .before .before .before in
+    omega (arith, at-start .good, going-fits (at-loop .loop .inv .2 (at-start .pre .1)))
 
 add-link : tie.Need-add-link Inv-loop μ-loop
-add-link c = omega (arith, c .before .before .before .before .before .before .before .good, going-fits (c .before .loop .inv .2 (c .before .before .before .before .before .before .before .pre .1)))
+add-link c =
+    let at-loop = c .before in
+    let at-start = at-loop .before .before .before .before .before .before in
+    omega (arith, at-start .good, going-fits (at-loop .loop .inv .2 (at-start .pre .1)))
 
 mul-link-2 : tie.Need-mul-link-2 Inv-loop μ-loop
-mul-link-2 c = omega (arith, c .before .before .before .before .before .before .before .good, going-fits (c .before .loop .inv .2 (c .before .before .before .before .before .before .before .pre .1)))
+mul-link-2 c =
+    let at-loop = c .before in
+    let at-start = at-loop .before .before .before .before .before .before in
+    omega (arith, at-start .good, going-fits (at-loop .loop .inv .2 (at-start .pre .1)))
 
 shared-slice-read-link : tie.Need-shared-slice-read-link Inv-loop μ-loop
-shared-slice-read-link c = omega (arith, c .before .before .before .before .before .before .before .before .good, going-fits (c .before .before .loop .inv .2 (c .before .before .before .before .before .before .before .before .pre .1)))
+shared-slice-read-link c =
+    let at-loop = c .before .before in
+    let at-start = at-loop .before .before .before .before .before .before in
+    omega (arith, at-start .good, going-fits (at-loop .loop .inv .2 (at-start .pre .1)))
 
 mul-before : tie.Need-mul-before Inv-loop μ-loop
-mul-before c = omega (arith, c .before .before .before .before .before .before .before .before .good, going-fits (c .before .before .loop .inv .2 (c .before .before .before .before .before .before .before .before .pre .1)))
+mul-before c =
+    let at-loop = c .before .before in
+    let at-start = at-loop .before .before .before .before .before .before in
+    omega (arith, at-start .good, going-fits (at-loop .loop .inv .2 (at-start .pre .1)))
 
 add-before : tie.Need-add-before Inv-loop μ-loop
-add-before c = omega (arith, c .before .before .before .before .before .before .before .before .good, going-fits (c .before .before .loop .inv .2 (c .before .before .before .before .before .before .before .before .pre .1)))
+add-before c =
+    let at-loop = c .before .before in
+    let at-start = at-loop .before .before .before .before .before .before in
+    omega (arith, at-start .good, going-fits (at-loop .loop .inv .2 (at-start .pre .1)))
 
 mul-before-2 : tie.Need-mul-before-2 Inv-loop μ-loop
-mul-before-2 c = omega (arith, c .before .before .before .before .before .before .before .before .good, going-fits (c .before .before .loop .inv .2 (c .before .before .before .before .before .before .before .before .pre .1)))
+mul-before-2 c =
+    let at-loop = c .before .before in
+    let at-start = at-loop .before .before .before .before .before .before in
+    omega (arith, at-start .good, going-fits (at-loop .loop .inv .2 (at-start .pre .1)))
 
 shared-slice-read-before : tie.Need-shared-slice-read-before Inv-loop μ-loop
-shared-slice-read-before c = omega (arith, c .before .before .before .before .before .before .before .before .before .good, going-fits (c .before .before .before .loop .inv .2 (c .before .before .before .before .before .before .before .before .before .pre .1)))
+shared-slice-read-before c =
+    let at-loop = c .before .before .before in
+    let at-start = at-loop .before .before .before .before .before .before in
+    omega (arith, at-start .good, going-fits (at-loop .loop .inv .2 (at-start .pre .1)))
 
 cast-before : tie.Need-cast-before Inv-loop μ-loop
-cast-before c = let b = going-before (c .before .before .before .loop .k - 1) (omega (arith, c .before .before .loop-test .taken)) (c .before .before .before .loop .inv .2 (c .before .before .before .before .before .before .before .before .before .pre .1)) in omega (arith, c .before .before .before .before .before .before .before .before .before .good, b)
+cast-before c =
+    let at-loop-test = c .before .before in
+    let at-loop = at-loop-test .before in
+    let at-start = at-loop .before .before .before .before .before .before in
+    let b = going-before (at-loop .loop .k - 1) (omega (arith, at-loop-test .loop-test .taken)) (at-loop .loop .inv .2 (at-start .pre .1)) in omega (arith, at-start .good, b)
 
 cast-before-2 : tie.Need-cast-before-2 Inv-loop μ-loop
 cast-before-2 c = search needs
 
 add-before-2 : tie.Need-add-before-2 Inv-loop μ-loop
-add-before-2 c = let b = going-before (c .before .before .before .loop .k - 1) (omega (arith, c .before .before .loop-test .taken)) (c .before .before .before .loop .inv .2 (c .before .before .before .before .before .before .before .before .before .pre .1)) in omega (arith, c .before .before .before .before .before .before .before .before .before .good, b)
+add-before-2 c =
+    let at-loop-test = c .before .before in
+    let at-loop = at-loop-test .before in
+    let at-start = at-loop .before .before .before .before .before .before in
+    let b = going-before (at-loop .loop .k - 1) (omega (arith, at-loop-test .loop-test .taken)) (at-loop .loop .inv .2 (at-start .pre .1)) in omega (arith, at-start .good, b)
 
 mul-cost : tie.Need-mul-cost Inv-loop μ-loop
-mul-cost c = let b = going-before (c .before .before .before .loop .k - 1) (omega (arith, c .before .before .loop-test .taken)) (c .before .before .before .loop .inv .2 (c .before .before .before .before .before .before .before .before .before .pre .1)) in omega (arith, c .before .before .before .before .before .before .before .before .before .good, b)
+mul-cost c =
+    let at-loop-test = c .before .before in
+    let at-loop = at-loop-test .before in
+    let at-start = at-loop .before .before .before .before .before .before in
+    let b = going-before (at-loop .loop .k - 1) (omega (arith, at-loop-test .loop-test .taken)) (at-loop .loop .inv .2 (at-start .pre .1)) in omega (arith, at-start .good, b)
 
 add-cost : tie.Need-add-cost Inv-loop μ-loop
-add-cost c = let b = going-before (c .before .before .before .loop .k - 1) (omega (arith, c .before .before .loop-test .taken)) (c .before .before .before .loop .inv .2 (c .before .before .before .before .before .before .before .before .before .pre .1)) in omega (arith, c .before .before .before .before .before .before .before .before .before .good, b)
+add-cost c =
+    let at-loop-test = c .before .before in
+    let at-loop = at-loop-test .before in
+    let at-start = at-loop .before .before .before .before .before .before in
+    let b = going-before (at-loop .loop .k - 1) (omega (arith, at-loop-test .loop-test .taken)) (at-loop .loop .inv .2 (at-start .pre .1)) in omega (arith, at-start .good, b)
 
 mul-cost-2 : tie.Need-mul-cost-2 Inv-loop μ-loop
-mul-cost-2 c = let b = going-before (c .before .before .before .loop .k - 1) (omega (arith, c .before .before .loop-test .taken)) (c .before .before .before .loop .inv .2 (c .before .before .before .before .before .before .before .before .before .pre .1)) in omega (arith, c .before .before .before .before .before .before .before .before .before .good, b)
+mul-cost-2 c =
+    let at-loop-test = c .before .before in
+    let at-loop = at-loop-test .before in
+    let at-start = at-loop .before .before .before .before .before .before in
+    let b = going-before (at-loop .loop .k - 1) (omega (arith, at-loop-test .loop-test .taken)) (at-loop .loop .inv .2 (at-start .pre .1)) in omega (arith, at-start .good, b)
 
 shared-slice-read-cost : tie.Need-shared-slice-read-cost Inv-loop μ-loop
-shared-slice-read-cost c = let b = going-before (c .before .before .before .before .loop .k - 1) (omega (arith, c .before .before .before .loop-test .taken)) (c .before .before .before .before .loop .inv .2 (c .before .before .before .before .before .before .before .before .before .before .pre .1)) in omega (arith, c .before .before .before .before .before .before .before .before .before .before .good, b)
+shared-slice-read-cost c =
+    let at-loop-test = c .before .before .before in
+    let at-loop = at-loop-test .before in
+    let at-start = at-loop .before .before .before .before .before .before in
+    let b = going-before (at-loop .loop .k - 1) (omega (arith, at-loop-test .loop-test .taken)) (at-loop .loop .inv .2 (at-start .pre .1)) in omega (arith, at-start .good, b)
 
 mul-candidates : tie.Need-mul-candidates Inv-loop μ-loop
-mul-candidates c = omega (arith, c .before .before .before .before .before .before .before .before .before .before .good, c .before .before .before .before .before .before .before .before .before .before .pre .0 .chars, c .before .before .before .before .before .before .before .before .before .before .pre .0 .kanji, c .before .before .before .before .before .before .before .before .before .before .pre .0 .symbols)
+mul-candidates c =
+    let at-start = c .before .before .before .before .before .before .before .before .before .before in
+    omega (arith, at-start .good, at-start .pre .0 .chars, at-start .pre .0 .kanji, at-start .pre .0 .symbols)
 
 shared-slice-read-candidates : tie.Need-shared-slice-read-candidates Inv-loop μ-loop
-shared-slice-read-candidates c = omega (arith, c .before .before .before .before .before .before .before .before .before .before .before .good, c .before .before .before .before .before .before .before .before .before .before .before .pre .0 .chars, c .before .before .before .before .before .before .before .before .before .before .before .pre .0 .kanji, c .before .before .before .before .before .before .before .before .before .before .before .pre .0 .symbols)
+shared-slice-read-candidates c =
+    let at-start = c .before .before .before .before .before .before .before .before .before .before .before in
+    omega (arith, at-start .good, at-start .pre .0 .chars, at-start .pre .0 .kanji, at-start .pre .0 .symbols)
 
 mul-candidates-2 : tie.Need-mul-candidates-2 Inv-loop μ-loop
-mul-candidates-2 c = omega (arith, c .before .before .before .before .before .before .before .before .before .before .before .good, c .before .before .before .before .before .before .before .before .before .before .before .pre .0 .chars, c .before .before .before .before .before .before .before .before .before .before .before .pre .0 .kanji, c .before .before .before .before .before .before .before .before .before .before .before .pre .0 .symbols)
+mul-candidates-2 c =
+    let at-start = c .before .before .before .before .before .before .before .before .before .before .before in
+    omega (arith, at-start .good, at-start .pre .0 .chars, at-start .pre .0 .kanji, at-start .pre .0 .symbols)
 
 shared-slice-read-candidates-2 : tie.Need-shared-slice-read-candidates-2 Inv-loop μ-loop
-shared-slice-read-candidates-2 c = omega (arith, c .before .before .before .before .before .before .before .before .before .before .before .before .good, c .before .before .before .before .before .before .before .before .before .before .before .before .pre .0 .chars, c .before .before .before .before .before .before .before .before .before .before .before .before .pre .0 .kanji, c .before .before .before .before .before .before .before .before .before .before .before .before .pre .0 .symbols)
+shared-slice-read-candidates-2 c =
+    let at-start = c .before .before .before .before .before .before .before .before .before .before .before .before in
+    omega (arith, at-start .good, at-start .pre .0 .chars, at-start .pre .0 .kanji, at-start .pre .0 .symbols)
 
 mul-candidates-3 : tie.Need-mul-candidates-3 Inv-loop μ-loop
-mul-candidates-3 c = omega (arith, c .before .before .before .before .before .before .before .before .before .before .before .before .good, c .before .before .before .before .before .before .before .before .before .before .before .before .pre .0 .chars, c .before .before .before .before .before .before .before .before .before .before .before .before .pre .0 .kanji, c .before .before .before .before .before .before .before .before .before .before .before .before .pre .0 .symbols)
+mul-candidates-3 c =
+    let at-start = c .before .before .before .before .before .before .before .before .before .before .before .before in
+    omega (arith, at-start .good, at-start .pre .0 .chars, at-start .pre .0 .kanji, at-start .pre .0 .symbols)
 
 shared-slice-read-candidates-3 : tie.Need-shared-slice-read-candidates-3 Inv-loop μ-loop
-shared-slice-read-candidates-3 c = omega (arith, c .before .before .before .before .before .before .before .before .before .before .before .before .before .good, c .before .before .before .before .before .before .before .before .before .before .before .before .before .pre .0 .chars, c .before .before .before .before .before .before .before .before .before .before .before .before .before .pre .0 .kanji, c .before .before .before .before .before .before .before .before .before .before .before .before .before .pre .0 .symbols)
+shared-slice-read-candidates-3 c =
+    let at-start = c .before .before .before .before .before .before .before .before .before .before .before .before .before in
+    omega (arith, at-start .good, at-start .pre .0 .chars, at-start .pre .0 .kanji, at-start .pre .0 .symbols)
 
 candidates-requires : tie.Need-candidates-requires Inv-loop μ-loop
 candidates-requires c κs = search needs
 
 cast-put-character : tie.Need-cast-put-character Inv-loop μ-loop
-cast-put-character c = omega (arith, c .before .before .before .before .before .shared-slice-known7 .given (beforeOf (c .before .before .before .before .before .before .before .before .before .before .before .before .before .before .before .args .store .now) (c .before .before .before .before .before .before .before .before .before .loop .p) * 4 + 1))
+cast-put-character c =
+    let at-shared-slice-known7 = c .before .before .before .before .before in
+    let at-loop = at-shared-slice-known7 .before .before .before .before in
+    let at-start = at-loop .before .before .before .before .before .before in
+    omega (arith, at-shared-slice-known7 .shared-slice-known7 .given (beforeOf (at-start .args .store .now) (at-loop .loop .p) * 4 + 1))
 
 put-character-requires : tie.Need-put-character-requires Inv-loop μ-loop
-put-character-requires c κs = let k = c .before .candidates .ensures in (omega (arith, c .before .before .before .before .before .shared-slice-known7 .given (beforeOf (c .before .before .before .before .before .before .before .before .before .before .before .before .before .before .before .args .store .now) (c .before .before .before .before .before .before .before .before .before .loop .p) * 4 + 1)), record { few = k .few; fits = k .fits })
+put-character-requires c κs =
+    let at-candidates = c .before in
+    let at-shared-slice-known7 = at-candidates .before .before .before .before in
+    let at-loop = at-shared-slice-known7 .before .before .before .before in
+    let at-start = at-loop .before .before .before .before .before .before in
+    let k = at-candidates .candidates .ensures in (
+      omega (
+        arith,
+        at-shared-slice-known7 .shared-slice-known7 .given (beforeOf (at-start .args .store .now) (at-loop .loop .p) * 4 + 1),
+      ),
+      record { few = k .few; fits = k .fits },
+    )
 
 loop-less : tie.Need-loop-less Inv-loop μ-loop
 loop-less c = omega arith
 
 loop-again : tie.Need-loop-again Inv-loop μ-loop
-loop-again c = (
-  omega arith,
-  ap length (c .before .before .put-character .ensures) ∙ length-sets _ (costOf (c .before .before .before .before .before .before .before .before .before .before .before .before .before .before .before .before .before .before .args .store .now) (beforeOf (c .before .before .before .before .before .before .before .before .before .before .before .before .before .before .before .before .before .before .args .store .now) (c .before .before .before .before .before .before .before .before .before .before .before .before .loop .p))) (written (candsOf (c .before .before .before .before .candidates .result)) (howOf (c .before .before .before .before .before .before .before .before .before .before .before .before .before .before .before .before .before .before .args .store .now) (c .before .before .before .before .before .before .before .before .before .before .before .before .loop .p))) ∙ c .before .before .before .before .before .before .before .before .before .before .before .before .loop .inv .1,
-  λ f. going-on (c .before .before .before .before .candidates .result) (c .before .before .before .before .before .before .before .before .before .before .before .before .loop .k - 1) (omega arith) (f .chosen (c .before .before .before .before .before .before .before .before .before .before .before .before .loop .k - 1) (omega arith)) (c .before .before .before .before .candidates .ensures) (c .before .before .put-character .ensures) (c .before .before .before .before .before .before .before .before .before .before .before .before .loop .inv .2 f),
-)
+loop-again c =
+    let at-put-character = c .before .before in
+    let at-candidates = at-put-character .before .before in
+    let at-loop = at-candidates .before .before .before .before .before .before .before .before in
+    let at-start = at-loop .before .before .before .before .before .before in (
+      omega arith,
+      ap length (at-put-character .put-character .ensures) ∙ length-sets _ (costOf (at-start .args .store .now) (beforeOf (at-start .args .store .now) (at-loop .loop .p)))
+          (written (candsOf (at-candidates .candidates .result)) (howOf (at-start .args .store .now) (at-loop .loop .p))) ∙ at-loop .loop .inv .1,
+      λ f. going-on (at-candidates .candidates .result) (at-loop .loop .k - 1) (omega arith) (f .chosen (at-loop .loop .k - 1) (omega arith)) (at-candidates .candidates .ensures)
+          (at-put-character .put-character .ensures) (at-loop .loop .inv .2 f),
+    )
 
 same-length : tie.Need-same-length Inv-loop μ-loop
 same-length c = c .before .loop .inv .1

@@ -40,15 +40,19 @@ own c = c .pack .ensures ∙ ap packed (c .before .mark-cell .ensures)
 returns-2 : tie.Need-returns-2
 unfolding setOf
 returns-2 c =
-    let z = c .before .before .before .before .before .args in
+    let at-if2 = c .before in
+    let at-place = at-if2 .before in
+    let at-if1 = at-place .before .before in
+    let at-start = at-if1 .before in
+    let z = at-start .args in
     let a = c .with-cell .ensures in
-    let o = own (c .before .before) in
+    let o = own (at-place) in
     record {
       few = omega (arith, a .count);
       fits = a .good .fits;
       list = λ cells e f.
           alone (cell-more a (cellWith nonSpacing (z .c)) (mark-grid (z .c)) o)
-          ∙ at-mark cells (z .annex) (z .c) (c .before .before .before .before .if1 .left) (is-mark (z .c) (λ q. c .before .if2 .taken (o ∙ q)));
+          ∙ at-mark cells (z .annex) (z .c) (at-if1 .if1 .left) (is-mark (z .c) (λ q. at-if2 .if2 .taken (o ∙ q)));
     }
 
 letters-requires : tie.Need-letters-requires
@@ -56,15 +60,19 @@ letters-requires c κs = search needs
 
 returns-3 : tie.Need-returns-3
 returns-3 c =
-    let z = c .before .before .before .before .before .args in
+    let at-if2 = c .before in
+    let at-place = at-if2 .before in
+    let at-if1 = at-place .before .before in
+    let at-start = at-if1 .before in
+    let z = at-start .args in
     let a = c .letters .ensures in
-    let o = own (c .before .before) in
+    let o = own (at-place) in
     record {
       few = a .few;
       fits = a .fits;
       list = λ cells e f.
           a .list cells e f
-          ∙ at-letter cells (z .annex) (z .c) (c .before .before .before .before .if1 .left) (no-mark (z .c) (sym o ∙ c .before .if2 .left));
+          ∙ at-letter cells (z .annex) (z .c) (at-if1 .if1 .left) (no-mark (z .c) (sym o ∙ at-if2 .if2 .left));
     }
 
 pub candidates-spec : {M : Type 1} → statement M

@@ -60,19 +60,27 @@ with-space-requires c κs = (omega (arith, count7 c), c .with-code4 .ensures .go
 returns : tie.Need-returns
 unfolding letters setOf
 returns c =
-    let z = c .before .before .before .before .before .before .before .before .args in
+    let at-with-code4 = c .before in
+    let at-with-cell2 = at-with-code4 .before in
+    let at-with-cell = at-with-cell2 .before in
+    let at-with-half = at-with-cell .before in
+    let at-with-code3 = at-with-half .before in
+    let at-with-code2 = at-with-code3 .before in
+    let at-with-code = at-with-code2 .before in
+    let at-start = at-with-code .before in
+    let z = at-start .args in
     record {
       few = omega (arith, count8 c);
       fits = c .with-space .ensures .good .fits;
       list = λ cells e f.
           alone
-          (then (c .before .before .before .before .before .before .before .with-code .ensures)
-          (then (c .before .before .before .before .before .before .with-code2 .ensures)
-          (then (c .before .before .before .before .before .with-code3 .ensures)
-          (then (c .before .before .before .before .with-half .ensures)
-          (then (cell-more (c .before .before .before .with-cell .ensures) (kanjiReverse cells (z .c)) (kanji-grid cells (z .c)) e)
-          (then (cell-more (c .before .before .with-cell2 .ensures) (additionalReverse (z .c)) (symbol-grid (z .c)) f)
-          (then (c .before .with-code4 .ensures) (c .with-space .ensures))))))));
+          (then (at-with-code .with-code .ensures)
+          (then (at-with-code2 .with-code2 .ensures)
+          (then (at-with-code3 .with-code3 .ensures)
+          (then (at-with-half .with-half .ensures)
+          (then (cell-more (at-with-cell .with-cell .ensures) (kanjiReverse cells (z .c)) (kanji-grid cells (z .c)) e)
+          (then (cell-more (at-with-cell2 .with-cell2 .ensures) (additionalReverse (z .c)) (symbol-grid (z .c)) f)
+          (then (at-with-code4 .with-code4 .ensures) (c .with-space .ensures))))))));
     }
 
 pub letters-spec : {M : Type 1} → statement M

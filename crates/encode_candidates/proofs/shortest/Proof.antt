@@ -65,11 +65,15 @@ element-copy-out-if2 c = omega (arith, c .before .before .before .before .pre)
 
 returns-2 : tie.Need-returns-2 Inv-loop μ-loop
 returns-2 c =
-    let l = c .before .before .before .before .before in
-    one (l .before .args .t1) (l .loop .i) (c .before .before .before .before .loop-test .taken) (byte (l .before .args .t1) (l .loop .i) (c .if2 .taken))
+    let at-loop-test = c .before .before .before .before in
+    let at-place = at-loop-test .before in
+    let l = at-place in
+    one (l .before .args .t1) (l .loop .i) (at-loop-test .loop-test .taken) (byte (l .before .args .t1) (l .loop .i) (c .if2 .taken))
 
 add-i : tie.Need-add-i Inv-loop μ-loop
-add-i c = record { fits = omega (arith, c .before .before .before .before .before .before .pre) }
+add-i c =
+    let at-start = c .before .before .before .before .before .before in
+    record { fits = omega (arith, at-start .pre) }
 
 loop-less : tie.Need-loop-less Inv-loop μ-loop
 loop-less c = omega arith
@@ -77,9 +81,11 @@ loop-less c = omega arith
 loop-again : tie.Need-loop-again Inv-loop μ-loop
 unfolding candAt
 loop-again c =
-    let l = c .before .before .before .before .before in
+    let at-if1 = c .before .before in
+    let at-place = at-if1 .before .before .before in
+    let l = at-place in
     let k = l .before .args .t1 in
-    (omega arith, more k (l .loop .i) (l .loop .inv .1) (of-bytes _ _ _ (c .before .before .if1 .left) (c .if2 .left)))
+    (omega arith, more k (l .loop .i) (l .loop .inv .1) (of-bytes _ _ _ (at-if1 .if1 .left) (c .if2 .left)))
 
 returns-3 : tie.Need-returns-3 Inv-loop μ-loop
 unfolding candsOf

@@ -30,8 +30,11 @@ enum-told c = search needs
 returns : tie.Need-returns
 unfolding ofCode
 returns c =
-    let z = c .before .before .before .before .before in
-    let e = sym (c .before .before .before .before .one-byte-reverse .ensures) ∙ c .before .before .code .given .1 in
+    let at-code = c .before .before in
+    let at-one-byte-reverse = at-code .before .before in
+    let at-place = at-one-byte-reverse .before in
+    let z = at-place in
+    let e = sym (at-one-byte-reverse .one-byte-reverse .ensures) ∙ at-code .code .given .1 in
     let f = one-byte-found (z .args .table) (z .args .c) _ e in
     likewise (c .with .ensures)
     (ap (λ (y : Cand). y ∷ []) (byte-cand (z .args .set) _ (z .args .size) (z .pre .1 .1 .0) (f .to))

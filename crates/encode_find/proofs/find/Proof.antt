@@ -12,7 +12,17 @@ enum-known-t : tie.Need-enum-known-t
 enum-known-t c = search needs
 
 lead-requires : tie.Need-lead-requires
-lead-requires c κs = arrays-of (c .before .before .before .before .before .before .before .before .before .before .before .before .before .before .before .before .before .before .before .before .before .before .before .args .cells .now) (c .before .before .before .before .before .before .before .before .before .before .before .before .before .before .before .before .before .before .before .before .before .before .before .args .initial) (c .before .before .before .before .before .before .before .before .before .before .before .before .before .before .before .before .before .before .before .before .before .before .before .args .width) (c .before .before .before .before .before .before .before .before .before .before .before .before .before .before .before .before .before .before .before .before .before .before .before .args .text .now) (c .before .before .before .before .before .before .before .before .before .before .before .before .before .tokenise .last .1 .1 .1 .0) (c .before .before .before .before .before .before .before .before .before .before .before .before .before .tokenise .last .1 .1 .1 .1 .0) (c .before .before .before .before .before .before .before .before .before .before .before .before .before .tokenise .last .1 .1 .1 .1 .1 .0) (c .before .before .before .before .before .before .before .before .before .before .before .before .before .tokenise .result) (c .before .before .before .before .before .before .before .before .before .before .before .before .before .tokenise .ensures) (c .before .before .before .before .before .t .given .1) (c .before .before .before .before .before .before .before .before .before .before .before .before .before .before .before .before .before .before .before .before .before .before .before .pre .0) (omega (arith, c .before .before .before .before .before .before .before .before .before .before .before .before .before .before .before .before .before .before .before .before .before .before .before .pre .1 .chars, c .before .before .before .before .before .before .before .before .before .before .before .before .chars .given)) (omega (arith, c .before .before .before .before .before .before .before .before .before .before .before .before .before .before .before .before .before .before .before .before .before .before .before .pre .1 .kanji, c .before .before .before .before .before .before .before .before .before .before .kanji .given)) (omega (arith, c .before .before .before .before .before .before .before .before .before .before .before .before .before .before .before .before .before .before .before .before .before .before .before .pre .1 .symbols, c .before .before .before .before .before .before .before .before .symbols .given))
+lead-requires c κs =
+    let at-t = c .before .before .before .before .before in
+    let at-symbols = at-t .before .before .before in
+    let at-kanji = at-symbols .before .before in
+    let at-chars = at-kanji .before .before in
+    let at-tokenise = at-chars .before in
+    let at-start = at-tokenise .before .before .before .before .before .before .before .before .before .before in
+    arrays-of (at-start .args .cells .now) (at-start .args .initial) (at-start .args .width) (at-start .args .text .now) (at-tokenise .tokenise .last .1 .1 .1 .0)
+    (at-tokenise .tokenise .last .1 .1 .1 .1 .0) (at-tokenise .tokenise .last .1 .1 .1 .1 .1 .0) (at-tokenise .tokenise .result) (at-tokenise .tokenise .ensures)
+    (at-t .t .given .1) (at-start .pre .0) (omega (arith, at-start .pre .1 .chars, at-chars .chars .given))
+    (omega (arith, at-start .pre .1 .kanji, at-kanji .kanji .given)) (omega (arith, at-start .pre .1 .symbols, at-symbols .symbols .given))
 
 enum-known-t-2 : tie.Need-enum-known-t-2
 enum-known-t-2 c = search needs
@@ -30,7 +40,18 @@ same-length-4 : tie.Need-same-length-4
 same-length-4 c = search needs
 
 returns : tie.Need-returns
-returns c = λ room. planned-on (c .before .before .before .before .before .before .before .before .before .before .before .before .before .before .before .before .before .before .before .before .before .before .before .before .before .before .args .cells .now) (c .before .before .before .before .before .before .before .before .before .before .before .before .before .before .before .before .before .before .before .before .before .before .before .before .before .before .args .initial) (c .before .before .before .before .before .before .before .before .before .before .before .before .before .before .before .before .before .before .before .before .before .before .before .before .before .before .args .width) (c .before .before .before .before .before .before .before .before .before .before .before .before .before .before .before .before .before .before .before .before .before .before .before .before .before .before .args .text .now) (c .before .before .before .before .before .before .before .before .before .before .before .before .before .before .before .before .tokenise .last .1 .1 .1 .0) (c .before .before .before .before .before .before .before .before .before .before .before .before .before .before .before .before .tokenise .last .1 .1 .1 .1 .0) (c .before .before .before .before .before .before .before .before .before .before .before .before .before .before .before .before .tokenise .last .1 .1 .1 .1 .1 .0) (c .before .before .before .before .before .before .before .before .before .before .before .before .before .before .before .before .tokenise .result) (c .before .before .before .before .before .before .before .before .before .before .before .before .before .before .before .before .tokenise .ensures) (c .before .before .before .before .before .before .before .before .before .before .before .before .before .before .before .before .before .before .before .before .before .before .before .before .before .before .args .store .now) (c .before .before .lead .last .1 .1 .1 .1 .1 .1 .1 .0) room (c .before .before .before .before .before .before .before .before .t .given .1) (c .before .store .given) (c .before .before .lead .ensures (characters-of (c .before .before .before .before .before .before .before .before .before .before .before .before .before .before .before .before .before .before .before .before .before .before .before .before .before .before .args .cells .now) (c .before .before .before .before .before .before .before .before .before .before .before .before .before .before .before .before .before .before .before .before .before .before .before .before .before .before .args .initial) (c .before .before .before .before .before .before .before .before .before .before .before .before .before .before .before .before .before .before .before .before .before .before .before .before .before .before .args .width) (c .before .before .before .before .before .before .before .before .before .before .before .before .before .before .before .before .before .before .before .before .before .before .before .before .before .before .args .text .now) (c .before .before .before .before .before .before .before .before .before .before .before .before .before .before .before .before .tokenise .last .1 .1 .1 .0) (c .before .before .before .before .before .before .before .before .before .before .before .before .before .before .before .before .tokenise .last .1 .1 .1 .1 .0) (c .before .before .before .before .before .before .before .before .before .before .before .before .before .before .before .before .tokenise .last .1 .1 .1 .1 .1 .0) (c .before .before .before .before .before .before .before .before .before .before .before .before .before .before .before .before .tokenise .result) (c .before .before .before .before .before .before .before .before .before .before .before .before .before .before .before .before .tokenise .ensures) (c .before .before .before .before .before .before .before .before .t .given .1)))
+returns c =
+    let at-store = c .before in
+    let at-lead = at-store .before in
+    let at-t = at-lead .before .before .before .before .before .before in
+    let at-tokenise = at-t .before .before .before .before .before .before .before .before in
+    let at-start = at-tokenise .before .before .before .before .before .before .before .before .before .before in
+    λ room. planned-on (at-start .args .cells .now) (at-start .args .initial) (at-start .args .width) (at-start .args .text .now) (at-tokenise .tokenise .last .1 .1 .1 .0)
+    (at-tokenise .tokenise .last .1 .1 .1 .1 .0) (at-tokenise .tokenise .last .1 .1 .1 .1 .1 .0) (at-tokenise .tokenise .result) (at-tokenise .tokenise .ensures)
+    (at-start .args .store .now) (at-lead .lead .last .1 .1 .1 .1 .1 .1 .1 .0) room (at-t .t .given .1) (at-store .store .given)
+    (at-lead .lead .ensures (characters-of (at-start .args .cells .now) (at-start .args .initial) (at-start .args .width) (at-start .args .text .now)
+    (at-tokenise .tokenise .last .1 .1 .1 .0) (at-tokenise .tokenise .last .1 .1 .1 .1 .0) (at-tokenise .tokenise .last .1 .1 .1 .1 .1 .0) (at-tokenise .tokenise .result)
+    (at-tokenise .tokenise .ensures) (at-t .t .given .1)))
 
 same-length-5 : tie.Need-same-length-5
 same-length-5 c = search needs
@@ -42,7 +63,13 @@ same-length-7 : tie.Need-same-length-7
 same-length-7 c = search needs
 
 returns-2 : tie.Need-returns-2
-returns-2 c = λ room. planned-not (c .before .before .before .before .before .before .before .before .before .before .before .before .before .before .before .before .before .before .before .args .cells .now) (c .before .before .before .before .before .before .before .before .before .before .before .before .before .before .before .before .before .before .before .args .initial) (c .before .before .before .before .before .before .before .before .before .before .before .before .before .before .before .before .before .before .before .args .width) (c .before .before .before .before .before .before .before .before .before .before .before .before .before .before .before .before .before .before .before .args .text .now) (c .before .before .before .before .before .before .before .before .before .tokenise .last .1 .1 .1 .0) (c .before .before .before .before .before .before .before .before .before .tokenise .last .1 .1 .1 .1 .0) (c .before .before .before .before .before .before .before .before .before .tokenise .last .1 .1 .1 .1 .1 .0) (c .before .before .before .before .before .before .before .before .before .tokenise .result) (c .before .before .before .before .before .before .before .before .before .tokenise .ensures) (c .before .before .before .before .before .before .before .before .before .before .before .before .before .before .before .before .before .before .before .args .store .now) (c .before .before .before .before .before .before .before .before .before .before .before .before .before .before .before .before .before .before .before .args .store .now) room (c .before .t2 .given .1)
+returns-2 c =
+    let at-t2 = c .before in
+    let at-tokenise = at-t2 .before .before .before .before .before .before .before .before in
+    let at-start = at-tokenise .before .before .before .before .before .before .before .before .before .before in
+    λ room. planned-not (at-start .args .cells .now) (at-start .args .initial) (at-start .args .width) (at-start .args .text .now) (at-tokenise .tokenise .last .1 .1 .1 .0)
+    (at-tokenise .tokenise .last .1 .1 .1 .1 .0) (at-tokenise .tokenise .last .1 .1 .1 .1 .1 .0) (at-tokenise .tokenise .result) (at-tokenise .tokenise .ensures)
+    (at-start .args .store .now) (at-start .args .store .now) room (at-t2 .t2 .given .1)
 
 pub find-spec : {M : Type 1} → statement M
 find-spec =

@@ -7,7 +7,10 @@ use Rattle.encode_find.proofs.lead.Statement.{statement}
 use Rattle.encode_find.proofs.lead.Tie as tie
 
 returns : tie.Need-returns
-returns c = λ t. led-nothing (c .before .before .before .before .before .args .annex) (c .before .before .before .before .before .args .initial) (c .before .before .before .before .before .args .store .now) (c .before .before .before .before .before .args .store .now) (c .before .before .before .before .before .args .chars .now) (c .before .before .before .before .before .args .kanji .now) (c .before .before .before .before .before .args .symbols .now) (c .before .before .before .before .before .args .n) (c .before .before .before .before .before .args .rest) t refl (c .if1 .taken)
+returns c =
+    let at-start = c .before .before .before .before .before in
+    λ t. led-nothing (at-start .args .annex) (at-start .args .initial) (at-start .args .store .now) (at-start .args .store .now) (at-start .args .chars .now)
+    (at-start .args .kanji .now) (at-start .args .symbols .now) (at-start .args .n) (at-start .args .rest) t refl (c .if1 .taken)
 
 search-requires : tie.Need-search-requires
 search-requires c κs = search needs
@@ -16,13 +19,23 @@ same-length : tie.Need-same-length
 same-length c = search needs
 
 returns-2 : tie.Need-returns-2
-returns-2 c = λ t. led-full (c .before .before .before .before .before .before .before .before .before .before .args .annex) (c .before .before .before .before .before .before .before .before .before .before .args .initial) (c .before .before .before .before .before .before .before .before .before .before .args .store .now) (c .before .before .before .search .last .0) (c .before .before .before .before .before .before .before .before .before .before .args .chars .now) (c .before .before .before .before .before .before .before .before .before .before .args .kanji .now) (c .before .before .before .before .before .before .before .before .before .before .args .symbols .now) (c .before .before .before .before .before .before .before .before .before .before .args .n) (c .before .before .before .before .before .before .before .before .before .before .args .rest) t (c .before .before .store .given) (c .before .before .before .search .ensures) (not-so _ (c .if2 .taken))
+returns-2 c =
+    let at-store = c .before .before in
+    let at-search = at-store .before in
+    let at-start = at-search .before .before .before .before .before .before .before in
+    λ t. led-full (at-start .args .annex) (at-start .args .initial) (at-start .args .store .now) (at-search .search .last .0) (at-start .args .chars .now)
+    (at-start .args .kanji .now) (at-start .args .symbols .now) (at-start .args .n) (at-start .args .rest) t (at-store .store .given) (at-search .search .ensures)
+    (not-so _ (c .if2 .taken))
 
 least-requires : tie.Need-least-requires
 least-requires c κs = omega (arith, c .before .before .before .before .search .ensures .inside (so _ (c .before .if2 .left)), c .before .before .before .store .given)
 
 first-of-requires : tie.Need-first-of-requires
-first-of-requires c κs = omega (arith, c .before .before .before .before .before .before .search .ensures .inside (so _ (c .before .before .before .if2 .left)), c .before .before .before .before .before .store .given)
+first-of-requires c κs =
+    let at-if2 = c .before .before .before in
+    let at-store = at-if2 .before .before in
+    let at-search = at-store .before in
+    omega (arith, at-search .search .ensures .inside (so _ (at-if2 .if2 .left)), at-store .store .given)
 
 cast-length : tie.Need-cast-length
 cast-length c = search needs
@@ -34,7 +47,17 @@ same-length-2 : tie.Need-same-length-2
 same-length-2 c = search needs
 
 returns-3 : tie.Need-returns-3
-returns-3 c = λ t. led-found (c .before .before .before .before .before .before .before .before .before .before .before .before .before .before .before .args .annex) (c .before .before .before .before .before .before .before .before .before .before .before .before .before .before .before .args .initial) (c .before .before .before .before .before .before .before .before .before .before .before .before .before .before .before .args .store .now) (c .before .before .before .before .before .before .before .before .search .last .0) (c .before .before .before .before .before .before .before .before .before .before .before .before .before .before .before .args .chars .now) (c .before .before .before .before .before .before .before .before .before .before .before .before .before .before .before .args .kanji .now) (c .before .before .before .before .before .before .before .before .before .before .before .before .before .before .before .args .symbols .now) (c .before .before .before .before .before .before .before .before .before .before .before .before .before .before .before .args .n) (c .before .before .before .before .before .before .before .before .before .before .before .before .before .before .before .args .rest) t (c .before .before .before .before .before .before .before .store .given) (c .before .before .before .before .before .before .before .before .search .ensures) (so _ (c .before .before .before .before .before .if2 .left)) _ _ _ (record { chars = c .before .before .before .before .before .before .before .before .before .before .before .before .before .before .before .pre .chars; kanji = c .before .before .before .before .before .before .before .before .before .before .before .before .before .before .before .pre .kanji; symbols = c .before .before .before .before .before .before .before .before .before .before .before .before .before .before .before .pre .symbols }) (c .before .before .before .least .ensures) (c .before .first-of .ensures) (c .gap-of .ensures)
+returns-3 c =
+    let at-first-of = c .before in
+    let at-least = at-first-of .before .before in
+    let at-if2 = at-least .before .before in
+    let at-store = at-if2 .before .before in
+    let at-search = at-store .before in
+    let at-start = at-search .before .before .before .before .before .before .before in
+    λ t. led-found (at-start .args .annex) (at-start .args .initial) (at-start .args .store .now) (at-search .search .last .0) (at-start .args .chars .now)
+    (at-start .args .kanji .now) (at-start .args .symbols .now) (at-start .args .n) (at-start .args .rest) t (at-store .store .given) (at-search .search .ensures)
+    (so _ (at-if2 .if2 .left)) _ _ _ (record { chars = at-start .pre .chars; kanji = at-start .pre .kanji; symbols = at-start .pre .symbols }) (at-least .least .ensures)
+    (at-first-of .first-of .ensures) (c .gap-of .ensures)
 
 pub lead-spec : {M : Type 1} → statement M
 lead-spec =

@@ -34,10 +34,16 @@ shared-slice-read-cost : tie.Need-shared-slice-read-cost Inv-loop μ-loop
 shared-slice-read-cost c = omega arith
 
 add-lower : tie.Need-add-lower Inv-loop μ-loop
-add-lower c = omega (arith, cost-bound (c .before .before .before .before .before .args .store .now) (c .before .before .before .before .before .args .from) (c .before .before .before .before .before .args .count) (c .before .before .before .before .before .pre .0) (c .before .before .before .before .before .pre .2) (c .before .before .before .loop .i) (omega arith))
+add-lower c =
+    let at-loop = c .before .before .before in
+    let at-start = at-loop .before .before in
+    omega (arith, cost-bound (at-start .args .store .now) (at-start .args .from) (at-start .args .count) (at-start .pre .0) (at-start .pre .2) (at-loop .loop .i) (omega arith))
 
 lower-requires : tie.Need-lower-requires Inv-loop μ-loop
-lower-requires c κs = omega (arith, cost-bound (c .before .before .before .before .before .args .store .now) (c .before .before .before .before .before .args .from) (c .before .before .before .before .before .args .count) (c .before .before .before .before .before .pre .0) (c .before .before .before .before .before .pre .2) (c .before .before .before .loop .i) (omega arith))
+lower-requires c κs =
+    let at-loop = c .before .before .before in
+    let at-start = at-loop .before .before in
+    omega (arith, cost-bound (at-start .args .store .now) (at-start .args .from) (at-start .args .count) (at-start .pre .0) (at-start .pre .2) (at-loop .loop .i) (omega arith))
 
 add-i : tie.Need-add-i Inv-loop μ-loop
 add-i c = omega arith
@@ -46,10 +52,26 @@ loop-less : tie.Need-loop-less Inv-loop μ-loop
 loop-less c = omega arith
 
 loop-again : tie.Need-loop-again Inv-loop μ-loop
-loop-again c = ⊎-elim (λ w. (omega arith, rw (w .2 ∙ w .1 .ensures) (floored-dropped (c .before .before .before .before .before .args .store .now) (c .before .before .before .before .before .args .from) (c .before .before .before .before .before .args .count) (c .before .before .before .before .before .pre .0) (c .before .before .before .before .before .args .most) (c .before .before .before .before .before .args .rest) (c .before .before .before .before .before .args .low) (c .before .before .before .loop .f) (c .before .before .before .loop .i) (c .before .before .before .loop .inv .1) (omega arith) (w .0 .taken)))) (λ w. (omega arith, rw (w .1) (floored-kept (c .before .before .before .before .before .args .store .now) (c .before .before .before .before .before .args .from) (c .before .before .before .before .before .args .count) (c .before .before .before .before .before .pre .0) (c .before .before .before .before .before .args .most) (c .before .before .before .before .before .args .rest) (c .before .before .before .before .before .args .low) (c .before .before .before .loop .f) (c .before .before .before .loop .i) (c .before .before .before .loop .inv .1) (omega arith) (w .0 .left)))) (c .if1 .came)
+loop-again c =
+    let at-loop = c .before .before .before in
+    let at-start = at-loop .before .before in
+    ⊎-elim (λ w. (
+      omega arith,
+      rw (w .2 ∙ w .1 .ensures) (floored-dropped (at-start .args .store .now) (at-start .args .from) (at-start .args .count) (at-start .pre .0)
+          (at-start .args .most) (at-start .args .rest) (at-start .args .low) (at-loop .loop .f) (at-loop .loop .i) (at-loop .loop .inv .1) (omega arith) (w .0 .taken)),
+    ))
+    (λ w. (
+      omega arith,
+      rw (w .1) (floored-kept (at-start .args .store .now) (at-start .args .from) (at-start .args .count) (at-start .pre .0) (at-start .args .most)
+          (at-start .args .rest) (at-start .args .low) (at-loop .loop .f) (at-loop .loop .i) (at-loop .loop .inv .1) (omega arith) (w .0 .left)),
+    )) (c .if1 .came)
 
 returns : tie.Need-returns Inv-loop μ-loop
-returns c = floored-end (c .before .before .before .args .store .now) (c .before .before .before .args .from) (c .before .before .before .args .count) (c .before .before .before .pre .0) (c .before .before .before .args .most) (c .before .before .before .args .rest) (c .before .before .before .args .low) (c .before .loop .f) (c .before .loop .i) (c .before .loop .inv .1) (c .loop-test .left)
+returns c =
+    let at-loop = c .before in
+    let at-start = at-loop .before .before in
+    floored-end (at-start .args .store .now) (at-start .args .from) (at-start .args .count) (at-start .pre .0) (at-start .args .most) (at-start .args .rest)
+    (at-start .args .low) (at-loop .loop .f) (at-loop .loop .i) (at-loop .loop .inv .1) (c .loop-test .left)
 
 pub floor-spec : {M : Type 1} → statement M
 floor-spec =

@@ -72,13 +72,23 @@ loop-less : tie.Need-loop-less Inv-loop μ-loop
 loop-less c = omega arith
 
 loop-again : tie.Need-loop-again Inv-loop μ-loop
-loop-again c = ⊎-elim (λ w. rw (w .8, w .9) (going-keep (c .before .before .before .before .before .args .store .now) (c .before .before .before .before .before .args .from) (c .before .before .before .before .before .args .count) (c .before .before .before .before .before .args .most) (c .before .before .before .before .before .pre) (c .before .before .before .loop .store) (c .before .before .before .loop .i) (c .before .before .before .loop .kept) (c .before .before .before .loop .inv) _ (omega arith) (w .0 .taken) (w .5 .ensures))) (λ w. rw (w .1, w .2) (going-drop (c .before .before .before .before .before .args .store .now) (c .before .before .before .before .before .args .from) (c .before .before .before .before .before .args .count) (c .before .before .before .before .before .args .most) (c .before .before .before .before .before .pre) (c .before .before .before .loop .store) (c .before .before .before .loop .i) (c .before .before .before .loop .kept) (c .before .before .before .loop .inv) (omega arith) (w .0 .left))) (c .if1 .came)
+loop-again c =
+    let at-loop = c .before .before .before in
+    let at-start = at-loop .before .before in
+    ⊎-elim (λ w. rw (w .8, w .9) (going-keep (at-start .args .store .now) (at-start .args .from) (at-start .args .count) (at-start .args .most) (at-start .pre)
+    (at-loop .loop .store) (at-loop .loop .i) (at-loop .loop .kept) (at-loop .loop .inv) _ (omega arith) (w .0 .taken) (w .5 .ensures)))
+    (λ w. rw (w .1, w .2) (going-drop (at-start .args .store .now) (at-start .args .from) (at-start .args .count) (at-start .args .most) (at-start .pre)
+    (at-loop .loop .store) (at-loop .loop .i) (at-loop .loop .kept) (at-loop .loop .inv) (omega arith) (w .0 .left))) (c .if1 .came)
 
 same-length : tie.Need-same-length Inv-loop μ-loop
 same-length c = c .before .loop .inv .same
 
 returns : tie.Need-returns Inv-loop μ-loop
-returns c = going-end (c .before .before .before .args .store .now) (c .before .before .before .args .from) (c .before .before .before .args .count) (c .before .before .before .args .most) (c .before .before .before .pre) (c .before .loop .store) (c .before .loop .i) (c .before .loop .kept) (c .before .loop .inv) (c .loop-test .left)
+returns c =
+    let at-loop = c .before in
+    let at-start = at-loop .before .before in
+    going-end (at-start .args .store .now) (at-start .args .from) (at-start .args .count) (at-start .args .most) (at-start .pre) (at-loop .loop .store) (at-loop .loop .i)
+    (at-loop .loop .kept) (at-loop .loop .inv) (c .loop-test .left)
 
 pub keep-spec : {M : Type 1} → statement M
 keep-spec =

@@ -40,7 +40,11 @@ shared-slice-read-best : tie.Need-shared-slice-read-best Inv-loop μ-loop
 shared-slice-read-best c = omega arith
 
 loop-holds : tie.Need-loop-holds Inv-loop μ-loop
-loop-holds c = (omega arith, least-first (c .before .before .args .store .now) (c .before .before .args .from) (c .before .before .args .count) (c .before .before .pre) (c .before .before .args .count - 1) (omega arith))
+loop-holds c = (
+  omega arith,
+  least-first (c .before .before .args .store .now) (c .before .before .args .from) (c .before .before .args .count) (c .before .before .pre)
+      (c .before .before .args .count - 1) (omega arith),
+)
 
 sub-i-2 : tie.Need-sub-i-2 Inv-loop μ-loop
 sub-i-2 c = omega arith
@@ -64,13 +68,25 @@ loop-less : tie.Need-loop-less Inv-loop μ-loop
 loop-less c = omega arith
 
 loop-again : tie.Need-loop-again Inv-loop μ-loop
-loop-again c = (omega arith, least-less (c .before .before .before .before .before .before .args .store .now) (c .before .before .before .before .before .before .args .from) (c .before .before .before .before .before .before .args .count) (c .before .before .before .before .before .before .pre) (c .before .before .before .loop .i) (c .before .before .before .loop .i - 1) (c .before .before .before .loop .best) (omega arith) (c .before .before .before .loop .inv .0) (c .before .before .before .loop .inv .1) (c .if2 .taken))
+loop-again c =
+    let at-loop = c .before .before .before in
+    let at-start = at-loop .before .before .before in (
+      omega arith,
+      least-less (at-start .args .store .now) (at-start .args .from) (at-start .args .count) (at-start .pre) (at-loop .loop .i) (at-loop .loop .i - 1)
+          (at-loop .loop .best) (omega arith) (at-loop .loop .inv .0) (at-loop .loop .inv .1) (c .if2 .taken),
+    )
 
 loop-less-2 : tie.Need-loop-less-2 Inv-loop μ-loop
 loop-less-2 c = omega arith
 
 loop-again-2 : tie.Need-loop-again-2 Inv-loop μ-loop
-loop-again-2 c = (omega arith, least-same (c .before .before .before .before .before .before .args .store .now) (c .before .before .before .before .before .before .args .from) (c .before .before .before .before .before .before .args .count) (c .before .before .before .before .before .before .pre) (c .before .before .before .loop .i) (c .before .before .before .loop .i - 1) (c .before .before .before .loop .best) (omega arith) (c .before .before .before .loop .inv .0) (c .before .before .before .loop .inv .1) (c .if2 .left))
+loop-again-2 c =
+    let at-loop = c .before .before .before in
+    let at-start = at-loop .before .before .before in (
+      omega arith,
+      least-same (at-start .args .store .now) (at-start .args .from) (at-start .args .count) (at-start .pre) (at-loop .loop .i) (at-loop .loop .i - 1)
+          (at-loop .loop .best) (omega arith) (at-loop .loop .inv .0) (at-loop .loop .inv .1) (c .if2 .left),
+    )
 
 returns-2 : tie.Need-returns-2 Inv-loop μ-loop
 returns-2 c = let z : c .before .loop .i ≡ 0 = omega arith in rw z at (c .before .loop .inv .1)

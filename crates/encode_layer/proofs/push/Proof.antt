@@ -30,7 +30,9 @@ slice-read-place : tie.Need-slice-read-place
 slice-read-place c = search needs
 
 cast-place : tie.Need-cast-place
-cast-place c = omega (arith, c .slice-known3 .given (c .before .before .before .before .before .args .node .state))
+cast-place c =
+    let at-start = c .before .before .before .before .before in
+    omega (arith, c .slice-known3 .given (at-start .args .node .state))
 
 add-at : tie.Need-add-at
 add-at c = search needs
@@ -64,36 +66,51 @@ same-length c = search needs
 
 returns-2 : tie.Need-returns-2
 returns-2 c =
-    let start = c .before .before .before .before .before .before .before .before .before .before .before .before .before .before .before .before in
+    let at-put-node = c .before .before in
+    let at-if4 = at-put-node .before .before in
+    let at-if3 = at-if4 .before .before .before in
+    let at-if2 = at-if3 .before .before .before in
+    let at-if1 = at-if2 .before .before .before in
+    let at-place = at-if1 .before .before .before in
+    let start = at-place in
     let area = start .args .area in
     let node = start .args .node in
     λ cs most h.
     let sound : Sound (node .back) most node = record { proper = start .pre .1; cheap = h; linked = refl } in
-    replaces cs (area .from) (area .cap) (node .back) most (start .args .store .now) (start .args .index .now) (start .args .count) node (start .pre .0 .store) sound _ (c .before .before .before .before .before .before .before .before .before .before .before .before .before .if1 .left) refl
-    (c .before .before .before .before .before .before .before .before .before .before .if2 .taken) (c .before .before .before .before .before .before .before .if3 .taken) _ (c .before .before .put-node .ensures) (c .before .before .before .before .if4 .taken)
+    replaces cs (area .from) (area .cap) (node .back) most (start .args .store .now) (start .args .index .now) (start .args .count) node (start .pre .0 .store) sound _
+    (at-if1 .if1 .left) refl
+    (at-if2 .if2 .taken) (at-if3 .if3 .taken) _ (at-put-node .put-node .ensures) (at-if4 .if4 .taken)
 
 returns-3 : tie.Need-returns-3
 returns-3 c =
-    let start = c .before .before .before .before .before .before .before .before .before .before .before .before in
+    let at-if3 = c .before .before .before in
+    let at-if2 = at-if3 .before .before .before in
+    let at-if1 = at-if2 .before .before .before in
+    let at-place = at-if1 .before .before .before in
+    let start = at-place in
     let area = start .args .area in
     let node = start .args .node in
     λ cs most h.
     let sound : Sound (node .back) most node = record { proper = start .pre .1; cheap = h; linked = refl } in
-    stays cs (area .from) (area .cap) (node .back) most (start .args .store .now) (start .args .index .now) (start .args .count) node (start .pre .0 .store) sound _ (c .before .before .before .before .before .before .before .before .before .if1 .left) refl
-    (c .before .before .before .before .before .before .if2 .taken) (c .before .before .before .if3 .taken) (c .if4 .left)
+    stays cs (area .from) (area .cap) (node .back) most (start .args .store .now) (start .args .index .now) (start .args .count) node (start .pre .0 .store) sound _ (at-if1 .if1 .left) refl
+    (at-if2 .if2 .taken) (at-if3 .if3 .taken) (c .if4 .left)
 
 add-result : tie.Need-add-result
 add-result c = search needs
 
 returns-4 : tie.Need-returns-4
 returns-4 c =
-    let start = c .before .before .before .before .before .before .before in
+    let at-if2 = c .before in
+    let at-if1 = at-if2 .before .before .before in
+    let at-place = at-if1 .before .before .before in
+    let start = at-place in
     let area = start .args .area in
     let node = start .args .node in
     λ cs most h.
     let sound : Sound (node .back) most node = record { proper = start .pre .1; cheap = h; linked = refl } in
-    overflows cs (area .from) (area .cap) (node .back) most (start .args .store .now) (start .args .index .now) (start .args .count) node (start .pre .0 .store) sound _ (c .before .before .before .before .if1 .left) refl
-    (⊎-elim (λ w. λ x. w .3 .left) (λ w. λ x. absurd (omega arith)) (c .before .if2 .came)) (c .if5 .taken)
+    overflows cs (area .from) (area .cap) (node .back) most (start .args .store .now) (start .args .index .now) (start .args .count) node (start .pre .0 .store) sound _
+    (at-if1 .if1 .left) refl
+    (⊎-elim (λ w. λ x. w .3 .left) (λ w. λ x. absurd (omega arith)) (at-if2 .if2 .came)) (c .if5 .taken)
 
 cast-index : tie.Need-cast-index
 cast-index c = search needs
@@ -121,13 +138,17 @@ same-length-3 c = search needs
 
 returns-5 : tie.Need-returns-5
 returns-5 c =
-    let start = c .before .before .before .before .before .before .before .before .before .before .before in
+    let at-put-node2 = c .before .before in
+    let at-if2 = at-put-node2 .before .before .before in
+    let at-if1 = at-if2 .before .before .before in
+    let at-place = at-if1 .before .before .before in
+    let start = at-place in
     let area = start .args .area in
     let node = start .args .node in
     λ cs most h.
     let sound : Sound (node .back) most node = record { proper = start .pre .1; cheap = h; linked = refl } in
-    adds cs (area .from) (area .cap) (node .back) most (start .args .store .now) (start .args .index .now) (start .args .count) node (start .pre .0 .store) sound _ (c .before .before .before .before .before .before .before .before .if1 .left) refl
-    (⊎-elim (λ w. λ x. w .3 .left) (λ w. λ x. absurd (omega arith)) (c .before .before .before .before .before .if2 .came)) _ _ (omega arith) (start .pre .0 .index) refl (c .before .before .put-node2 .ensures)
+    adds cs (area .from) (area .cap) (node .back) most (start .args .store .now) (start .args .index .now) (start .args .count) node (start .pre .0 .store) sound _ (at-if1 .if1 .left) refl
+    (⊎-elim (λ w. λ x. w .3 .left) (λ w. λ x. absurd (omega arith)) (at-if2 .if2 .came)) _ _ (omega arith) (start .pre .0 .index) refl (at-put-node2 .put-node2 .ensures)
 
 pub push-spec : {M : Type 1} → statement M
 push-spec =

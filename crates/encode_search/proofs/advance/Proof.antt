@@ -20,8 +20,10 @@ room-requires c κs = search needs
 
 reach-requires : tie.Need-reach-requires
 reach-requires c κs =
-    let start = c .before .before .before .before .before in
-    let capped = c .before .before .room .ensures in
+    let at-room = c .before .before in
+    let at-place = at-room .before .before .before in
+    let start = at-place in
+    let capped = at-room .room .ensures in
     let layer = entriesOf (start .args .store .now) (start .args .pfrom) (start .args .pcount) in
     (record { store = capped .inside; index = omega arith; few = capped .few }, start .pre .2, start .pre .3, start .pre .4, abled 65526 65535 layer (omega arith) (start .pre .6))
 
@@ -32,16 +34,42 @@ same-length-2 : tie.Need-same-length-2
 same-length-2 c = search needs
 
 returns : tie.Need-returns
-returns c = too-large (c .before .before .before .before .before .before .before .before .before .before .before .args .store .now) _ _ (c .before .before .before .before .before .before .before .before .before .before .before .args .pfrom) (c .before .before .before .before .before .before .before .before .before .before .before .args .pcount) (c .before .before .before .before .before .before .before .before .room .result) (c .before .before .before .before .before .before .before .before .before .before .before .args .m) (c .before .before .before .before .before .reach .result) (c .before .before .before .before .before .before .before .before .before .before .before .args .sets .now) (c .before .before .before .before .before .before .before .before .before .before .before .args .codes .now) (c .before .before .before .before .before .before .before .before .before .before .before .args .sizes .now) (c .before .before .before .before .before .reach .ensures) (c .before .before .before .before .before .before .before .before .room .ensures) (omega arith) (c .before .before .before .before .before .before .before .before .before .before .before .pre .6) (c .if1 .taken) (c .before .before .before .before .before .before .before .before .before .before .before .args .rest) (c .before .before .before .before .before .before .before .before .before .before .before .args .floor) (c .before .before .before .before .before .before .before .before .before .before .before .pre .0)
+returns c =
+    let at-reach = c .before .before .before .before .before in
+    let at-room = at-reach .before .before .before in
+    let at-start = at-room .before .before .before in
+    too-large (at-start .args .store .now) _ _ (at-start .args .pfrom) (at-start .args .pcount) (at-room .room .result) (at-start .args .m) (at-reach .reach .result)
+    (at-start .args .sets .now) (at-start .args .codes .now) (at-start .args .sizes .now) (at-reach .reach .ensures) (at-room .room .ensures) (omega arith)
+    (at-start .pre .6) (c .if1 .taken) (at-start .args .rest) (at-start .args .floor) (at-start .pre .0)
 
 least-requires : tie.Need-least-requires
 least-requires c κs = search needs
 
 add-most : tie.Need-add-most
-add-most c = omega (arith, least-small (c .before .before .before .before .before .before .before .before .before .before .before .before .before .args .store .now) _ _ (c .before .before .before .before .before .before .before .before .before .before .before .before .before .args .pfrom) (c .before .before .before .before .before .before .before .before .before .before .before .before .before .args .pcount) (c .before .before .before .before .before .before .before .before .before .before .room .result) (c .before .before .before .before .before .before .before .before .before .before .before .before .before .args .m) (c .before .before .before .before .before .before .before .reach .result) (c .before .before .before .before .before .before .before .before .before .before .before .before .before .args .sets .now) (c .before .before .before .before .before .before .before .before .before .before .before .before .before .args .codes .now) (c .before .before .before .before .before .before .before .before .before .before .before .before .before .args .sizes .now) (c .before .before .before .before .before .before .before .reach .ensures) (c .before .before .before .before .before .before .before .before .before .before .room .ensures) (omega arith) (c .before .before .before .before .before .before .before .before .before .before .before .before .before .pre .6) (c .before .before .if1 .left) (c .least .result) (c .least .ensures))
+add-most c =
+    let at-if1 = c .before .before in
+    let at-reach = at-if1 .before .before .before .before .before in
+    let at-room = at-reach .before .before .before in
+    let at-start = at-room .before .before .before in
+    omega (
+      arith,
+      least-small (at-start .args .store .now) _ _ (at-start .args .pfrom) (at-start .args .pcount) (at-room .room .result) (at-start .args .m)
+          (at-reach .reach .result) (at-start .args .sets .now) (at-start .args .codes .now) (at-start .args .sizes .now) (at-reach .reach .ensures) (at-room .room .ensures)
+          (omega arith) (at-start .pre .6) (at-if1 .if1 .left) (c .least .result) (c .least .ensures),
+    )
 
 floor-requires : tie.Need-floor-requires
-floor-requires c κs = (omega (arith, c .before .before .before .before .before .before .before .before .before .before .before .room .ensures .inside), c .before .before .before .before .before .before .before .before .before .before .before .before .before .before .pre .5, reached-cheap (c .before .before .before .before .before .before .before .before .before .before .before .before .before .before .args .store .now) _ _ (c .before .before .before .before .before .before .before .before .before .before .before .before .before .before .args .pfrom) (c .before .before .before .before .before .before .before .before .before .before .before .before .before .before .args .pcount) (c .before .before .before .before .before .before .before .before .before .before .before .room .result) (c .before .before .before .before .before .before .before .before .before .before .before .before .before .before .args .m) (c .before .before .before .before .before .before .before .before .reach .result) (c .before .before .before .before .before .before .before .before .before .before .before .before .before .before .args .sets .now) (c .before .before .before .before .before .before .before .before .before .before .before .before .before .before .args .codes .now) (c .before .before .before .before .before .before .before .before .before .before .before .before .before .before .args .sizes .now) (c .before .before .before .before .before .before .before .before .reach .ensures) (c .before .before .before .before .before .before .before .before .before .before .before .room .ensures) (omega arith) (c .before .before .before .before .before .before .before .before .before .before .before .before .before .before .pre .6) (c .before .before .before .if1 .left))
+floor-requires c κs =
+    let at-if1 = c .before .before .before in
+    let at-reach = at-if1 .before .before .before .before .before in
+    let at-room = at-reach .before .before .before in
+    let at-start = at-room .before .before .before in (
+      omega (arith, at-room .room .ensures .inside),
+      at-start .pre .5,
+      reached-cheap (at-start .args .store .now) _ _ (at-start .args .pfrom) (at-start .args .pcount)
+          (at-room .room .result) (at-start .args .m) (at-reach .reach .result) (at-start .args .sets .now) (at-start .args .codes .now) (at-start .args .sizes .now)
+          (at-reach .reach .ensures) (at-room .room .ensures) (omega arith) (at-start .pre .6) (at-if1 .if1 .left),
+    )
 
 keep-requires : tie.Need-keep-requires
 keep-requires c κs = search needs
@@ -53,7 +81,18 @@ same-length-4 : tie.Need-same-length-4
 same-length-4 c = search needs
 
 returns-2 : tie.Need-returns-2
-returns-2 c = advanced (c .before .before .before .before .before .before .before .before .before .before .before .before .before .before .before .before .before .before .before .args .store .now) _ _ (c .before .before .before .before .before .before .before .before .before .before .before .before .before .before .before .before .before .before .before .args .pfrom) (c .before .before .before .before .before .before .before .before .before .before .before .before .before .before .before .before .before .before .before .args .pcount) (c .before .before .before .before .before .before .before .before .before .before .before .before .before .before .before .before .room .result) (c .before .before .before .before .before .before .before .before .before .before .before .before .before .before .before .before .before .before .before .args .m) (c .before .before .before .before .before .before .before .before .before .before .before .before .before .reach .result) (c .before .before .before .before .before .before .before .before .before .before .before .before .before .before .before .before .before .before .before .args .sets .now) (c .before .before .before .before .before .before .before .before .before .before .before .before .before .before .before .before .before .before .before .args .codes .now) (c .before .before .before .before .before .before .before .before .before .before .before .before .before .before .before .before .before .before .before .args .sizes .now) (c .before .before .before .before .before .before .before .before .before .before .before .before .before .reach .ensures) (c .before .before .before .before .before .before .before .before .before .before .before .before .before .before .before .before .room .ensures) (omega arith) (c .before .before .before .before .before .before .before .before .before .before .before .before .before .before .before .before .before .before .before .pre .6) (c .before .before .before .before .before .before .before .before .if1 .left) _ (c .before .before .before .before .before .before .least .result) (c .before .before .before .before .before .before .before .before .before .before .before .before .before .before .before .before .before .before .before .args .rest) (c .before .before .before .before .before .before .before .before .before .before .before .before .before .before .before .before .before .before .before .args .floor) (c .before .before .before .before .floor .result) (c .before .before .keep .result) (c .before .before .before .before .before .before .least .ensures) (c .before .before .before .before .floor .ensures) (c .before .before .keep .ensures)
+returns-2 c =
+    let at-keep = c .before .before in
+    let at-floor = at-keep .before .before in
+    let at-least = at-floor .before .before in
+    let at-if1 = at-least .before .before in
+    let at-reach = at-if1 .before .before .before .before .before in
+    let at-room = at-reach .before .before .before in
+    let at-start = at-room .before .before .before in
+    advanced (at-start .args .store .now) _ _ (at-start .args .pfrom) (at-start .args .pcount) (at-room .room .result) (at-start .args .m) (at-reach .reach .result)
+    (at-start .args .sets .now) (at-start .args .codes .now) (at-start .args .sizes .now) (at-reach .reach .ensures) (at-room .room .ensures) (omega arith)
+    (at-start .pre .6) (at-if1 .if1 .left) _ (at-least .least .result) (at-start .args .rest) (at-start .args .floor) (at-floor .floor .result) (at-keep .keep .result)
+    (at-least .least .ensures) (at-floor .floor .ensures) (at-keep .keep .ensures)
 
 pub advance-spec : {M : Type 1} → statement M
 advance-spec =

@@ -21,7 +21,9 @@ use Rattle.encode_ways.proofs.by_candidates.Reads as by-candidates-reads
 
 abbrev Inv-loop : tie.InvT-loop
 Inv-loop store₀ index₀ pfrom pcount cap m sets codes sizes from back area count₀ i₀ store index count i =
-    (i ≤ pcount) × (length store ≡ length store₀) × (length index ≡ length index₀) × (take ((pfrom + pcount) * 4) store ≡ take ((pfrom + pcount) * 4) store₀) × ((cs cs₀ : List Cand) (b most : ℕ) → MatchAll cs m sets codes sizes → All (Able b) (entriesOf store₀ pfrom pcount) → b + 9 ≤ most → Represents cs (bounds (pfrom + pcount) cap pfrom most) store index count (reach cs (take i (layerOf cs₀ store₀ pfrom pcount)) 0 []))
+    (i ≤ pcount) × (length store ≡ length store₀) × (length index ≡ length index₀) × (take ((pfrom + pcount) * 4) store ≡ take ((pfrom + pcount) * 4) store₀) ×
+    ((cs cs₀ : List Cand) (b most : ℕ) → MatchAll cs m sets codes sizes → All (Able b) (entriesOf store₀ pfrom pcount) → b + 9 ≤ most →
+    Represents cs (bounds (pfrom + pcount) cap pfrom most) store index count (reach cs (take i (layerOf cs₀ store₀ pfrom pcount)) 0 []))
 
 abbrev μ-loop : tie.MeasureT-loop
 μ-loop store₀ index₀ pfrom pcount cap m sets codes sizes from back area count₀ i₀ store index count i = pcount - i
@@ -33,7 +35,15 @@ cast-back : tie.Need-cast-back Inv-loop μ-loop
 cast-back c = omega arith
 
 loop-holds : tie.Need-loop-holds Inv-loop μ-loop
-loop-holds c = (omega arith, refl, refl, refl, λ cs cs₀ b most m a h. reach-none cs (c .before .before .args .pfrom + c .before .before .args .pcount) (c .before .before .args .cap) (c .before .before .args .pfrom) most (c .before .before .args .store .now) (c .before .before .args .index .now) (layerOf cs₀ (c .before .before .args .store .now) (c .before .before .args .pfrom) (c .before .before .args .pcount)))
+loop-holds c = (
+  omega arith,
+  refl,
+  refl,
+  refl,
+  λ cs cs₀ b most m a h. reach-none cs (c .before .before .args .pfrom + c .before .before .args .pcount) (c .before .before .args .cap)
+      (c .before .before .args .pfrom) most (c .before .before .args .store .now) (c .before .before .args .index .now)
+      (layerOf cs₀ (c .before .before .args .store .now) (c .before .before .args .pfrom) (c .before .before .args .pcount)),
+)
 
 add-at : tie.Need-add-at Inv-loop μ-loop
 add-at c = omega arith
@@ -60,7 +70,17 @@ cast-t22 : tie.Need-cast-t22 Inv-loop μ-loop
 cast-t22 c = omega arith
 
 by-candidates-requires : tie.Need-by-candidates-requires Inv-loop μ-loop
-by-candidates-requires c κs = (record { store = omega arith; index = omega arith; few = c .before .before .before .before .before .before .before .before .pre .0 .few }, proper (c .before .before .before .before .before .before .before .before .args .store .now) (c .before .before .before .before .before .loop .store) (c .before .before .before .before .before .before .before .before .args .pfrom) (c .before .before .before .before .before .before .before .before .args .pcount) (c .before .before .before .before .before .loop .i) (omega arith) (c .before .before .before .before .before .loop .inv .3) (omega arith) 65535 (c .before .before .before .before .before .before .before .before .pre .4), cheap (c .before .before .before .before .before .before .before .before .args .store .now) (c .before .before .before .before .before .loop .store) (c .before .before .before .before .before .before .before .before .args .pfrom) (c .before .before .before .before .before .before .before .before .args .pcount) (c .before .before .before .before .before .loop .i) (omega arith) (c .before .before .before .before .before .loop .inv .3) (omega arith) 65535 (c .before .before .before .before .before .before .before .before .pre .4), omega arith, c .before .before .before .before .before .before .before .before .pre .3)
+by-candidates-requires c κs =
+    let at-loop = c .before .before .before .before .before in
+    let at-start = at-loop .before .before .before in (
+      record { store = omega arith; index = omega arith; few = at-start .pre .0 .few },
+      proper (at-start .args .store .now) (at-loop .loop .store) (at-start .args .pfrom) (at-start .args .pcount) (at-loop .loop .i) (omega arith) (at-loop .loop .inv .3)
+          (omega arith) 65535 (at-start .pre .4),
+      cheap (at-start .args .store .now) (at-loop .loop .store) (at-start .args .pfrom) (at-start .args .pcount) (at-loop .loop .i)
+          (omega arith) (at-loop .loop .inv .3) (omega arith) 65535 (at-start .pre .4),
+      omega arith,
+      at-start .pre .3,
+    )
 
 add-i : tie.Need-add-i Inv-loop μ-loop
 add-i c = omega arith
@@ -70,17 +90,28 @@ loop-less c = omega arith
 
 loop-again : tie.Need-loop-again Inv-loop μ-loop
 loop-again c =
-    let a = c .before .before .before .before .before .before .before .before .before .before .before .before .before .args in
-    let i = c .before .before .before .before .before .before .before .before .before .before .loop .i in
-    let q = c .before .before .before .before .by-candidates .ensures in (
+    let at-by-candidates = c .before .before .before .before in
+    let at-loop = at-by-candidates .before .before .before .before .before .before in
+    let at-start = at-loop .before .before .before in
+    let a = at-start .args in
+    let i = at-loop .loop .i in
+    let q = at-by-candidates .by-candidates .ensures in (
       omega arith,
       omega arith,
       omega arith,
-      q .0 ∙ c .before .before .before .before .before .before .before .before .before .before .loop .inv .3,
+      q .0 ∙ at-loop .loop .inv .3,
       λ cs cs₀ b most m x h.
           let l = length-layer cs₀ (a .store .now) (a .pfrom) (a .pcount) (omega arith) in
-          subst (Represents cs (bounds (a .pfrom + a .pcount) (a .cap) (a .pfrom) most) _ _ _) (reach-more cs (layerOf cs₀ (a .store .now) (a .pfrom) (a .pcount)) i (nodeOf cs₀ blank) (omega arith))
-          (q .1 cs most (nodeAt (c .before .before .before .before .before .before .before .before .before .before .before .before .before .args .store .now) (c .before .before .before .before .before .before .before .before .before .before .loop .store) (c .before .before .before .before .before .before .before .before .before .before .before .before .before .args .pfrom) (c .before .before .before .before .before .before .before .before .before .before .before .before .before .args .pcount) (c .before .before .before .before .before .before .before .before .before .before .loop .i) (omega arith) (c .before .before .before .before .before .before .before .before .before .before .loop .inv .3) (omega arith) cs₀) m (is-node (c .before .before .before .before .before .before .before .before .before .before .before .before .before .args .store .now) (c .before .before .before .before .before .before .before .before .before .before .loop .store) (c .before .before .before .before .before .before .before .before .before .before .before .before .before .args .pfrom) (c .before .before .before .before .before .before .before .before .before .before .before .before .before .args .pcount) (c .before .before .before .before .before .before .before .before .before .before .loop .i) (omega arith) (c .before .before .before .before .before .before .before .before .before .before .loop .inv .3) (omega arith) cs₀) (omega (arith, cheap (c .before .before .before .before .before .before .before .before .before .before .before .before .before .args .store .now) (c .before .before .before .before .before .before .before .before .before .before .loop .store) (c .before .before .before .before .before .before .before .before .before .before .before .before .before .args .pfrom) (c .before .before .before .before .before .before .before .before .before .before .before .before .before .args .pcount) (c .before .before .before .before .before .before .before .before .before .before .loop .i) (omega arith) (c .before .before .before .before .before .before .before .before .before .before .loop .inv .3) (omega arith) b x)) .stands _ (c .before .before .before .before .before .before .before .before .before .before .loop .inv .4 cs cs₀ b most m x h)),
+          subst (Represents cs (bounds (a .pfrom + a .pcount) (a .cap) (a .pfrom) most) _ _ _)
+          (reach-more cs (layerOf cs₀ (a .store .now) (a .pfrom) (a .pcount)) i (nodeOf cs₀ blank) (omega arith))
+          (q .1 cs most (nodeAt (at-start .args .store .now) (at-loop .loop .store) (at-start .args .pfrom) (at-start .args .pcount) (at-loop .loop .i) (omega arith)
+          (at-loop .loop .inv .3) (omega arith) cs₀) m (is-node (at-start .args .store .now) (at-loop .loop .store) (at-start .args .pfrom) (at-start .args .pcount)
+          (at-loop .loop .i) (omega arith) (at-loop .loop .inv .3) (omega arith) cs₀)
+          (omega (
+            arith,
+            cheap (at-start .args .store .now) (at-loop .loop .store) (at-start .args .pfrom) (at-start .args .pcount) (at-loop .loop .i) (omega arith)
+                (at-loop .loop .inv .3) (omega arith) b x,
+          )) .stands _ (at-loop .loop .inv .4 cs cs₀ b most m x h)),
     )
 
 same-length : tie.Need-same-length Inv-loop μ-loop
@@ -96,7 +127,8 @@ returns c =
       before = c .before .loop .inv .3;
       stands = λ cs cs₀ b most m x h.
           let l = length-layer cs₀ (a .store .now) (a .pfrom) (a .pcount) (omega arith) in
-          subst (Represents cs (bounds (a .pfrom + a .pcount) (a .cap) (a .pfrom) most) _ _ _) (reach-all cs (layerOf cs₀ (a .store .now) (a .pfrom) (a .pcount)) (c .before .loop .i) (omega arith)) (c .before .loop .inv .4 cs cs₀ b most m x h);
+          subst (Represents cs (bounds (a .pfrom + a .pcount) (a .cap) (a .pfrom) most) _ _ _)
+          (reach-all cs (layerOf cs₀ (a .store .now) (a .pfrom) (a .pcount)) (c .before .loop .i) (omega arith)) (c .before .loop .inv .4 cs cs₀ b most m x h);
     }
 
 pub reach-spec : {M : Type 1} → statement M

@@ -22,7 +22,10 @@ abbrev μ-loop : tie.MeasureT-loop
     n - j
 
 loop-holds : tie.Need-loop-holds Inv-loop μ-loop
-loop-holds c = going-start (c .before .before .before .before .before .args .chars .now) (c .before .before .before .before .before .args .kanji .now) (c .before .before .before .before .before .args .symbols .now) (c .before .before .before .before .before .args .n) (c .before .before .before .before .before .args .annex) (c .before .before .before .before .before .args .rest) (c .before .before .before .before .before .args .store .now) _ (c .before .before .before .before .before .pre .2) (c .before .before .before .before .before .pre .1) (c .before .before .before .before .before .pre .0 .rest-small) (c .before .before .before .before .before .pre .3)
+loop-holds c =
+    let at-start = c .before .before .before .before .before in
+    going-start (at-start .args .chars .now) (at-start .args .kanji .now) (at-start .args .symbols .now) (at-start .args .n) (at-start .args .annex) (at-start .args .rest)
+    (at-start .args .store .now) _ (at-start .pre .2) (at-start .pre .1) (at-start .pre .0 .rest-small) (at-start .pre .3)
 
 mul-c : tie.Need-mul-c Inv-loop μ-loop
 mul-c c = omega arith
@@ -44,8 +47,10 @@ shared-slice-read-s c = omega arith
 
 turn-requires : tie.Need-turn-requires Inv-loop μ-loop
 turn-requires c κs =
-    let start = c .before .before .before .before .before .before .before .before .before .before .before .before in
-    let at = c .before .before .before .before .before .before .loop in
+    let at-loop = c .before .before .before .before .before .before in
+    let at-place = at-loop .before .before .before .before .before .before in
+    let start = at-place in
+    let at = at-loop .loop in
     let layer = entriesOf (at .store) (at .from) (at .count) in
     let able = abled (9 * at .j) 65526 layer (omega (arith, start .pre .0 .few)) (at .inv .able) in
     (omega (arith, at .inv .inside), omega (arith, at .inv .index), omega (arith, at .inv .low, start .pre .0 .few), omega (arith, at .inv .few), at .inv .left-le, able)
@@ -57,7 +62,19 @@ same-length-2 : tie.Need-same-length-2 Inv-loop μ-loop
 same-length-2 c = omega arith
 
 returns : tie.Need-returns Inv-loop μ-loop
-returns c = λ initial b. record { inside = λ e. absurd (false≢true e); full = λ cells cs h k e. going-full (c .before .before .before .before .before .before .before .before .before .before .before .before .before .before .before .before .before .before .args .chars .now) (c .before .before .before .before .before .before .before .before .before .before .before .before .before .before .before .before .before .before .args .kanji .now) (c .before .before .before .before .before .before .before .before .before .before .before .before .before .before .before .before .before .before .args .symbols .now) (c .before .before .before .before .before .before .before .before .before .before .before .before .before .before .before .before .before .before .args .n) (c .before .before .before .before .before .before .before .before .before .before .before .before .before .before .before .before .before .before .args .annex) (c .before .before .before .before .before .before .before .before .before .before .before .before .before .before .before .before .before .before .args .rest) (c .before .before .before .before .before .before .before .before .before .before .before .before .before .before .before .before .before .before .args .store .now) (c .before .before .before .before .before .before .before .before .before .before .before .before .loop .store) (c .before .before .before .before .before .before .before .before .before .before .before .before .loop .index) (c .before .before .before .before .before .before .before .before .before .before .before .before .loop .j) (c .before .before .before .before .before .before .before .before .before .before .before .before .loop .from) (c .before .before .before .before .before .before .before .before .before .before .before .before .loop .count) (c .before .before .before .before .before .before .before .before .before .before .before .before .loop .left) (c .before .before .before .before .before .before .before .before .before .before .before .before .loop .floor) (c .before .before .before .before .before .before .before .before .before .before .before .before .loop .inv) (omega arith) _ (c .before .before .before .before .before .before .before .before .before .before .before .before .loop .index) _ _ _ _ (c .before .before .before .before .store .given) (c .before .before .before .before .before .turn .ensures) (not-true _ (c .if1 .taken)) cells cs h k initial b; done = λ cells cs h k r e. absurd (false≢true e) }
+returns c =
+    let at-store = c .before .before .before .before in
+    let at-turn = at-store .before in
+    let at-loop = at-turn .before .before .before .before .before .before .before in
+    let at-start = at-loop .before .before .before .before .before .before in
+    λ initial b. record {
+      inside = λ e. absurd (false≢true e);
+      full = λ cells cs h k e. going-full (at-start .args .chars .now) (at-start .args .kanji .now)
+          (at-start .args .symbols .now) (at-start .args .n) (at-start .args .annex) (at-start .args .rest) (at-start .args .store .now) (at-loop .loop .store)
+          (at-loop .loop .index) (at-loop .loop .j) (at-loop .loop .from) (at-loop .loop .count) (at-loop .loop .left) (at-loop .loop .floor) (at-loop .loop .inv) (omega arith)
+          _ (at-loop .loop .index) _ _ _ _ (at-store .store .given) (at-turn .turn .ensures) (not-true _ (c .if1 .taken)) cells cs h k initial b;
+      done = λ cells cs h k r e. absurd (false≢true e);
+    }
 
 add-from : tie.Need-add-from Inv-loop μ-loop
 add-from c = omega arith
@@ -69,7 +86,16 @@ loop-less : tie.Need-loop-less Inv-loop μ-loop
 loop-less c = omega arith
 
 loop-again : tie.Need-loop-again Inv-loop μ-loop
-loop-again c = going-on (c .before .before .before .before .before .before .before .before .before .before .before .before .before .before .before .before .before .before .args .chars .now) (c .before .before .before .before .before .before .before .before .before .before .before .before .before .before .before .before .before .before .args .kanji .now) (c .before .before .before .before .before .before .before .before .before .before .before .before .before .before .before .before .before .before .args .symbols .now) (c .before .before .before .before .before .before .before .before .before .before .before .before .before .before .before .before .before .before .args .n) (c .before .before .before .before .before .before .before .before .before .before .before .before .before .before .before .before .before .before .args .annex) (c .before .before .before .before .before .before .before .before .before .before .before .before .before .before .before .before .before .before .args .rest) (c .before .before .before .before .before .before .before .before .before .before .before .before .before .before .before .before .before .before .args .store .now) (c .before .before .before .before .before .before .before .before .before .before .before .before .loop .store) (c .before .before .before .before .before .before .before .before .before .before .before .before .loop .index) (c .before .before .before .before .before .before .before .before .before .before .before .before .loop .j) (c .before .before .before .before .before .before .before .before .before .before .before .before .loop .from) (c .before .before .before .before .before .before .before .before .before .before .before .before .loop .count) (c .before .before .before .before .before .before .before .before .before .before .before .before .loop .left) (c .before .before .before .before .before .before .before .before .before .before .before .before .loop .floor) (c .before .before .before .before .before .before .before .before .before .before .before .before .loop .inv) (omega arith) _ _ _ _ _ _ (c .before .before .before .before .store .given) (c .before .before .before .before .before .turn .ensures) (c .before .before .index .given) (not-false _ (c .if1 .left))
+loop-again c =
+    let at-index = c .before .before in
+    let at-store = at-index .before .before in
+    let at-turn = at-store .before in
+    let at-loop = at-turn .before .before .before .before .before .before .before in
+    let at-start = at-loop .before .before .before .before .before .before in
+    going-on (at-start .args .chars .now) (at-start .args .kanji .now) (at-start .args .symbols .now) (at-start .args .n) (at-start .args .annex) (at-start .args .rest)
+    (at-start .args .store .now) (at-loop .loop .store) (at-loop .loop .index) (at-loop .loop .j) (at-loop .loop .from) (at-loop .loop .count) (at-loop .loop .left)
+    (at-loop .loop .floor) (at-loop .loop .inv) (omega arith) _ _ _ _ _ _ (at-store .store .given) (at-turn .turn .ensures) (at-index .index .given)
+    (not-false _ (c .if1 .left))
 
 same-length-3 : tie.Need-same-length-3 Inv-loop μ-loop
 same-length-3 c = omega arith
@@ -78,7 +104,16 @@ same-length-4 : tie.Need-same-length-4 Inv-loop μ-loop
 same-length-4 c = omega arith
 
 returns-2 : tie.Need-returns-2 Inv-loop μ-loop
-returns-2 c = λ initial b. record { inside = λ e. omega (arith, c .before .loop .inv .inside, c .before .loop .inv .same); full = λ cells cs h k e. absurd (true≢false e); done = λ cells cs h k r e. going-end (c .before .before .before .before .before .before .before .args .chars .now) (c .before .before .before .before .before .before .before .args .kanji .now) (c .before .before .before .before .before .before .before .args .symbols .now) (c .before .before .before .before .before .before .before .args .n) (c .before .before .before .before .before .before .before .args .annex) (c .before .before .before .before .before .before .before .args .rest) (c .before .before .before .before .before .before .before .args .store .now) (c .before .loop .store) (c .before .loop .index) (c .before .loop .j) (c .before .loop .from) (c .before .loop .count) (c .before .loop .left) (c .before .loop .floor) (c .before .loop .inv) (c .loop-test .left) cells cs h k r initial b }
+returns-2 c =
+    let at-loop = c .before in
+    let at-start = at-loop .before .before .before .before .before .before in
+    λ initial b. record {
+      inside = λ e. omega (arith, at-loop .loop .inv .inside, at-loop .loop .inv .same);
+      full = λ cells cs h k e. absurd (true≢false e);
+      done = λ cells cs h k r e. going-end (at-start .args .chars .now) (at-start .args .kanji .now) (at-start .args .symbols .now) (at-start .args .n)
+          (at-start .args .annex) (at-start .args .rest) (at-start .args .store .now) (at-loop .loop .store) (at-loop .loop .index) (at-loop .loop .j) (at-loop .loop .from)
+          (at-loop .loop .count) (at-loop .loop .left) (at-loop .loop .floor) (at-loop .loop .inv) (c .loop-test .left) cells cs h k r initial b;
+    }
 
 pub run-spec : {M : Type 1} → statement M
 run-spec =

@@ -16,7 +16,10 @@ use Rattle.encode_search.proofs.run.Reads as run-reads
 use Rattle.encode_states.proofs.start.Reads as start-reads
 
 returns : tie.Need-returns
-returns c = no-room (c .before .before .before .before .before .args .chars .now) (c .before .before .before .before .before .args .kanji .now) (c .before .before .before .before .before .args .symbols .now) (c .before .before .before .before .before .args .n) (c .before .before .before .before .before .args .annex) (c .before .before .before .before .before .args .initial) (c .before .before .before .before .before .args .rest) (c .before .before .before .before .before .args .store .now) _ (c .before .before .before .before .before .pre .1) (c .if1 .taken)
+returns c =
+    let at-start = c .before .before .before .before .before in
+    no-room (at-start .args .chars .now) (at-start .args .kanji .now) (at-start .args .symbols .now) (at-start .args .n) (at-start .args .annex) (at-start .args .initial)
+    (at-start .args .rest) (at-start .args .store .now) _ (at-start .pre .1) (c .if1 .taken)
 
 start-requires : tie.Need-start-requires
 start-requires c κs = search needs
@@ -28,13 +31,33 @@ slice-aggregate-run : tie.Need-slice-aggregate-run
 slice-aggregate-run c = search needs
 
 run-requires : tie.Need-run-requires
-run-requires c κs = (c .before .before .before .before .before .before .before .before .before .before .before .before .pre .0, omega arith, (search needs), subst (λ (x : List ℕ). All (Able 0) (entriesOf x 0 1)) (sym (c .before .before .before .before .put-node .ensures)) (able-start (c .before .before .before .before .before .before .before .before .before .before .before .before .args .store .now) (c .before .before .before .before .before .before .start .result) (c .before .before .before .before .before .before .before .before .before .before .before .before .args .initial) (c .before .before .before .before .before .before .before .if1 .left) (c .before .before .before .before .before .before .start .ensures)))
+run-requires c κs =
+    let at-put-node = c .before .before .before .before in
+    let at-start = at-put-node .before .before in
+    let at-if1 = at-start .before in
+    let at-start-2 = at-if1 .before .before .before .before .before in (
+      at-start-2 .pre .0,
+      omega arith,
+      (search needs),
+      subst (λ (x : List ℕ). All (Able 0) (entriesOf x 0 1)) (sym (at-put-node .put-node .ensures))
+          (able-start (at-start-2 .args .store .now) (at-start .start .result) (at-start-2 .args .initial) (at-if1 .if1 .left) (at-start .start .ensures)),
+    )
 
 same-length : tie.Need-same-length
 same-length c = search needs
 
 returns-2 : tie.Need-returns-2
-returns-2 c = searched-as (c .before .before .before .before .before .before .before .before .before .before .before .before .before .before .before .before .args .chars .now) (c .before .before .before .before .before .before .before .before .before .before .before .before .before .before .before .before .args .kanji .now) (c .before .before .before .before .before .before .before .before .before .before .before .before .before .before .before .before .args .symbols .now) (c .before .before .before .before .before .before .before .before .before .before .before .before .before .before .before .before .args .n) (c .before .before .before .before .before .before .before .before .before .before .before .before .before .before .before .before .args .annex) (c .before .before .before .before .before .before .before .before .before .before .before .before .before .before .before .before .args .initial) (c .before .before .before .before .before .before .before .before .before .before .before .before .before .before .before .before .args .rest) (c .before .before .before .before .before .before .before .before .before .before .before .before .before .before .before .before .args .store .now) _ _ _ _ _ _ (c .before .before .before .before .before .before .before .store .given) (c .before .before .before .run .ensures (c .before .before .before .before .before .before .before .before .before .before .before .before .before .before .before .before .args .initial) (subst (λ (x : List ℕ). Begins (c .before .before .before .before .before .before .before .before .before .before .before .before .before .before .before .before .args .initial) x) (sym (c .before .before .before .before .before .before .before .before .put-node .ensures)) (begins (c .before .before .before .before .before .before .before .before .before .before .before .before .before .before .before .before .args .store .now) (c .before .before .before .before .before .before .before .before .before .before .start .result) (c .before .before .before .before .before .before .before .before .before .before .before .before .before .before .before .before .args .initial) (c .before .before .before .before .before .before .before .before .before .before .before .if1 .left) (c .before .before .before .before .before .before .before .before .before .before .start .ensures))))
+returns-2 c =
+    let at-run = c .before .before .before in
+    let at-store = at-run .before .before .before .before in
+    let at-put-node = at-store .before in
+    let at-start = at-put-node .before .before in
+    let at-if1 = at-start .before in
+    let at-start-2 = at-if1 .before .before .before .before .before in
+    searched-as (at-start-2 .args .chars .now) (at-start-2 .args .kanji .now) (at-start-2 .args .symbols .now) (at-start-2 .args .n) (at-start-2 .args .annex)
+    (at-start-2 .args .initial) (at-start-2 .args .rest) (at-start-2 .args .store .now) _ _ _ _ _ _ (at-store .store .given)
+    (at-run .run .ensures (at-start-2 .args .initial) (subst (λ (x : List ℕ). Begins (at-start-2 .args .initial) x) (sym (at-put-node .put-node .ensures))
+    (begins (at-start-2 .args .store .now) (at-start .start .result) (at-start-2 .args .initial) (at-if1 .if1 .left) (at-start .start .ensures))))
 
 pub search-spec : {M : Type 1} → statement M
 search-spec =

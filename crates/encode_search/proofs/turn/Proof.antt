@@ -34,8 +34,14 @@ same-length-2 c = search needs
 
 returns : tie.Need-returns
 returns c =
-    let a = c .before .before .before .before .before .before .before .before .before .before .before .before .before .before .before .before .args in
-    turned (a .store .now) _ (a .pfrom) (a .pcount) (a .c) (a .kanji) (a .symbol) (a .annex) (a .rest) (a .floor) (c .before .before .before .before .before .before .before .before .before .before .before .less .result) (c .before .before .before .before .before .before .before .before .before .before .before .before .before .candidates .result) _ _ _ (c .before .before .before .before .before .before .before .before .before .before .before .before .before .candidates .ensures) (c .before .before .before .before .before .before .before .before .before .before .before .less .ensures ∙ ap (λ (x : ℕ). a .rest - x) (c .before .before .before .before .before .before .before .before .before .before .before .before .shortest .ensures)) (c .before .before .before .before .advance .ensures)
+    let at-advance = c .before .before .before .before in
+    let at-less = at-advance .before .before .before .before .before .before .before in
+    let at-shortest = at-less .before in
+    let at-candidates = at-shortest .before in
+    let at-start = at-candidates .before .before .before in
+    let a = at-start .args in
+    turned (a .store .now) _ (a .pfrom) (a .pcount) (a .c) (a .kanji) (a .symbol) (a .annex) (a .rest) (a .floor) (at-less .less .result) (at-candidates .candidates .result) _
+    _ _ (at-candidates .candidates .ensures) (at-less .less .ensures ∙ ap (λ (x : ℕ). a .rest - x) (at-shortest .shortest .ensures)) (at-advance .advance .ensures)
 
 pub turn-spec : {M : Type 1} → statement M
 turn-spec =

@@ -11,10 +11,16 @@ returns-2 : tie.Need-returns-2
 returns-2 c = kanji (c .before .before .args .x) (c .before .before .args .n) (c .before .if1 .left) (c .if2 .taken)
 
 returns-3 : tie.Need-returns-3
-returns-3 c = symbols (c .before .before .before .args .x) (c .before .before .before .args .n) (c .before .before .if1 .left) (c .if3 .taken)
+returns-3 c =
+    let at-if1 = c .before .before in
+    let at-start = at-if1 .before in
+    symbols (at-start .args .x) (at-start .args .n) (at-if1 .if1 .left) (c .if3 .taken)
 
 returns-4 : tie.Need-returns-4
-returns-4 c = one-byte (c .before .before .before .args .x) (c .before .before .before .args .n) (c .before .before .before .pre) (c .before .if2 .left) (c .if3 .left)
+returns-4 c =
+    let at-if2 = c .before in
+    let at-start = at-if2 .before .before in
+    one-byte (at-start .args .x) (at-start .args .n) (at-start .pre) (at-if2 .if2 .left) (c .if3 .left)
 
 pub designation-length-spec : {M : Type 1} → statement M
 designation-length-spec = tie.close (tie.spec returns returns-2 returns-3 returns-4)

@@ -53,11 +53,16 @@ same-length-3 c = search needs
 
 returns : tie.Need-returns
 returns c =
-    let h = c .before .before .before .before .before in
+    let at-candidates = c .before in
+    let at-pack2 = at-candidates .before in
+    let at-additional-reverse = at-pack2 .before in
+    let at-pack = at-additional-reverse .before in
+    let at-place = at-pack .before in
+    let h = at-place in
     let g = h .before .before .before .before .before .args in
-    appended (g .t .now) (g .annex) (g .c) (g .n) (g .chars .now) (g .kanji .now) (g .symbols .now) (c .before .before .before .before .pack .result)
-    (c .before .before .pack2 .result) (c .before .candidates .result) (c .shortest .result) (c .before .before .before .before .pack .ensures ∙ ap packed (h .kanji-reverse .ensures))
-    (c .before .before .pack2 .ensures ∙ ap packed (c .before .before .before .additional-reverse .ensures)) (c .before .candidates .ensures) (c .shortest .ensures)
+    appended (g .t .now) (g .annex) (g .c) (g .n) (g .chars .now) (g .kanji .now) (g .symbols .now) (at-pack .pack .result)
+    (at-pack2 .pack2 .result) (at-candidates .candidates .result) (c .shortest .result) (at-pack .pack .ensures ∙ ap packed (h .kanji-reverse .ensures))
+    (at-pack2 .pack2 .ensures ∙ ap packed (at-additional-reverse .additional-reverse .ensures)) (at-candidates .candidates .ensures) (c .shortest .ensures)
 
 pub append-spec : {M : Type 1} → statement M
 append-spec =

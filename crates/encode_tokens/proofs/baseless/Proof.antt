@@ -38,25 +38,33 @@ read : (c : tie.After-known-told Inv-loop μ-loop)
 read c = read-as _ _ _ _ (c .before .before .before .before .loop .inv .0) (sym (c .before .before .before .read .ensures) ∙ c .before .s .given .1)
 
 add-at : tie.Need-add-at Inv-loop μ-loop
-add-at c = omega (arith, read c .within, c .before .before .before .before .before .before .good)
+add-at c =
+    let at-start = c .before .before .before .before .before .before in
+    omega (arith, read c .within, at-start .good)
 
 is-non-spacing-requires : tie.Need-is-non-spacing-requires Inv-loop μ-loop
 is-non-spacing-requires c κs = search needs
 
 loop-less : tie.Need-loop-less Inv-loop μ-loop
-loop-less c = omega (arith, read (c .before .before .before) .least, read (c .before .before .before) .within)
+loop-less c =
+    let at-place = c .before .before .before in
+    omega (arith, read (at-place) .least, read (at-place) .within)
 
 loop-again : tie.Need-loop-again Inv-loop μ-loop
 loop-again c =
     let h = c .before .before .before in
-    let k = h .before .before .before .before in
-    (read h .within, k .loop .inv .1 ∙ (ap (baseless (k .loop .base)) (read h .tokens) ∙ based-mark _ _ _ (k .loop .base) (c .if2 .taken) (sym (c .before .before .is-non-spacing .ensures) ∙ c .before .if1 .taken)))
+    let k = h .before .before .before .before in (
+      read h .within,
+      k .loop .inv .1 ∙ (ap (baseless (k .loop .base)) (read h .tokens) ∙
+          based-mark _ _ _ (k .loop .base) (c .if2 .taken) (sym (c .before .before .is-non-spacing .ensures) ∙ c .before .if1 .taken)),
+    )
 
 returns-2 : tie.Need-returns-2 Inv-loop μ-loop
 returns-2 c =
     let h = c .before .before .before in
     let k = h .before .before .before .before in
-    sym (ap basesOf (k .loop .inv .1 ∙ (ap (baseless (k .loop .base)) (read h .tokens) ∙ baseless-mark _ _ _ (k .loop .base) (c .if2 .left) (sym (c .before .before .is-non-spacing .ensures) ∙ c .before .if1 .taken))))
+    sym (ap basesOf (k .loop .inv .1 ∙ (ap (baseless (k .loop .base)) (read h .tokens) ∙
+    baseless-mark _ _ _ (k .loop .base) (c .if2 .left) (sym (c .before .before .is-non-spacing .ensures) ∙ c .before .if1 .taken))))
 
 loop-less-2 : tie.Need-loop-less-2 Inv-loop μ-loop
 loop-less-2 c = omega (arith, read (c .before .before) .least, read (c .before .before) .within)

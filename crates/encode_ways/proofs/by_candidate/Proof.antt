@@ -25,15 +25,23 @@ add-link : tie.Need-add-link
 add-link c = search needs
 
 add-cost : tie.Need-add-cost
-add-cost c = omega (arith, c .before .before .before .before .before .control-length .ensures, few-bytes (c .before .before .before .before .before .before .before .size-control .result))
+add-cost c =
+    let at-control-length = c .before .before .before .before .before in
+    let at-size-control = at-control-length .before .before in
+    omega (arith, at-control-length .control-length .ensures, few-bytes (at-size-control .size-control .result))
 
 by-ways-requires : tie.Need-by-ways-requires
 by-ways-requires c κs =
-    let few = few-bytes (c .before .before .before .before .before .before .before .before .before .size-control .result) in (
-      record { store = omega arith; index = omega arith; few = c .before .before .before .before .before .before .before .before .before .before .before .before .pre .0 .few },
-      c .before .before .before .before .before .before .before .before .sized .ensures .proper,
-      record { cost-small = omega (arith, c .before .before .before .before .before .before .before .control-length .ensures, few); link-small = omega (arith, c .before .before .before .before .before .before .before .before .before .size-control .ensures .small) },
-      c .before .before .before .if1 .taken,
+    let at-if1 = c .before .before .before in
+    let at-control-length = at-if1 .before .before .before .before in
+    let at-sized = at-control-length .before in
+    let at-size-control = at-sized .before in
+    let at-start = at-size-control .before .before .before in
+    let few = few-bytes (at-size-control .size-control .result) in (
+      record { store = omega arith; index = omega arith; few = at-start .pre .0 .few },
+      at-sized .sized .ensures .proper,
+      record { cost-small = omega (arith, at-control-length .control-length .ensures, few); link-small = omega (arith, at-size-control .size-control .ensures .small) },
+      at-if1 .if1 .taken,
     )
 
 same-length : tie.Need-same-length
@@ -44,19 +52,28 @@ same-length-2 c = search needs
 
 returns : tie.Need-returns
 returns c =
-    let start = c .before .before .before .before .before .before .before .before .before .before .before .before .before .before .before .before .before in
+    let at-by-ways = c .before .before .before .before in
+    let at-if1 = at-by-ways .before .before .before .before in
+    let at-control-length = at-if1 .before .before .before .before in
+    let at-sized = at-control-length .before in
+    let at-size-control = at-sized .before in
+    let at-place = at-size-control .before .before .before in
+    let start = at-place in
     let node = start .args .node in
     let choice = start .args .choice in
-    let state = c .before .before .before .before .before .before .before .before .before .before .before .before .before .sized in
-    let control = c .before .before .before .before .before .before .before .before .before .before .before .before .before .before .size-control in
-    let len = c .before .before .before .before .before .before .before .before .before .before .before .before .control-length in
+    let state = at-sized .sized in
+    let control = at-size-control .size-control in
+    let len = at-control-length .control-length in
     λ cs k ks most n at m i h.
     let few : len .result ≤ 1 = omega (arith, len .ensures, few-bytes (control .result)) in
     as-graphic cs ks n (node .state) (state .result) (choice .set) (choice .size) (choice .len) (node .cost) (node .link) (control .result) (len .result) (node .back) (start .pre .4) i
-    (control .ensures) (len .ensures) (state .ensures .is) k at m (c .before .before .before .before .before .before .before .before .if1 .taken) (λ t w. c .before .before .before .before .by-ways .ensures cs most t w (omega (arith, few, h, start .pre .3)))
+    (control .ensures) (len .ensures) (state .ensures .is) k at m (at-if1 .if1 .taken) (λ t w. at-by-ways .by-ways .ensures cs most t w (omega (arith, few, h, start .pre .3)))
 
 add-t15 : tie.Need-add-t15
-add-t15 c = omega (arith, c .before .before .before .before .control-length .ensures, few-bytes (c .before .before .before .before .before .before .size-control .result))
+add-t15 c =
+    let at-control-length = c .before .before .before .before in
+    let at-size-control = at-control-length .before .before in
+    omega (arith, at-control-length .control-length .ensures, few-bytes (at-size-control .size-control .result))
 
 push-requires : tie.Need-push-requires
 push-requires c κs = search needs
@@ -69,16 +86,22 @@ same-length-4 c = search needs
 
 returns-2 : tie.Need-returns-2
 returns-2 c =
-    let start = c .before .before .before .before .before .before .before .before .before .before .before .before .before .before .before .before in
+    let at-push = c .before .before .before .before in
+    let at-if1 = at-push .before .before .before in
+    let at-control-length = at-if1 .before .before .before .before in
+    let at-sized = at-control-length .before in
+    let at-size-control = at-sized .before in
+    let at-place = at-size-control .before .before .before in
+    let start = at-place in
     let node = start .args .node in
     let choice = start .args .choice in
-    let state = c .before .before .before .before .before .before .before .before .before .before .before .before .sized in
-    let control = c .before .before .before .before .before .before .before .before .before .before .before .before .before .size-control in
-    let len = c .before .before .before .before .before .before .before .before .before .before .before .control-length in
+    let state = at-sized .sized in
+    let control = at-size-control .size-control in
+    let len = at-control-length .control-length in
     λ cs k ks most n at m i h.
     let few : len .result ≤ 1 = omega (arith, len .ensures, few-bytes (control .result)) in
     as-plain cs ks n (node .state) (state .result) (choice .set) (choice .size) (choice .len) (node .cost) (node .link) (control .result) (len .result) (node .back) (start .pre .4) i
-    (control .ensures) (len .ensures) (state .ensures .is) k at m (c .before .before .before .before .before .before .before .if1 .left) (c .before .before .before .before .push .ensures cs most (omega (arith, few, h)))
+    (control .ensures) (len .ensures) (state .ensures .is) k at m (at-if1 .if1 .left) (at-push .push .ensures cs most (omega (arith, few, h)))
 
 pub by-candidate-spec : {M : Type 1} → statement M
 by-candidate-spec =

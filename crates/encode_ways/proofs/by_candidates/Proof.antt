@@ -69,12 +69,15 @@ add-link c = omega arith
 
 by-candidate-requires : tie.Need-by-candidate-requires Inv-loop μ-loop
 by-candidate-requires c κs =
-    let start = c .before .before .before .before .before .before .before .before .before .before .before .before .before in
-    let len = few-bytes-code (getD (start .args .codes .now) (c .before .before .before .before .before .before .before .before .before .before .loop .k) 0) in (
+    let at-code-length = c .before .before .before in
+    let at-loop = at-code-length .before .before .before .before .before .before .before in
+    let at-place = at-loop .before .before .before in
+    let start = at-place in
+    let len = few-bytes-code (getD (start .args .codes .now) (at-loop .loop .k) 0) in (
       record { store = omega arith; index = omega arith; few = start .pre .0 .few },
       start .pre .1,
       start .pre .2,
-      omega (arith, c .before .before .before .code-length .ensures, len),
+      omega (arith, at-code-length .code-length .ensures, len),
       omega arith,
     )
 
@@ -86,27 +89,36 @@ loop-less c = omega arith
 
 loop-again : tie.Need-loop-again Inv-loop μ-loop
 loop-again c =
-    let start = c .before .before .before .before .before .before .before .before .before .before .before .before .before .before .before .before .before .before in
+    let at-by-candidate = c .before .before .before .before in
+    let at-code-length = at-by-candidate .before .before .before .before in
+    let at-wide2 = at-code-length .before .before in
+    let at-wide = at-wide2 .before .before in
+    let at-loop-test = at-wide .before .before in
+    let at-loop = at-loop-test .before in
+    let at-place = at-loop .before .before .before in
+    let start = at-place in
     let node = start .args .node in
     let place = node .link in
-    let at = c .before .before .before .before .before .before .before .before .before .before .before .before .before .before .before .loop in
+    let at = at-loop .loop in
     let k = at .k in
-    let set = c .before .before .before .before .before .before .before .before .before .before .before .before .wide in
-    let size = c .before .before .before .before .before .before .before .before .before .before .wide2 in
-    let len = c .before .before .before .before .before .before .before .before .code-length in
-    let by = c .before .before .before .before .by-candidate .ensures in
+    let set = at-wide .wide in
+    let size = at-wide2 .wide2 in
+    let len = at-code-length .code-length in
+    let by = at-by-candidate .by-candidate .ensures in
     let d = decLt (set .result) 6 in
     let o : Cand = any (set .result) (size .result) (len .result) d in
     let j : ℕ = (place + k * 131072) / 131072 in
     let some : Node = record { state = unpack (node .state); cost = node .cost; prev = 0; bytes = [] } in
-    let q = by (replicate (suc j) o) o [] (node .cost + 9) some (any-at o j) (any-matches (set .result) (size .result) (len .result) d) (record { state = refl; costs = refl }) (omega arith) in (
-      omega (arith, c .before .before .before .before .before .before .before .before .before .before .before .before .before .before .loop-test .taken),
+    let q = by (replicate (suc j) o) o [] (node .cost + 9) some (any-at o j) (any-matches (set .result) (size .result) (len .result) d) (record { state = refl; costs = refl })
+    (omega arith) in (
+      omega (arith, at-loop-test .loop-test .taken),
       omega arith,
       omega arith,
       q .before ∙ at .inv .3,
       λ cs most n m i h.
-          let lt : k < length cs = omega (arith, m .many, c .before .before .before .before .before .before .before .before .before .before .before .before .before .before .loop-test .taken) in
-          let each : Matches (set .result) (size .result) (len .result) (getD cs k (plain 0 0)) = rw (set .ensures, size .ensures, len .ensures) (m .each k (c .before .before .before .before .before .before .before .before .before .before .before .before .before .before .loop-test .taken)) in
+          let lt : k < length cs = omega (arith, m .many, at-loop-test .loop-test .taken) in
+          let each : Matches (set .result) (size .result) (len .result) (getD cs k (plain 0 0)) = rw (set .ensures, size .ensures, len .ensures)
+          (m .each k (at-loop-test .loop-test .taken)) in
           let pushed = by cs (getD cs k (plain 0 0)) (drop (suc k) cs) most n (at-link cs place k (start .pre .3) lt) each i h in
           changes-as _ _ (λ l. ap (λ (j : ℕ). pushAll (byCands n place l (take k cs)) (byCand n j (getD cs k (plain 0 0)))) (place-link place k (start .pre .3)) ∙ one-more n place cs k lt l)
           (then _ _ (at .inv .4 cs most n m i h) pushed),
@@ -119,7 +131,11 @@ same-length-2 : tie.Need-same-length-2 Inv-loop μ-loop
 same-length-2 c = c .before .loop .inv .2
 
 returns : tie.Need-returns Inv-loop μ-loop
-returns c = (c .before .loop .inv .3, λ cs most n m i h. changes-as _ _ (all-of n (c .before .before .before .before .args .node .link) cs (c .before .loop .k) (omega (arith, m .many))) (c .before .loop .inv .4 cs most n m i h))
+returns c = (
+  c .before .loop .inv .3,
+  λ cs most n m i h. changes-as _ _
+      (all-of n (c .before .before .before .before .args .node .link) cs (c .before .loop .k) (omega (arith, m .many))) (c .before .loop .inv .4 cs most n m i h),
+)
 
 pub by-candidates-spec : {M : Type 1} → statement M
 by-candidates-spec =

@@ -19,7 +19,8 @@ abbrev Inv-loop : tie.InvT-loop
 Inv-loop store₀ index₀ area count node x left right c₀ n₀ store index c n =
     (n ≤ 4) × (length store ≡ length store₀) × (length index ≡ length index₀)
     × ((cs : List Cand) (most : ℕ) (t : Turn) → By cs t x (node .cost) (node .link) → node .cost + 6 ≤ most
-    → Pushes cs (bounds (area .from) (area .cap) (node .back) most) store₀ index₀ count store index c (byWays (t .base) (t .place) (t .pre) (t .code) (upTo (unpack (node .state)) (setOf x) n)))
+    → Pushes cs (bounds (area .from) (area .cap) (node .back) most) store₀ index₀ count store index c
+    (byWays (t .base) (t .place) (t .pre) (t .code) (upTo (unpack (node .state)) (setOf x) n)))
 
 abbrev μ-loop : tie.MeasureT-loop
 μ-loop store₀ index₀ area count node x left right c₀ n₀ store index c n = 4 - n
@@ -32,20 +33,32 @@ gr-requires c κs = omega arith
 
 loop-holds : tie.Need-loop-holds Inv-loop μ-loop
 loop-holds c =
-    let a = c .before .before .before .before .args in
-    (omega arith, refl, refl, λ cs most t w h. up-none cs (bounds (a .area .from) (a .area .cap) (a .node .back) most) (a .store .now) (a .index .now) (a .count) t (unpack (a .node .state)) (setOf (a .x)))
+    let a = c .before .before .before .before .args in (
+      omega arith,
+      refl,
+      refl,
+      λ cs most t w h. up-none cs (bounds (a .area .from) (a .area .cap) (a .node .back) most) (a .store .now) (a .index .now) (a .count) t
+          (unpack (a .node .state)) (setOf (a .x)),
+    )
 
 designated-requires : tie.Need-designated-requires Inv-loop μ-loop
-designated-requires c κs = (c .before .before .before .before .before .before .pre .1, c .before .before .before .before .before .before .pre .2, c .loop-test .taken, c .before .before .before .before .before .before .pre .3)
+designated-requires c κs =
+    let at-start = c .before .before .before .before .before .before in
+    (at-start .pre .1, at-start .pre .2, c .loop-test .taken, at-start .pre .3)
 
 through-requires : tie.Need-through-requires Inv-loop μ-loop
 through-requires c κs =
-    let to = c .before .before .designated .ensures in (
-      record { store = omega arith; index = omega arith; few = c .before .before .before .before .before .before .before .before .before .pre .0 .few },
+    let at-designated = c .before .before in
+    let at-loop-test = at-designated .before in
+    let at-gr = at-loop-test .before .before in
+    let at-gl = at-gr .before in
+    let at-start = at-gl .before .before .before in
+    let to = at-designated .designated .ensures in (
+      record { store = omega arith; index = omega arith; few = at-start .pre .0 .few },
       to .proper,
-      record { left = c .before .before .before .before .before .before .gl .ensures .is ∙ sym (to .left); right = c .before .before .before .before .before .gr .ensures .is ∙ sym (to .right) },
+      record { left = at-gl .gl .ensures .is ∙ sym (to .left); right = at-gr .gr .ensures .is ∙ sym (to .right) },
       to .sized,
-      c .before .before .before .loop-test .taken,
+      at-loop-test .loop-test .taken,
     )
 
 add-n : tie.Need-add-n Inv-loop μ-loop
@@ -56,17 +69,21 @@ loop-less c = omega arith
 
 loop-again : tie.Need-loop-again Inv-loop μ-loop
 loop-again c =
-    let start = c .before .before .before .before .before .before .before .before .before .before .before .before .before .before in
+    let at-through = c .before .before .before .before in
+    let at-designated = at-through .before .before .before in
+    let at-loop = at-designated .before .before in
+    let at-place = at-loop .before .before .before .before .before in
+    let start = at-place in
     let state = unpack (start .args .node .state) in
     let x = setOf (start .args .x) in
-    let at = c .before .before .before .before .before .before .before .before .before .loop in
-    let to = c .before .before .before .before .before .before .before .designated .ensures in (
+    let at = at-loop .loop in
+    let to = at-designated .designated .ensures in (
       omega arith,
       omega arith,
       omega arith,
       λ cs most t w h.
           let way = to .way cs t w in
-          let pushed = c .before .before .before .before .through .ensures cs most t (way .before) (way .numbers) (omega (arith, to .few, h)) in
+          let pushed = at-through .through .ensures cs most t (way .before) (way .numbers) (omega (arith, to .few, h)) in
           up-one t state x (at .n) (at .inv .3 cs most t w h)
           (rw (to .back) at (pushes-as _ _ (ap (byWays (t .base) (t .place) (t .pre) (t .code)) (way .same)) pushed)),
     )

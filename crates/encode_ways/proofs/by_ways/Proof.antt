@@ -28,7 +28,9 @@ in-gr-requires : tie.Need-in-gr-requires
 in-gr-requires c κs = search needs
 
 push-requires-2 : tie.Need-push-requires-2
-push-requires-2 c κs = (record { store = omega arith; index = omega arith; few = c .before .before .before .before .before .before .before .before .before .before .before .before .before .before .before .before .before .before .pre .0 .few }, rw (c .in-gr .ensures) (c .before .before .before .before .before .before .before .before .before .before .before .before .before .before .before .before .before .before .pre .1))
+push-requires-2 c κs =
+    let at-start = c .before .before .before .before .before .before .before .before .before .before .before .before .before .before .before .before .before .before in
+    (record { store = omega arith; index = omega arith; few = at-start .pre .0 .few }, rw (c .in-gr .ensures) (at-start .pre .1))
 
 same-length : tie.Need-same-length
 same-length c = search needs
@@ -38,21 +40,31 @@ same-length-2 c = search needs
 
 returns : tie.Need-returns
 returns c =
-    let start = c .before .before .before .before .before .before .before .before .before .before .before .before .before .before .before .before .before .before .before .before .before .before .before in
+    let at-push2 = c .before .before .before .before in
+    let at-in-gr = at-push2 .before in
+    let at-if2 = at-in-gr .before .before .before in
+    let at-push = at-if2 .before .before .before .before .before in
+    let at-if1 = at-push .before .before .before in
+    let at-set-in2 = at-if1 .before in
+    let at-gr = at-set-in2 .before in
+    let at-set-in = at-gr .before in
+    let at-gl = at-set-in .before in
+    let at-place = at-gl .before .before .before in
+    let start = at-place in
     let node = start .args .node in
     let x = start .args .x in
-    let l = c .before .before .before .before .before .before .before .before .before .before .before .before .before .before .before .before .before .before .before .set-in in
-    let r = c .before .before .before .before .before .before .before .before .before .before .before .before .before .before .before .before .before .set-in2 in
+    let l = at-set-in .set-in in
+    let r = at-set-in2 .set-in2 in
     let state = unpack (node .state) in
-    let cl = codes-at (l .result) (c .before .before .before .before .before .before .before .before .before .before .before .before .before .before .before .before .before .before .before .before .gl .result) (state .gl) state (c .before .before .before .before .before .before .before .before .before .before .before .before .before .before .before .before .before .before .before .before .gl .ensures .is) (l .ensures) in
-    let cr = codes-at (r .result) (c .before .before .before .before .before .before .before .before .before .before .before .before .before .before .before .before .before .before .gr .result) (state .gr) state (c .before .before .before .before .before .before .before .before .before .before .before .before .before .before .before .before .before .before .gr .ensures .is) (r .ensures) in
+    let cl = codes-at (l .result) (at-gl .gl .result) (state .gl) state (at-gl .gl .ensures .is) (l .ensures) in
+    let cr = codes-at (r .result) (at-gr .gr .result) (state .gr) state (at-gr .gr .ensures .is) (r .ensures) in
     let b = unpack (node .state) in
     λ cs most t w h.
     let v = through-none cs t x (node .cost) (node .link) w in
-    let p1 = renamed _ (reached t [] b 0) (stands cs t [] 0 (node .cost) (node .link) v (node .state) (node .back)) (c .before .before .before .before .before .before .before .before .before .before .before .before .before .push .ensures cs most (omega arith)) in
-    let pushed = rw (c .before .before .before .before .before .in-gr .ensures) at (c .before .before .before .before .push2 .ensures cs most) in
+    let p1 = renamed _ (reached t [] b 0) (stands cs t [] 0 (node .cost) (node .link) v (node .state) (node .back)) (at-push .push .ensures cs most (omega arith)) in
+    let pushed = rw (at-in-gr .in-gr .ensures) at (at-push2 .push2 .ensures cs most) in
     let p2 = renamed _ (reached t [] b 128) (stands-right cs t [] 0 (node .cost) (node .link) v (node .state) (node .back)) (pushed (omega arith)) in
-    pushes-as _ _ (sym (set-both t b x (l .result) (r .result) cl cr (c .before .before .before .before .before .before .before .before .before .before .before .before .before .before .before .before .if1 .taken) (c .before .before .before .before .before .before .before .before .if2 .taken)))
+    pushes-as _ _ (sym (set-both t b x (l .result) (r .result) cl cr (at-if1 .if1 .taken) (at-if2 .if2 .taken)))
     (and (_ ∷ []) (_ ∷ []) p1 p2)
 
 same-length-3 : tie.Need-same-length-3
@@ -63,25 +75,34 @@ same-length-4 c = search needs
 
 returns-2 : tie.Need-returns-2
 returns-2 c =
-    let start = c .before .before .before .before .before .before .before .before .before .before .before .before .before .before .before in
+    let at-push = c .before .before .before .before .before in
+    let at-if1 = at-push .before .before .before in
+    let at-set-in2 = at-if1 .before in
+    let at-gr = at-set-in2 .before in
+    let at-set-in = at-gr .before in
+    let at-gl = at-set-in .before in
+    let at-place = at-gl .before .before .before in
+    let start = at-place in
     let node = start .args .node in
     let x = start .args .x in
-    let l = c .before .before .before .before .before .before .before .before .before .before .before .set-in in
-    let r = c .before .before .before .before .before .before .before .before .before .set-in2 in
+    let l = at-set-in .set-in in
+    let r = at-set-in2 .set-in2 in
     let state = unpack (node .state) in
-    let cl = codes-at (l .result) (c .before .before .before .before .before .before .before .before .before .before .before .before .gl .result) (state .gl) state (c .before .before .before .before .before .before .before .before .before .before .before .before .gl .ensures .is) (l .ensures) in
-    let cr = codes-at (r .result) (c .before .before .before .before .before .before .before .before .before .before .gr .result) (state .gr) state (c .before .before .before .before .before .before .before .before .before .before .gr .ensures .is) (r .ensures) in
+    let cl = codes-at (l .result) (at-gl .gl .result) (state .gl) state (at-gl .gl .ensures .is) (l .ensures) in
+    let cr = codes-at (r .result) (at-gr .gr .result) (state .gr) state (at-gr .gr .ensures .is) (r .ensures) in
     let b = unpack (node .state) in
     λ cs most t w h.
     let v = through-none cs t x (node .cost) (node .link) w in
-    let p1 = renamed _ (reached t [] b 0) (stands cs t [] 0 (node .cost) (node .link) v (node .state) (node .back)) (c .before .before .before .before .before .push .ensures cs most (omega arith)) in
-    pushes-as _ _ (sym (set-left t b x (l .result) (r .result) cl cr (c .before .before .before .before .before .before .before .before .if1 .taken) (c .if2 .left))) p1
+    let p1 = renamed _ (reached t [] b 0) (stands cs t [] 0 (node .cost) (node .link) v (node .state) (node .back)) (at-push .push .ensures cs most (omega arith)) in
+    pushes-as _ _ (sym (set-left t b x (l .result) (r .result) cl cr (at-if1 .if1 .taken) (c .if2 .left))) p1
 
 in-gr-requires-2 : tie.Need-in-gr-requires-2
 in-gr-requires-2 c κs = search needs
 
 push-requires-3 : tie.Need-push-requires-3
-push-requires-3 c κs = (record { store = omega arith; index = omega arith; few = c .before .before .before .before .before .before .before .before .before .before .before .pre .0 .few }, rw (c .in-gr2 .ensures) (c .before .before .before .before .before .before .before .before .before .before .before .pre .1))
+push-requires-3 c κs =
+    let at-start = c .before .before .before .before .before .before .before .before .before .before .before in
+    (record { store = omega arith; index = omega arith; few = at-start .pre .0 .few }, rw (c .in-gr2 .ensures) (at-start .pre .1))
 
 same-length-5 : tie.Need-same-length-5
 same-length-5 c = search needs
@@ -91,20 +112,29 @@ same-length-6 c = search needs
 
 returns-3 : tie.Need-returns-3
 returns-3 c =
-    let start = c .before .before .before .before .before .before .before .before .before .before .before .before .before .before .before .before in
+    let at-push3 = c .before .before .before .before in
+    let at-in-gr2 = at-push3 .before in
+    let at-if3 = at-in-gr2 .before .before .before in
+    let at-if1 = at-if3 .before in
+    let at-set-in2 = at-if1 .before in
+    let at-gr = at-set-in2 .before in
+    let at-set-in = at-gr .before in
+    let at-gl = at-set-in .before in
+    let at-place = at-gl .before .before .before in
+    let start = at-place in
     let node = start .args .node in
     let x = start .args .x in
-    let l = c .before .before .before .before .before .before .before .before .before .before .before .before .set-in in
-    let r = c .before .before .before .before .before .before .before .before .before .before .set-in2 in
+    let l = at-set-in .set-in in
+    let r = at-set-in2 .set-in2 in
     let state = unpack (node .state) in
-    let cl = codes-at (l .result) (c .before .before .before .before .before .before .before .before .before .before .before .before .before .gl .result) (state .gl) state (c .before .before .before .before .before .before .before .before .before .before .before .before .before .gl .ensures .is) (l .ensures) in
-    let cr = codes-at (r .result) (c .before .before .before .before .before .before .before .before .before .before .before .gr .result) (state .gr) state (c .before .before .before .before .before .before .before .before .before .before .before .gr .ensures .is) (r .ensures) in
+    let cl = codes-at (l .result) (at-gl .gl .result) (state .gl) state (at-gl .gl .ensures .is) (l .ensures) in
+    let cr = codes-at (r .result) (at-gr .gr .result) (state .gr) state (at-gr .gr .ensures .is) (r .ensures) in
     let b = unpack (node .state) in
     λ cs most t w h.
     let v = through-none cs t x (node .cost) (node .link) w in
-    let pushed = rw (c .before .before .before .before .before .in-gr2 .ensures) at (c .before .before .before .before .push3 .ensures cs most) in
+    let pushed = rw (at-in-gr2 .in-gr2 .ensures) at (at-push3 .push3 .ensures cs most) in
     let p2 = renamed _ (reached t [] b 128) (stands-right cs t [] 0 (node .cost) (node .link) v (node .state) (node .back)) (pushed (omega arith)) in
-    pushes-as _ _ (sym (set-right t b x (l .result) (r .result) cl cr (c .before .before .before .before .before .before .before .before .before .if1 .left) (c .before .before .before .before .before .before .before .before .if3 .taken))) p2
+    pushes-as _ _ (sym (set-right t b x (l .result) (r .result) cl cr (at-if1 .if1 .left) (at-if3 .if3 .taken))) p2
 
 by-elements-requires : tie.Need-by-elements-requires
 by-elements-requires c κs = search needs
@@ -117,18 +147,26 @@ same-length-8 c = search needs
 
 returns-4 : tie.Need-returns-4
 returns-4 c =
-    let start = c .before .before .before .before .before .before .before .before .before .before .before .before .before .before .before in
+    let at-by-elements = c .before .before .before .before in
+    let at-if3 = at-by-elements .before .before .before in
+    let at-if1 = at-if3 .before in
+    let at-set-in2 = at-if1 .before in
+    let at-gr = at-set-in2 .before in
+    let at-set-in = at-gr .before in
+    let at-gl = at-set-in .before in
+    let at-place = at-gl .before .before .before in
+    let start = at-place in
     let node = start .args .node in
     let x = start .args .x in
-    let l = c .before .before .before .before .before .before .before .before .before .before .before .set-in in
-    let r = c .before .before .before .before .before .before .before .before .before .set-in2 in
+    let l = at-set-in .set-in in
+    let r = at-set-in2 .set-in2 in
     let state = unpack (node .state) in
-    let cl = codes-at (l .result) (c .before .before .before .before .before .before .before .before .before .before .before .before .gl .result) (state .gl) state (c .before .before .before .before .before .before .before .before .before .before .before .before .gl .ensures .is) (l .ensures) in
-    let cr = codes-at (r .result) (c .before .before .before .before .before .before .before .before .before .before .gr .result) (state .gr) state (c .before .before .before .before .before .before .before .before .before .before .gr .ensures .is) (r .ensures) in
+    let cl = codes-at (l .result) (at-gl .gl .result) (state .gl) state (at-gl .gl .ensures .is) (l .ensures) in
+    let cr = codes-at (r .result) (at-gr .gr .result) (state .gr) state (at-gr .gr .ensures .is) (r .ensures) in
     let b = unpack (node .state) in
     λ cs most t w h.
-    pushes-as _ _ (sym (set-apart t b x (l .result) (r .result) cl cr (c .before .before .before .before .before .before .before .before .if1 .left) (c .before .before .before .before .before .before .before .if3 .left)))
-    (c .before .before .before .before .by-elements .ensures cs most t w h)
+    pushes-as _ _ (sym (set-apart t b x (l .result) (r .result) cl cr (at-if1 .if1 .left) (at-if3 .if3 .left)))
+    (at-by-elements .by-elements .ensures cs most t w h)
 
 pub by-ways-spec : {M : Type 1} → statement M
 by-ways-spec =

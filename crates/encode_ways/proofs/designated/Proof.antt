@@ -29,21 +29,29 @@ designation-length-requires : tie.Need-designation-length-requires
 designation-length-requires c κs = search needs
 
 add-t10 : tie.Need-add-t10
-add-t10 c = omega (arith, c .before .designation-length .ensures, designation-most (c .before .before .before .before .before .before .args .x) (c .before .before .before .before .before .before .args .n) (c .before .before .before .before .before .before .pre .3), c .before .before .before .before .before .before .pre .1 .cost-small)
+add-t10 c =
+    let at-designation-length = c .before in
+    let at-start = at-designation-length .before .before .before .before .before in
+    omega (arith, at-designation-length .designation-length .ensures, designation-most (at-start .args .x) (at-start .args .n) (at-start .pre .3), at-start .pre .1 .cost-small)
 
 add-t11 : tie.Need-add-t11
 add-t11 c = search needs
 
 returns : tie.Need-returns
 returns c =
-    let start = c .before .before .before .before .before .before in
+    let at-designation-length = c .before in
+    let at-if1 = at-designation-length .before in
+    let at-set-in = at-if1 .before in
+    let at-designate = at-set-in .before .before in
+    let at-place = at-designate .before in
+    let start = at-place in
     let node = start .args .node in
     let n = start .args .n in
     let x = start .args .x in
     let state = unpack (node .state) in
-    let b = c .before .before .before .before .before .designate .ensures in
-    let stood = c .before .before .before .set-in in
-    let bytes = c .before .designation-length in
+    let b = at-designate .designate .ensures in
+    let stood = at-set-in .set-in in
+    let bytes = at-designation-length .designation-length in
     let most : bytes .result ≤ 4 = omega (arith, bytes .ensures, designation-most x n (start .pre .3)) in
     record {
       proper = b .proper;
@@ -55,7 +63,7 @@ returns c =
       way = λ cs t w. record {
         before = designation (setOf x) n;
         numbers = through-designated cs t x (node .cost) (node .link) w n (bytes .result) (start .pre .2) (bytes .ensures);
-        same = ap (λ (s : State). through (designation (setOf x) n) s n) (b .is) ∙ sym (is-designated state n (stood .result) x (stood .ensures) (c .before .before .if1 .taken));
+        same = ap (λ (s : State). through (designation (setOf x) n) s n) (b .is) ∙ sym (is-designated state n (stood .result) x (stood .ensures) (at-if1 .if1 .taken));
       };
     }
 

@@ -12,19 +12,38 @@ narrow-requires : tie.Need-narrow-requires
 narrow-requires c κs = search needs
 
 returns : tie.Need-returns
-returns c = msz (unpack (c .before .before .before .args .a)) (c .before .before .before .args .size) (c .before .if1 .taken) (sym (c .before .before .narrow .ensures) ∙ c .if2 .taken)
+returns c =
+    let at-if1 = c .before in
+    let at-narrow = at-if1 .before in
+    let at-start = at-narrow .before in
+    msz (unpack (at-start .args .a)) (at-start .args .size) (at-if1 .if1 .taken) (sym (at-narrow .narrow .ensures) ∙ c .if2 .taken)
 
 returns-2 : tie.Need-returns-2
-returns-2 c = narrow-already (unpack (c .before .before .before .args .a)) (c .before .before .before .args .size) (c .before .if1 .taken) (λ e. c .if2 .left ((c .before .before .narrow .ensures) ∙ e))
+returns-2 c =
+    let at-if1 = c .before in
+    let at-narrow = at-if1 .before in
+    let at-start = at-narrow .before in
+    narrow-already (unpack (at-start .args .a)) (at-start .args .size) (at-if1 .if1 .taken) (λ e. c .if2 .left ((at-narrow .narrow .ensures) ∙ e))
 
 returns-3 : tie.Need-returns-3
-returns-3 c = nsz (unpack (c .before .before .before .before .args .a)) (c .before .before .before .before .args .size) (c .before .if3 .taken) (sym (c .before .before .before .narrow .ensures) ∙ c .if4 .taken)
+returns-3 c =
+    let at-if3 = c .before in
+    let at-narrow = at-if3 .before .before in
+    let at-start = at-narrow .before in
+    nsz (unpack (at-start .args .a)) (at-start .args .size) (at-if3 .if3 .taken) (sym (at-narrow .narrow .ensures) ∙ c .if4 .taken)
 
 returns-4 : tie.Need-returns-4
-returns-4 c = wide-already (unpack (c .before .before .before .before .args .a)) (c .before .before .before .before .args .size) (c .before .if3 .taken) (λ e. c .if4 .left ((c .before .before .before .narrow .ensures) ∙ e))
+returns-4 c =
+    let at-if3 = c .before in
+    let at-narrow = at-if3 .before .before in
+    let at-start = at-narrow .before in
+    wide-already (unpack (at-start .args .a)) (at-start .args .size) (at-if3 .if3 .taken) (λ e. c .if4 .left ((at-narrow .narrow .ensures) ∙ e))
 
 returns-5 : tie.Need-returns-5
-returns-5 c = no-size (unpack (c .before .before .before .args .a)) (c .before .before .before .args .size) (c .before .if1 .left) (c .if3 .left)
+returns-5 c =
+    let at-if1 = c .before in
+    let at-start = at-if1 .before .before in
+    no-size (unpack (at-start .args .a)) (at-start .args .size) (at-if1 .if1 .left) (c .if3 .left)
 
 pub size-control-spec : {M : Type 1} → statement M
 size-control-spec =

@@ -13,13 +13,20 @@ resize-requires : tie.Need-resize-requires
 resize-requires c κs = search needs
 
 returns-2 : tie.Need-returns-2
-returns-2 c = to-narrow (c .before .before .before .args .a) (c .resize .result) (c .before .before .before .args .size) (c .before .if2 .taken) (c .resize .ensures)
+returns-2 c =
+    let at-if2 = c .before in
+    let at-start = at-if2 .before .before in
+    to-narrow (at-start .args .a) (c .resize .result) (at-start .args .size) (at-if2 .if2 .taken) (c .resize .ensures)
 
 resize-requires-2 : tie.Need-resize-requires-2
 resize-requires-2 c κs = search needs
 
 returns-3 : tie.Need-returns-3
-returns-3 c = to-wide (c .before .before .before .args .a) (c .resize2 .result) (c .before .before .before .args .size) (c .before .before .if1 .left) (c .before .if2 .left) (c .resize2 .ensures)
+returns-3 c =
+    let at-if2 = c .before in
+    let at-if1 = at-if2 .before in
+    let at-start = at-if1 .before in
+    to-wide (at-start .args .a) (c .resize2 .result) (at-start .args .size) (at-if1 .if1 .left) (at-if2 .if2 .left) (c .resize2 .ensures)
 
 pub sized-spec : {M : Type 1} → statement M
 sized-spec = tie.close (tie.spec returns resize-requires returns-2 resize-requires-2 returns-3)

@@ -15,7 +15,9 @@ in-gr-requires : tie.Need-in-gr-requires
 in-gr-requires c κs = search needs
 
 push-requires-2 : tie.Need-push-requires-2
-push-requires-2 c κs = (record { store = omega arith; index = omega arith; few = c .before .before .before .before .before .before .before .before .before .before .before .before .before .before .before .before .pre .0 .few }, rw (c .in-gr .ensures) (c .before .before .before .before .before .before .before .before .before .before .before .before .before .before .before .before .pre .1))
+push-requires-2 c κs =
+    let at-start = c .before .before .before .before .before .before .before .before .before .before .before .before .before .before .before .before in
+    (record { store = omega arith; index = omega arith; few = at-start .pre .0 .few }, rw (c .in-gr .ensures) (at-start .pre .1))
 
 same-length : tie.Need-same-length
 same-length c = search needs
@@ -25,15 +27,21 @@ same-length-2 c = search needs
 
 returns : tie.Need-returns
 returns c =
-    let start = c .before .before .before .before .before .before .before .before .before .before .before .before .before .before .before .before .before .before .before .before .before in
+    let at-push2 = c .before .before .before .before in
+    let at-in-gr = at-push2 .before in
+    let at-if2 = at-in-gr .before .before .before in
+    let at-push = at-if2 .before .before .before .before .before .before in
+    let at-if1 = at-push .before .before .before in
+    let at-place = at-if1 .before .before .before .before in
+    let start = at-place in
     let node = start .args .node in
     let n = start .args .element .n in
     let b = unpack (node .state) in
     λ cs most t p w h.
-    let p1 = renamed _ (reached t p b 0) (stands cs t p n (node .cost) (node .link) w (node .state) (node .back)) (c .before .before .before .before .before .before .before .before .before .before .before .before .before .before .push .ensures cs most (omega arith)) in
-    let pushed = rw (c .before .before .before .before .before .in-gr .ensures) at (c .before .before .before .before .push2 .ensures cs most) in
+    let p1 = renamed _ (reached t p b 0) (stands cs t p n (node .cost) (node .link) w (node .state) (node .back)) (at-push .push .ensures cs most (omega arith)) in
+    let pushed = rw (at-in-gr .in-gr .ensures) at (at-push2 .push2 .ensures cs most) in
     let p2 = renamed _ (reached t p b 128) (stands-right cs t p n (node .cost) (node .link) w (node .state) (node .back)) (pushed (omega arith)) in
-    pushes-as _ _ (sym (in-both t p b n (sym (start .pre .2 .left) ∙ c .before .before .before .before .before .before .before .before .before .before .before .before .before .before .before .before .before .if1 .taken) (sym (start .pre .2 .right) ∙ c .before .before .before .before .before .before .before .before .if2 .taken)))
+    pushes-as _ _ (sym (in-both t p b n (sym (start .pre .2 .left) ∙ at-if1 .if1 .taken) (sym (start .pre .2 .right) ∙ at-if2 .if2 .taken)))
     (and (_ ∷ []) (_ ∷ []) p1 p2)
 
 same-length-3 : tie.Need-same-length-3
@@ -44,19 +52,24 @@ same-length-4 c = search needs
 
 returns-2 : tie.Need-returns-2
 returns-2 c =
-    let start = c .before .before .before .before .before .before .before .before .before .before .before .before .before in
+    let at-push = c .before .before .before .before .before .before in
+    let at-if1 = at-push .before .before .before in
+    let at-place = at-if1 .before .before .before .before in
+    let start = at-place in
     let node = start .args .node in
     let n = start .args .element .n in
     let b = unpack (node .state) in
     λ cs most t p w h.
-    let p1 = renamed _ (reached t p b 0) (stands cs t p n (node .cost) (node .link) w (node .state) (node .back)) (c .before .before .before .before .before .before .push .ensures cs most (omega arith)) in
-    pushes-as _ _ (sym (in-left t p b n (sym (start .pre .2 .left) ∙ c .before .before .before .before .before .before .before .before .before .if1 .taken) (λ e. c .if2 .left (start .pre .2 .right ∙ e)))) p1
+    let p1 = renamed _ (reached t p b 0) (stands cs t p n (node .cost) (node .link) w (node .state) (node .back)) (at-push .push .ensures cs most (omega arith)) in
+    pushes-as _ _ (sym (in-left t p b n (sym (start .pre .2 .left) ∙ at-if1 .if1 .taken) (λ e. c .if2 .left (start .pre .2 .right ∙ e)))) p1
 
 in-gr-requires-2 : tie.Need-in-gr-requires-2
 in-gr-requires-2 c κs = search needs
 
 push-requires-3 : tie.Need-push-requires-3
-push-requires-3 c κs = (record { store = omega arith; index = omega arith; few = c .before .before .before .before .before .before .before .before .before .pre .0 .few }, rw (c .in-gr2 .ensures) (c .before .before .before .before .before .before .before .before .before .pre .1))
+push-requires-3 c κs =
+    let at-start = c .before .before .before .before .before .before .before .before .before in
+    (record { store = omega arith; index = omega arith; few = at-start .pre .0 .few }, rw (c .in-gr2 .ensures) (at-start .pre .1))
 
 same-length-5 : tie.Need-same-length-5
 same-length-5 c = search needs
@@ -66,14 +79,19 @@ same-length-6 c = search needs
 
 returns-3 : tie.Need-returns-3
 returns-3 c =
-    let start = c .before .before .before .before .before .before .before .before .before .before .before .before .before .before in
+    let at-push3 = c .before .before .before .before in
+    let at-in-gr2 = at-push3 .before in
+    let at-if3 = at-in-gr2 .before .before .before in
+    let at-if1 = at-if3 .before .before in
+    let at-place = at-if1 .before .before .before .before in
+    let start = at-place in
     let node = start .args .node in
     let n = start .args .element .n in
     let b = unpack (node .state) in
     λ cs most t p w h.
-    let pushed = rw (c .before .before .before .before .before .in-gr2 .ensures) at (c .before .before .before .before .push3 .ensures cs most) in
+    let pushed = rw (at-in-gr2 .in-gr2 .ensures) at (at-push3 .push3 .ensures cs most) in
     let p2 = renamed _ (reached t p b 128) (stands-right cs t p n (node .cost) (node .link) w (node .state) (node .back)) (pushed (omega arith)) in
-    pushes-as _ _ (sym (in-right t p b n (λ e. c .before .before .before .before .before .before .before .before .before .before .if1 .left (start .pre .2 .left ∙ e)) (sym (start .pre .2 .right) ∙ c .before .before .before .before .before .before .before .before .if3 .taken))) p2
+    pushes-as _ _ (sym (in-right t p b n (λ e. at-if1 .if1 .left (start .pre .2 .left ∙ e)) (sym (start .pre .2 .right) ∙ at-if3 .if3 .taken))) p2
 
 by-shift-requires : tie.Need-by-shift-requires
 by-shift-requires c κs = search needs

@@ -45,7 +45,11 @@ same-length-2 c = search needs
 
 returns-2 : tie.Need-returns-2
 unfolding codeOf
-returns-2 c = rw (le-ltb _ _ (c .before .before .before .before .before .before .before .before .if1 .left)) (put-then (c .before .before .before .before .before .before .put2 .ensures) (c .before .before .put3 .ensures))
+returns-2 c =
+    let at-put3 = c .before .before in
+    let at-put2 = at-put3 .before .before .before .before in
+    let at-if1 = at-put2 .before .before in
+    rw (le-ltb _ _ (at-if1 .if1 .left)) (put-then (at-put2 .put2 .ensures) (at-put3 .put3 .ensures))
 
 pub put-code-spec : {M : Type 1} → statement M
 put-code-spec =

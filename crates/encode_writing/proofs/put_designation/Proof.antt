@@ -18,7 +18,9 @@ designation-requires c κs = search needs
 
 put-sequence-requires : tie.Need-put-sequence-requires
 put-sequence-requires c κs =
-    let l = designation-length (setNumber (c .before .set-of .result)) (c .before .before .before .before .before .args .e % 4) in
+    let at-set-of = c .before in
+    let at-start = at-set-of .before .before .before .before in
+    let l = designation-length (setNumber (at-set-of .set-of .result)) (at-start .args .e % 4) in
     (omega arith, omega (arith, l, c .designation .ensures .counted), held-length (c .designation .result) _ l (c .designation .ensures))
 
 same-length : tie.Need-same-length
@@ -26,9 +28,15 @@ same-length c = search needs
 
 returns : tie.Need-returns
 returns c =
-    let a = c .before .before .before .before .before .before .before .before .args in
+    let at-put-sequence = c .before .before in
+    let at-designation = at-put-sequence .before in
+    let at-set-of = at-designation .before in
+    let at-if1 = at-set-of .before .before in
+    let at-start = at-if1 .before .before in
+    let a = at-start .args in
     let m : a .e % 4 ≡ a .e = omega arith in
-    rw (eq-eqb _ _ (c .before .before .before .before .before .before .if1 .taken)) (put-as (ap (λ (x : ℕ). designation x (a .e % 4)) (c .before .before .before .before .set-of .ensures) ∙ ap (designation (setOf (a .x))) m) (c .before .before .put-sequence .ensures _ (c .before .before .before .designation .ensures)))
+    rw (eq-eqb _ _ (at-if1 .if1 .taken)) (put-as (ap (λ (x : ℕ). designation x (a .e % 4)) (at-set-of .set-of .ensures) ∙ ap (designation (setOf (a .x))) m)
+    (at-put-sequence .put-sequence .ensures _ (at-designation .designation .ensures)))
 
 returns-2 : tie.Need-returns-2
 returns-2 c = rw (ne-eqb _ _ (c .if1 .left)) (put-none _ _)

@@ -19,23 +19,63 @@ cast-put-designation : tie.Need-cast-put-designation
 cast-put-designation c = search needs
 
 put-designation-requires : tie.Need-put-designation-requires
-put-designation-requires c κs = (omega (arith, size-length (c .before .before .before .before .before .before .args .how / 16 % 4), c .before .before .before .put-size .ensures .to), c .before .before .before .before .before .before .pre .1, omega arith)
+put-designation-requires c κs =
+    let at-put-size = c .before .before .before in
+    let at-start = at-put-size .before .before .before in
+    (omega (arith, size-length (at-start .args .how / 16 % 4), at-put-size .put-size .ensures .to), at-start .pre .1, omega arith)
 
 put-invocation-requires : tie.Need-put-invocation-requires
-put-invocation-requires c κs = (omega (arith, size-length (c .before .before .before .before .before .before .before .before .before .before .args .how / 16 % 4), c .before .before .before .before .before .before .before .put-size .ensures .to, designated-length (eqb (c .before .before .before .before .before .before .before .before .before .before .args .how / 256 % 2) 1) (setOf (c .before .before .before .before .before .before .before .before .before .before .args .x)) (c .before .before .before .before .before .before .before .before .before .before .args .how / 64 % 4), c .before .before .before .put-designation .ensures .to), omega arith)
+put-invocation-requires c κs =
+    let at-put-designation = c .before .before .before in
+    let at-put-size = at-put-designation .before .before .before .before in
+    let at-start = at-put-size .before .before .before in (
+      omega (
+        arith,
+        size-length (at-start .args .how / 16 % 4),
+        at-put-size .put-size .ensures .to,
+        designated-length (eqb (at-start .args .how / 256 % 2) 1) (setOf (at-start .args .x)) (at-start .args .how / 64 % 4),
+        at-put-designation .put-designation .ensures .to,
+      ),
+      omega arith,
+    )
 
 half-requires : tie.Need-half-requires
 half-requires c κs = search needs
 
 put-code-requires : tie.Need-put-code-requires
-put-code-requires c κs = (omega (arith, size-length (c .before .before .before .before .before .before .before .before .before .before .before .before .before .before .before .args .how / 16 % 4), c .before .before .before .before .before .before .before .before .before .before .before .before .put-size .ensures .to, designated-length (eqb (c .before .before .before .before .before .before .before .before .before .before .before .before .before .before .before .args .how / 256 % 2) 1) (setOf (c .before .before .before .before .before .before .before .before .before .before .before .before .before .before .before .args .x)) (c .before .before .before .before .before .before .before .before .before .before .before .before .before .before .before .args .how / 64 % 4), c .before .before .before .before .before .before .before .before .put-designation .ensures .to, invocation-length (c .before .before .before .before .before .before .before .before .before .before .before .before .before .before .before .args .how / 512) (c .before .before .before .before .before .before .before .before .before .before .before .before .before .before .before .args .how / 64 % 4), c .before .before .before .before .put-invocation .ensures .to), c .before .before .before .before .before .before .before .before .before .before .before .before .before .before .before .pre .2, c .before .before .before .before .before .before .before .before .before .before .before .before .before .before .before .pre .3, omega (arith, c .half .ensures, half-most (c .before .before .before .before .before .before .before .before .before .before .before .before .before .before .before .args .how / 512)))
+put-code-requires c κs =
+    let at-put-invocation = c .before .before .before .before in
+    let at-put-designation = at-put-invocation .before .before .before .before in
+    let at-put-size = at-put-designation .before .before .before .before in
+    let at-start = at-put-size .before .before .before in (
+      omega (
+        arith,
+        size-length (at-start .args .how / 16 % 4),
+        at-put-size .put-size .ensures .to,
+        designated-length (eqb (at-start .args .how / 256 % 2) 1) (setOf (at-start .args .x)) (at-start .args .how / 64 % 4),
+        at-put-designation .put-designation .ensures .to,
+        invocation-length (at-start .args .how / 512) (at-start .args .how / 64 % 4),
+        at-put-invocation .put-invocation .ensures .to,
+      ),
+      at-start .pre .2,
+      at-start .pre .3,
+      omega (arith, c .half .ensures, half-most (at-start .args .how / 512)),
+    )
 
 same-length : tie.Need-same-length
 same-length c = search needs
 
 returns : tie.Need-returns
 unfolding writtenBy
-returns c = λ size. put-then (c .before .before .before .before .before .before .before .before .before .before .before .before .before .before .before .put-size .ensures) (put-then (put-then (c .before .before .before .before .before .before .before .before .before .before .before .put-designation .ensures) (c .before .before .before .before .before .before .before .put-invocation .ensures)) (put-as (ap (λ (h : ℕ). map (λ b. b + h) (codeOf (c .before .before .before .before .before .before .before .before .before .before .before .before .before .before .before .before .before .before .args .code))) (c .before .before .before .half .ensures)) (c .before .before .put-code .ensures)))
+returns c =
+    let at-put-code = c .before .before in
+    let at-half = at-put-code .before in
+    let at-put-invocation = at-half .before .before .before .before in
+    let at-put-designation = at-put-invocation .before .before .before .before in
+    let at-put-size = at-put-designation .before .before .before .before in
+    let at-start = at-put-size .before .before .before in
+    λ size. put-then (at-put-size .put-size .ensures) (put-then (put-then (at-put-designation .put-designation .ensures) (at-put-invocation .put-invocation .ensures))
+    (put-as (ap (λ (h : ℕ). map (λ b. b + h) (codeOf (at-start .args .code))) (at-half .half .ensures)) (at-put-code .put-code .ensures)))
 
 pub put-graphic-spec : {M : Type 1} → statement M
 put-graphic-spec =

@@ -11,14 +11,20 @@ put-size-requires : tie.Need-put-size-requires
 put-size-requires c κs = search needs
 
 put-requires : tie.Need-put-requires
-put-requires c κs = omega (arith, c .before .before .before .put-size .ensures .to, size-length (c .before .before .before .before .before .before .args .how / 16 % 4))
+put-requires c κs =
+    let at-put-size = c .before .before .before in
+    let at-start = at-put-size .before .before .before in
+    omega (arith, at-put-size .put-size .ensures .to, size-length (at-start .args .how / 16 % 4))
 
 same-length : tie.Need-same-length
 same-length c = search needs
 
 returns : tie.Need-returns
 unfolding writtenBy
-returns c = λ size. put-then (c .before .before .before .before .before .before .put-size .ensures) (c .before .before .put .ensures)
+returns c =
+    let at-put = c .before .before in
+    let at-put-size = at-put .before .before .before .before in
+    λ size. put-then (at-put-size .put-size .ensures) (at-put .put .ensures)
 
 pub put-plain-spec : {M : Type 1} → statement M
 put-plain-spec = tie.close (tie.spec put-size-requires put-requires same-length returns)

@@ -22,7 +22,10 @@ element-copy-out-put : tie.Need-element-copy-out-put Inv-loop μ-loop
 element-copy-out-put c = omega arith
 
 put-requires : tie.Need-put-requires Inv-loop μ-loop
-put-requires c κs = omega (arith, c .before .before .before .loop .inv .2 .to, taken-length (c .before .before .before .loop .k) (c .before .before .before .before .before .args .t3 .bytes))
+put-requires c κs =
+    let at-loop = c .before .before .before in
+    let at-start = at-loop .before .before in
+    omega (arith, at-loop .loop .inv .2 .to, taken-length (at-loop .loop .k) (at-start .args .t3 .bytes))
 
 add-k : tie.Need-add-k Inv-loop μ-loop
 add-k c = omega arith
@@ -32,10 +35,13 @@ loop-less c = omega arith
 
 loop-again : tie.Need-loop-again Inv-loop μ-loop
 loop-again c =
-    let p = c .before .before .put .ensures in (
+    let at-put = c .before .before in
+    let at-loop = at-put .before .before .before .before in
+    let at-start = at-loop .before .before in
+    let p = at-put .put .ensures in (
       omega arith,
-      put-length p ∙ c .before .before .before .before .before .before .loop .inv .1,
-      further (c .before .before .before .before .before .before .before .before .args .t3) (omega (arith, c .before .before .before .before .before .before .before .before .pre .2)) (c .before .before .before .before .before .before .loop .inv .2) p,
+      put-length p ∙ at-loop .loop .inv .1,
+      further (at-start .args .t3) (omega (arith, at-start .pre .2)) (at-loop .loop .inv .2) p,
     )
 
 same-length : tie.Need-same-length Inv-loop μ-loop

@@ -27,7 +27,10 @@ same-length-2 : tie.Need-same-length-2
 same-length-2 c = search needs
 
 returns-3 : tie.Need-returns-3
-returns-3 c = put-as (sym (other-size _ (c .before .before .before .before .match .rest .0 .1) (c .before .before .before .before .match .rest .1))) (c .before .before .put2 .ensures)
+returns-3 c =
+    let at-put2 = c .before .before in
+    let at-match = at-put2 .before .before in
+    put-as (sym (other-size _ (at-match .match .rest .0 .1) (at-match .match .rest .1))) (at-put2 .put2 .ensures)
 
 pub put-size-spec : {M : Type 1} → statement M
 put-size-spec =

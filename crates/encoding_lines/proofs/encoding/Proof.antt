@@ -26,7 +26,10 @@ same-length : tie.Need-same-length
 same-length c = search needs
 
 returns : tie.Need-returns
-returns c = printed-as (encoding-as _ _ _ _ (c .before .before .before .before .before .before .fill .ensures .table (length-replicate {A = ℕ} 8836 0))) (c .before .before .coded-lines .ensures)
+returns c =
+    let at-coded-lines = c .before .before in
+    let at-fill = at-coded-lines .before .before .before .before in
+    printed-as (encoding-as _ _ _ _ (at-fill .fill .ensures .table (length-replicate {A = ℕ} 8836 0))) (at-coded-lines .coded-lines .ensures)
 
 pub encoding-spec : {M : Type 1} → statement M
 encoding-spec =

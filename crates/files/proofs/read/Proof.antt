@@ -31,13 +31,44 @@ read-once-requires : tie.Need-read-once-requires Inv-loop μ-loop
 read-once-requires c κs = search needs
 
 add-done : tie.Need-add-done Inv-loop μ-loop
-add-done c = omega (arith, c .before .before .before .before .before .read-once .ensures, c .before .before .before .before .before .read-once .kept .1 .1 .0, mid-len (c .before .before .before .before .before .before .before .before .loop .done) (length (c .before .before .before .before .before .before .before .before .loop .buffer)) (c .before .before .before .before .before .before .before .before .loop .buffer) (omega arith))
+add-done c =
+    let at-read-once = c .before .before .before .before .before in
+    let at-loop = at-read-once .before .before .before in
+    omega (
+      arith,
+      at-read-once .read-once .ensures,
+      at-read-once .read-once .kept .1 .1 .0,
+      mid-len (at-loop .loop .done) (length (at-loop .loop .buffer)) (at-loop .loop .buffer) (omega arith),
+    )
 
 loop-less : tie.Need-loop-less Inv-loop μ-loop
-loop-less c = omega (arith, c .before .if1 .left, c .before .before .before .before .before .read-once .ensures, c .before .before .before .before .before .read-once .kept .1 .1 .0, mid-len (c .before .before .before .before .before .before .before .before .loop .done) (length (c .before .before .before .before .before .before .before .before .loop .buffer)) (c .before .before .before .before .before .before .before .before .loop .buffer) (omega arith))
+loop-less c =
+    let at-if1 = c .before in
+    let at-read-once = at-if1 .before .before .before .before in
+    let at-loop = at-read-once .before .before .before in
+    omega (
+      arith,
+      at-if1 .if1 .left,
+      at-read-once .read-once .ensures,
+      at-read-once .read-once .kept .1 .1 .0,
+      mid-len (at-loop .loop .done) (length (at-loop .loop .buffer)) (at-loop .loop .buffer) (omega arith),
+    )
 
 loop-again : tie.Need-loop-again Inv-loop μ-loop
-loop-again c = (same-len-mid (c .before .before .before .before .before .before .before .before .loop .done) (length (c .before .before .before .before .before .before .before .before .loop .buffer) - c .before .before .before .before .before .before .before .before .loop .done) (c .before .before .before .before .before .before .before .before .loop .buffer) (c .before .before .before .before .before .read-once .last .1 .1 .0) (c .before .before .before .before .before .read-once .kept .1 .1 .0) ∙ c .before .before .before .before .before .before .before .before .loop .inv .0, omega (arith, same-len-mid (c .before .before .before .before .before .before .before .before .loop .done) (length (c .before .before .before .before .before .before .before .before .loop .buffer) - c .before .before .before .before .before .before .before .before .loop .done) (c .before .before .before .before .before .before .before .before .loop .buffer) (c .before .before .before .before .before .read-once .last .1 .1 .0) (c .before .before .before .before .before .read-once .kept .1 .1 .0), c .before .before .before .before .before .read-once .ensures, c .before .before .before .before .before .read-once .kept .1 .1 .0, mid-len (c .before .before .before .before .before .before .before .before .loop .done) (length (c .before .before .before .before .before .before .before .before .loop .buffer)) (c .before .before .before .before .before .before .before .before .loop .buffer) (omega arith)))
+loop-again c =
+    let at-read-once = c .before .before .before .before .before in
+    let at-loop = at-read-once .before .before .before in (
+      same-len-mid (at-loop .loop .done) (length (at-loop .loop .buffer) - at-loop .loop .done) (at-loop .loop .buffer) (at-read-once .read-once .last .1 .1 .0)
+          (at-read-once .read-once .kept .1 .1 .0) ∙ at-loop .loop .inv .0,
+      omega (
+        arith,
+        same-len-mid (at-loop .loop .done) (length (at-loop .loop .buffer) - at-loop .loop .done) (at-loop .loop .buffer)
+            (at-read-once .read-once .last .1 .1 .0) (at-read-once .read-once .kept .1 .1 .0),
+        at-read-once .read-once .ensures,
+        at-read-once .read-once .kept .1 .1 .0,
+        mid-len (at-loop .loop .done) (length (at-loop .loop .buffer)) (at-loop .loop .buffer) (omega arith),
+      ),
+    )
 
 same-length : tie.Need-same-length Inv-loop μ-loop
 same-length c = c .before .loop .inv .0
@@ -46,11 +77,22 @@ returns : tie.Need-returns Inv-loop μ-loop
 returns c = (c .before .loop .inv .1, sym (length-take-le _ _ (c .before .loop .inv .1)))
 
 same-length-2 : tie.Need-same-length-2 Inv-loop μ-loop
-same-length-2 c = same-len-mid (c .before .before .before .before .before .before .before .loop .done) (length (c .before .before .before .before .before .before .before .loop .buffer) - c .before .before .before .before .before .before .before .loop .done) (c .before .before .before .before .before .before .before .loop .buffer) (c .before .before .before .before .read-once .last .1 .1 .0) (c .before .before .before .before .read-once .kept .1 .1 .0) ∙ c .before .before .before .before .before .before .before .loop .inv .0
+same-length-2 c =
+    let at-read-once = c .before .before .before .before in
+    let at-loop = at-read-once .before .before .before in
+    same-len-mid (at-loop .loop .done) (length (at-loop .loop .buffer) - at-loop .loop .done) (at-loop .loop .buffer) (at-read-once .read-once .last .1 .1 .0)
+    (at-read-once .read-once .kept .1 .1 .0) ∙ at-loop .loop .inv .0
 
 returns-2 : tie.Need-returns-2 Inv-loop μ-loop
 returns-2 c =
-    let e : c .before .before .before .before .before .before .before .loop .done ≤ length (putMid (c .before .before .before .before .before .before .before .loop .done) (length (c .before .before .before .before .before .before .before .loop .buffer) - c .before .before .before .before .before .before .before .loop .done) (c .before .before .before .before .before .before .before .loop .buffer) (c .before .before .before .before .read-once .last .1 .1 .0)) = omega (arith, same-len-mid (c .before .before .before .before .before .before .before .loop .done) (length (c .before .before .before .before .before .before .before .loop .buffer) - c .before .before .before .before .before .before .before .loop .done) (c .before .before .before .before .before .before .before .loop .buffer) (c .before .before .before .before .read-once .last .1 .1 .0) (c .before .before .before .before .read-once .kept .1 .1 .0)) in
+    let at-read-once = c .before .before .before .before in
+    let at-loop = at-read-once .before .before .before in
+    let e : at-loop .loop .done ≤ length (putMid (at-loop .loop .done) (length (at-loop .loop .buffer) - at-loop .loop .done) (at-loop .loop .buffer)
+    (at-read-once .read-once .last .1 .1 .0)) = omega (
+      arith,
+      same-len-mid (at-loop .loop .done) (length (at-loop .loop .buffer) - at-loop .loop .done)
+          (at-loop .loop .buffer) (at-read-once .read-once .last .1 .1 .0) (at-read-once .read-once .kept .1 .1 .0),
+    ) in
     (e, sym (length-take-le _ _ e))
 
 pub read-spec : {M : Type 1} → statement M

@@ -15,7 +15,11 @@ same-length : tie.Need-same-length
 same-length c = search needs
 
 returns : tie.Need-returns
-returns c = rw (not-true (c .before .before .before .before .before .before .before .before .args .present) (c .before .before .before .before .before .if1 .taken)) (filled-absent _ _ _ (c .before .before .numbers .ensures))
+returns c =
+    let at-numbers = c .before .before in
+    let at-if1 = at-numbers .before .before .before in
+    let at-start = at-if1 .before .before .before in
+    rw (not-true (at-start .args .present) (at-if1 .if1 .taken)) (filled-absent _ _ _ (at-numbers .numbers .ensures))
 
 numbers-requires-2 : tie.Need-numbers-requires-2
 numbers-requires-2 c κs = search needs
@@ -24,13 +28,20 @@ same-length-2 : tie.Need-same-length-2
 same-length-2 c = search needs
 
 returns-2 : tie.Need-returns-2
-returns-2 c = rw (not-false (c .before .before .before .before .before .before .before .before .args .present) (c .before .before .before .before .before .if1 .left)) (filled-whole _ _ _ (c .before .before .before .numbers2 .ensures) (c .if2 .taken))
+returns-2 c =
+    let at-numbers2 = c .before .before .before in
+    let at-if1 = at-numbers2 .before .before in
+    let at-start = at-if1 .before .before .before in
+    rw (not-false (at-start .args .present) (at-if1 .if1 .left)) (filled-whole _ _ _ (at-numbers2 .numbers2 .ensures) (c .if2 .taken))
 
 same-length-3 : tie.Need-same-length-3
 same-length-3 c = search needs
 
 returns-3 : tie.Need-returns-3
-returns-3 c = rw (not-false (c .before .before .before .before .before .before .before .before .args .present) (c .before .before .before .before .before .if1 .left)) (filled-not _ _ _ (c .if2 .left))
+returns-3 c =
+    let at-if1 = c .before .before .before .before .before in
+    let at-start = at-if1 .before .before .before in
+    rw (not-false (at-start .args .present) (at-if1 .if1 .left)) (filled-not _ _ _ (c .if2 .left))
 
 pub fill-spec : {M : Type 1} → statement M
 fill-spec =

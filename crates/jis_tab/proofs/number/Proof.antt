@@ -31,7 +31,10 @@ cast-result-2 : tie.Need-cast-result-2
 cast-result-2 c = omega (arith, c .shared-slice-known2 .given (2 * c .before .before .before .args .i + 1))
 
 add-result-2 : tie.Need-add-result-2
-add-result-2 c = omega (arith, c .before .shared-slice-known .given (2 * c .before .before .before .args .i), c .shared-slice-known2 .given (2 * c .before .before .before .args .i + 1))
+add-result-2 c =
+    let at-shared-slice-known = c .before in
+    let at-start = at-shared-slice-known .before .before in
+    omega (arith, at-shared-slice-known .shared-slice-known .given (2 * at-start .args .i), c .shared-slice-known2 .given (2 * at-start .args .i + 1))
 
 returns : tie.Need-returns
 returns c = number-at _ _ (c .before .before .if1 .taken)

@@ -17,7 +17,10 @@ slice-relend-prefix-remove : tie.Need-slice-relend-prefix-remove
 slice-relend-prefix-remove c = omega (arith, ap textOf (c .before .r .given .1), c .before .before .before .before .pre)
 
 slice-aggregate-remove : tie.Need-slice-aggregate-remove
-slice-aggregate-remove c = sym (length-take-le _ _ (omega (arith, ap textOf (c .before .before .r .given .1), c .before .before .before .before .before .pre)))
+slice-aggregate-remove c =
+    let at-r = c .before .before in
+    let at-start = at-r .before .before .before in
+    sym (length-take-le _ _ (omega (arith, ap textOf (at-r .r .given .1), at-start .pre)))
 
 remove-requires : tie.Need-remove-requires
 remove-requires c κs = search needs
@@ -32,7 +35,10 @@ same-length : tie.Need-same-length
 same-length c = search needs
 
 returns : tie.Need-returns
-returns c = λ l d. keyed-as l _ _ d _ _ _ _ _ (c .before .before .before .before .before .r .given .1) (c .before .before .remove .ensures)
+returns c =
+    let at-remove = c .before .before in
+    let at-r = at-remove .before .before .before in
+    λ l d. keyed-as l _ _ d _ _ _ _ _ (at-r .r .given .1) (at-remove .remove .ensures)
 
 returns-2 : tie.Need-returns-2
 returns-2 c = λ l d. refused-as l _ _ d _ _ _ (c .before .before .r2 .given .1) (c .refuse .ensures)

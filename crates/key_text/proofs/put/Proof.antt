@@ -18,9 +18,11 @@ put-requires c κs = search needs
 
 add-result : tie.Need-add-result
 add-result c =
-    let at-k = c .before .before .before .before .before in
+    let at-put = c .before .before in
+    let at-place = at-put .before .before .before in
+    let at-k = at-place in
     let at-start = at-k .before .before .before .before in
-    omega (arith, c .before .before .put .ensures .count, length-utf8 (at-k .k .given .0 .0), at-start .good, at-start .pre)
+    omega (arith, at-put .put .ensures .count, length-utf8 (at-k .k .given .0 .0), at-start .good, at-start .pre)
 
 enum-told : tie.Need-enum-told
 enum-told c = search needs
@@ -30,9 +32,11 @@ same-length c = search needs
 
 returns : tie.Need-returns
 returns c =
-    let at-k = c .before .before .before .before .before in
+    let at-put = c .before .before in
+    let at-place = at-put .before .before .before in
+    let at-k = at-place in
     let at-key-char = at-k .before .before in
-    put-char _ _ _ _ _ _ (sym (at-key-char .key-char .ensures) ∙ at-k .k .given .1) (c .before .before .put .ensures)
+    put-char _ _ _ _ _ _ (sym (at-key-char .key-char .ensures) ∙ at-k .k .given .1) (at-put .put .ensures)
 
 returns-2 : tie.Need-returns-2
 returns-2 c = put-nothing _ _ _ (sym (c .before .before .key-char .ensures) ∙ c .enum-told .given .1)

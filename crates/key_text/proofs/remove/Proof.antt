@@ -32,7 +32,8 @@ enum-known-s c = search needs
 
 put-requires : tie.Need-put-requires Inv-loop μ-loop
 put-requires c κs =
-    let at-loop = c .before .before .before .before .before .before in
+    let at-place = c .before .before .before .before .before .before in
+    let at-loop = at-place in
     omega (arith, at-loop .loop .inv .order, at-loop .loop .inv .within, at-loop .loop .inv .long)
 
 -- where no scalar was read
@@ -55,7 +56,9 @@ read c =
     turned _ _ _ _ _ _ (at-read .before .before .loop .inv) (sym (at-read .read .ensures) ∙ at-scalar .s .given .1) (at-put .put .ensures)
 
 add-at : tie.Need-add-at Inv-loop μ-loop
-add-at c = omega (arith, read c .within, c .before .before .before .before .before .before .before .before .before .before .before .good)
+add-at c =
+    let at-start = c .before .before .before .before .before .before .before .before .before .before .before in
+    omega (arith, read c .within, at-start .good)
 
 loop-less : tie.Need-loop-less Inv-loop μ-loop
 loop-less c = omega (arith, read c .least, read c .within)

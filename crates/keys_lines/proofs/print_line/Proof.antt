@@ -22,14 +22,17 @@ room-for-requires c κs = search needs
 -- the room is that of the title's bytes, and so much is lent
 size : (c : tie.After-room-for)
     → c .room-for .result
-    ≡ roomFor (length (take (c .before .before .before .before .before .before .before .put-title .result) (c .before .before .before .before .before .before .before .put-title .last .1 .1 .0)))
+    ≡ roomFor (length (take (c .before .before .before .before .before .before .before .put-title .result)
+    (c .before .before .before .before .before .before .before .put-title .last .1 .1 .0)))
 size c =
-    let at-title = c .before .before .before .before .before .before .before in
+    let at-place = c .before .before .before .before .before .before .before in
+    let at-title = at-place in
     c .room-for .ensures ∙ ap roomFor (sym (length-take-le _ _ (at-title .put-title .ensures .inside)))
 
 lent-size : (c : tie.After-room-for)
     → c .before .before .before .put-number .result + c .room-for .result - c .before .before .before .put-number .result
-    ≡ roomFor (length (take (c .before .before .before .before .before .before .before .put-title .result) (c .before .before .before .before .before .before .before .put-title .last .1 .1 .0)))
+    ≡ roomFor (length (take (c .before .before .before .before .before .before .before .put-title .result)
+    (c .before .before .before .before .before .before .before .put-title .last .1 .1 .0)))
 lent-size c = omega (arith, size c)
 
 add-end : tie.Need-add-end
@@ -42,7 +45,9 @@ slice-reshare-prefix-title-key : tie.Need-slice-reshare-prefix-title-key
 slice-reshare-prefix-title-key c = search needs
 
 slice-aggregate-title-key : tie.Need-slice-aggregate-title-key
-slice-aggregate-title-key c = sym (length-take-le _ _ (c .before .before .before .before .before .before .before .before .put-title .ensures .inside))
+slice-aggregate-title-key c =
+    let at-put-title = c .before .before .before .before .before .before .before .before in
+    sym (length-take-le _ _ (at-put-title .put-title .ensures .inside))
 
 sub-title-key : tie.Need-sub-title-key
 sub-title-key c = search needs
@@ -57,8 +62,11 @@ part-title-key-end c =
     let number = at-number .put-number .ensures in
     let at-title = at-number .before .before .before .before in
     let at-start = at-title .before .before .before .before .before .before in
-    omega
-    (arith, room-inside (at-start .args .cells .now) (at-start .args .line .now) _ (at-title .put-title .ensures .bytes) _ _ _ (number .0) (number .1) (at-start .pre .1 .out-room) _ (size at-room))
+    omega (
+      arith,
+      room-inside (at-start .args .cells .now) (at-start .args .line .now) _ (at-title .put-title .ensures .bytes) _ _ _ (number .0) (number .1)
+          (at-start .pre .1 .out-room) _ (size at-room),
+    )
 
 title-key-requires : tie.Need-title-key-requires
 title-key-requires c κs =
@@ -75,13 +83,15 @@ len-requires c κs = search needs
 
 put-answer-requires : tie.Need-put-answer-requires
 put-answer-requires c κs =
-    let at-key = c .before .before .before .before .before in
+    let at-place = c .before .before .before .before .before in
+    let at-key = at-place in
     let at-room = at-key .before .before .before in
     let at-number = at-room .before .before .before in
     let number = at-number .put-number .ensures in
     let at-title = at-number .before .before .before .before in
     let at-start = at-title .before .before .before .before .before .before in
-    answer-fits (at-start .args .cells .now) (at-start .args .line .now) _ (at-title .put-title .ensures .bytes) _ _ _ (number .0) (number .1) (at-start .pre .1 .out-room) _ (lent-size at-room)
+    answer-fits (at-start .args .cells .now) (at-start .args .line .now) _ (at-title .put-title .ensures .bytes) _ _ _ (number .0) (number .1) (at-start .pre .1 .out-room) _
+    (lent-size at-room)
     _ _ (at-key .title-key .ensures) (at-key .title-key .kept .1 .1 .1 .0) _ (c .len .ensures)
 
 same-length : tie.Need-same-length
@@ -99,7 +109,8 @@ returns c =
     let number = at-number .put-number .ensures in
     let at-title = at-number .before .before .before .before in
     let at-start = at-title .before .before .before .before .before .before in
-    line-printed (at-start .args .cells .now) (at-start .args .line .now) _ (at-title .put-title .ensures .bytes) _ _ _ (number .0) (number .1) (at-start .pre .1 .out-room) _ (lent-size at-room)
+    line-printed (at-start .args .cells .now) (at-start .args .line .now) _ (at-title .put-title .ensures .bytes) _ _ _ (number .0) (number .1) (at-start .pre .1 .out-room) _
+    (lent-size at-room)
     _ _ (at-key .title-key .ensures) (at-key .title-key .kept .1 .1 .1 .0) _ _ (at-answer .before .before .number .ensures) (at-answer .before .len .ensures)
     (at-answer .put-answer .ensures .0) (at-answer .put-answer .ensures .1)
 

@@ -5,7 +5,10 @@ use Rattle.keys_lines.proofs.title_key.Statement.{statement}
 use Rattle.keys_lines.proofs.title_key.Tie as tie
 
 key-checked-requires : tie.Need-key-checked-requires
-key-checked-requires c κs = passes _ _ (c .before .before .before .before .before .pre .0 (c .before .if1 .taken)) (c .before .before .before .before .before .pre .1)
+key-checked-requires c κs =
+    let at-if1 = c .before in
+    let at-start = at-if1 .before .before .before .before in
+    passes _ _ (at-start .pre .0 (at-if1 .if1 .taken)) (at-start .pre .1)
 
 same-length : tie.Need-same-length
 same-length c = search needs

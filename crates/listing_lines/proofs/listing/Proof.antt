@@ -26,7 +26,10 @@ same-length : tie.Need-same-length
 same-length c = search needs
 
 returns : tie.Need-returns
-returns c = printed-as (listing-as _ _ _ _ (c .before .before .before .before .before .before .fill .ensures .table (length-replicate {A = ℕ} 8836 0))) (c .before .before .decoded-lines .ensures)
+returns c =
+    let at-decoded-lines = c .before .before in
+    let at-fill = at-decoded-lines .before .before .before .before in
+    printed-as (listing-as _ _ _ _ (at-fill .fill .ensures .table (length-replicate {A = ℕ} 8836 0))) (at-decoded-lines .decoded-lines .ensures)
 
 pub listing-spec : {M : Type 1} → statement M
 listing-spec =

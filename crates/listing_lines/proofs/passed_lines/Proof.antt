@@ -19,7 +19,8 @@ slice-aggregate-decode-checked-2 c = search needs
 
 decode-checked-requires : tie.Need-decode-checked-requires
 decode-checked-requires c κs =
-    let at-start = c .before .before .before .before .before in
+    let at-place = c .before .before .before .before .before in
+    let at-start = at-place in
     passes-more (at-start .args .cells .now) (at-start .args .input .now) (at-start .pre)
 
 number-requires : tie.Need-number-requires
@@ -52,18 +53,23 @@ charged-requires c κs = search needs
 -- the counts are within their rooms, and the buffers keep their lengths
 few : (c : tie.After-charged) → Within (c .before .before .before .text3 .result) (c .before .before .issues3 .result) (c .charged .result)
 few c =
-    let at-call = c .before .before .before .before .before .before .before .before in
+    let at-issues3 = c .before .before in
+    let at-text3 = at-issues3 .before in
+    let at-place = at-text3 .before .before .before .before .before in
+    let at-call = at-place in
     let at-start = at-call .before .before .before .before .before .before in
-    within _ _ (at-start .pre) (answered-as _ _ (at-call .decode-checked .ensures)) (c .before .before .before .text3 .ensures) (c .before .before .issues3 .ensures) (c .charged .ensures)
+    within _ _ (at-start .pre) (answered-as _ _ (at-call .decode-checked .ensures)) (at-text3 .text3 .ensures) (at-issues3 .issues3 .ensures) (c .charged .ensures)
 
 text-long : (c : tie.After-charged) → length (c .before .before .before .before .before .before .before .before .decode-checked .last .1 .1 .1 .1 .0) ≡ 65536
 text-long c =
-    let at-call = c .before .before .before .before .before .before .before .before in
+    let at-place = c .before .before .before .before .before .before .before .before in
+    let at-call = at-place in
     at-call .decode-checked .kept .1 .1 .1 .1 .0 ∙ length-replicate {A = ℕ} 65536 0
 
 issues-long : (c : tie.After-charged) → length (c .before .before .before .before .before .before .before .before .decode-checked .last .1 .1 .1 .1 .1 .0) ≡ 256 * numbers
 issues-long c =
-    let at-call = c .before .before .before .before .before .before .before .before in
+    let at-place = c .before .before .before .before .before .before .before .before in
+    let at-call = at-place in
     at-call .decode-checked .kept .1 .1 .1 .1 .1 .0 ∙ length-replicate {A = ℕ} (256 * numbers) 0
 
 array-share-prefix-text : tie.Need-array-share-prefix-text

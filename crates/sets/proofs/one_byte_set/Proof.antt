@@ -52,7 +52,20 @@ returns-11 c = sym (ap (fromDesignation false false) (c .match .keys11))
 
 returns-12 : tie.Need-returns-12
 unfolding fromDesignation
-returns-12 c = simp (ne-eqb _ 0x4a (c .match .rest .0 .0 .0 .0 .0 .0 .0 .0 .0 .0 .1), ne-eqb _ 0x30 (c .match .rest .0 .0 .0 .0 .0 .0 .0 .0 .0 .1), ne-eqb _ 0x31 (c .match .rest .0 .0 .0 .0 .0 .0 .0 .0 .1), ne-eqb _ 0x32 (c .match .rest .0 .0 .0 .0 .0 .0 .0 .1), ne-eqb _ 0x33 (c .match .rest .0 .0 .0 .0 .0 .0 .1), ne-eqb _ 0x34 (c .match .rest .0 .0 .0 .0 .0 .1), ne-eqb _ 0x35 (c .match .rest .0 .0 .0 .0 .1), ne-eqb _ 0x36 (c .match .rest .0 .0 .0 .1), ne-eqb _ 0x37 (c .match .rest .0 .0 .1), ne-eqb _ 0x38 (c .match .rest .0 .1), ne-eqb _ 0x49 (c .match .rest .1))
+returns-12 c =
+    simp (
+      ne-eqb _ 0x4a (c .match .rest .0 .0 .0 .0 .0 .0 .0 .0 .0 .0 .1),
+      ne-eqb _ 0x30 (c .match .rest .0 .0 .0 .0 .0 .0 .0 .0 .0 .1),
+      ne-eqb _ 0x31 (c .match .rest .0 .0 .0 .0 .0 .0 .0 .0 .1),
+      ne-eqb _ 0x32 (c .match .rest .0 .0 .0 .0 .0 .0 .0 .1),
+      ne-eqb _ 0x33 (c .match .rest .0 .0 .0 .0 .0 .0 .1),
+      ne-eqb _ 0x34 (c .match .rest .0 .0 .0 .0 .0 .1),
+      ne-eqb _ 0x35 (c .match .rest .0 .0 .0 .0 .1),
+      ne-eqb _ 0x36 (c .match .rest .0 .0 .0 .1),
+      ne-eqb _ 0x37 (c .match .rest .0 .0 .1),
+      ne-eqb _ 0x38 (c .match .rest .0 .1),
+      ne-eqb _ 0x49 (c .match .rest .1),
+    )
 
 pub one-byte-set-spec : {M : Type 1} → statement M
 one-byte-set-spec =

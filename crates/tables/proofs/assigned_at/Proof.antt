@@ -42,18 +42,22 @@ loop-less-2 c = omega arith
 
 loop-again-2 : tie.Need-loop-again-2 Inv-loop μ-loop
 loop-again-2 c =
-    let l = c .before .before .before .before .before .before in
+    let at-if1 = c .before .before in
+    let at-place = at-if1 .before .before .before .before in
+    let l = at-place in
     let a = l .before .args in
     let p = l .loop .inv in
-    let e = assigned-cell (a .t1) (l .loop .i) (omega (arith, p .0)) (a .row) (a .cell) (a .x) (c .before .before .if1 .left) (c .if2 .taken) in
+    let e = assigned-cell (a .t1) (l .loop .i) (omega (arith, p .0)) (a .row) (a .cell) (a .x) (at-if1 .if1 .left) (c .if2 .taken) in
     (p .0, (omega arith, sym e ∙ p .1 .1))
 
 returns : tie.Need-returns Inv-loop μ-loop
 returns c =
-    let l = c .before .before .before .before .before .before in
+    let at-if1 = c .before .before in
+    let at-place = at-if1 .before .before .before .before in
+    let l = at-place in
     let a = l .before .args in
     let p = l .loop .inv in
-    sym (assigned-hit (a .t1) (l .loop .i) (omega (arith, p .0)) (a .row) (a .cell) (a .x) (c .before .before .if1 .left) (c .if2 .left)) ∙ p .1 .1
+    sym (assigned-hit (a .t1) (l .loop .i) (omega (arith, p .0)) (a .row) (a .cell) (a .x) (at-if1 .if1 .left) (c .if2 .left)) ∙ p .1 .1
 
 returns-2 : tie.Need-returns-2 Inv-loop μ-loop
 returns-2 c =

@@ -14,9 +14,11 @@ returns-2 c =
 
 returns-3 : tie.Need-returns-3
 returns-3 c =
-    let a = c .before .before .before .before .before .args in
+    let at-if1 = c .before .before .before .before in
+    let at-start = at-if1 .before in
+    let a = at-start .args in
     rw (
-      eq-eqb (a .row) 90 (c .before .before .before .before .if1 .left),
+      eq-eqb (a .row) 90 (at-if1 .if1 .left),
       le-leb 45 (a .cell) (omega arith),
       lt-leb (a .cell) 63 (omega arith),
       le-leb 66 (a .cell) (omega arith),
@@ -40,9 +42,11 @@ returns-5 c =
 
 returns-6 : tie.Need-returns-6
 returns-6 c =
-    let a = c .before .before .before .before .before .args in
+    let at-if1 = c .before .before .before .before in
+    let at-start = at-if1 .before in
+    let a = at-start .args in
     rw (
-      eq-eqb (a .row) 90 (c .before .before .before .before .if1 .left),
+      eq-eqb (a .row) 90 (at-if1 .if1 .left),
       le-leb 45 (a .cell) (omega arith),
       lt-leb (a .cell) 63 (omega arith),
       le-leb 66 (a .cell) (omega arith),

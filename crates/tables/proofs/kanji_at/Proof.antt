@@ -31,11 +31,15 @@ assigned-at-requires-2 c κs = search needs
 returns-2 : tie.Need-returns-2
 unfolding kanjiAt
 returns-2 c =
-    let a = c .before .before .before .before .before .before .before .args in
+    let at-assigned-at = c .before in
+    let at-table-at2 = at-assigned-at .before in
+    let at-if2 = at-table-at2 .before in
+    let at-start = at-if2 .before .before .before .before in
+    let a = at-start .args in
     c .assigned-at2 .ensures
     ∙ ap (assigned nonSpacing (a .row) (a .cell))
-    (c .before .assigned-at .ensures ∙ ap (assigned kanjiOverrides (a .row) (a .cell)) (c .before .before .table-at2 .ensures))
-    ∙ sym (rows-1-2 (a .row) (a .cell) (tableAt (a .t .now) (a .row) (a .cell)) (c .before .before .before .if2 .taken))
+    (at-assigned-at .assigned-at .ensures ∙ ap (assigned kanjiOverrides (a .row) (a .cell)) (at-table-at2 .table-at2 .ensures))
+    ∙ sym (rows-1-2 (a .row) (a .cell) (tableAt (a .t .now) (a .row) (a .cell)) (at-if2 .if2 .taken))
 
 kanji-symbol-at-requires : tie.Need-kanji-symbol-at-requires
 kanji-symbol-at-requires c κs = search needs
@@ -50,7 +54,8 @@ returns-3 c =
 
 returns-4 : tie.Need-returns-4
 returns-4 c =
-    let a = c .before .before .before .before .before .args in
+    let at-start = c .before .before .before .before .before in
+    let a = at-start .args in
     sym (past-rows (a .t .now) (a .row) (a .cell) (omega arith))
 
 pub kanji-at-spec : {M : Type 1} → statement M

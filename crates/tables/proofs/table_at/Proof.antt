@@ -52,17 +52,20 @@ shared-slice-read-result c = search needs
 
 cast-result : tie.Need-cast-result
 cast-result c =
-    let a = c .before .before .before .before .before .before .args in
+    let at-start = c .before .before .before .before .before .before in
+    let a = at-start .args in
     omega (arith, c .shared-slice-known .given ((a .row - 1) * 94 + (a .cell - 1)))
 
 returns-5 : tie.Need-returns-5
 returns-5 c =
-    let a = c .before .before .before .before .before .before .args in
+    let at-start = c .before .before .before .before .before .before in
+    let a = at-start .args in
     sym (on-grid (a .t .now) (a .row) (a .cell) (omega arith) (omega arith) (omega arith) (omega arith))
 
 returns-6 : tie.Need-returns-6
 returns-6 c =
-    let a = c .before .before .before .before .before .args in
+    let at-start = c .before .before .before .before .before in
+    let a = at-start .args in
     sym
     (on-grid (a .t .now) (a .row) (a .cell) (omega arith) (omega arith) (omega arith) (omega arith)
     ∙ List·getD-eq-default (a .t .now) 0 (c .if5 .left))

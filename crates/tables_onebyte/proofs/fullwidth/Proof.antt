@@ -18,8 +18,10 @@ returns c = ap fullwidthOf (sym (c .match .keys1))
 returns-2 : tie.Need-returns-2
 unfolding fullwidthOf
 returns-2 c =
-    let h : c .before .before .before .args .c ≤ 0x7E = omega arith in
-    rw (le-leb 0x21 (c .before .before .before .args .c) (c .before .if1 .left), le-leb (c .before .before .before .args .c) 0x7E h)
+    let at-if1 = c .before in
+    let at-start = at-if1 .before .before in
+    let h : at-start .args .c ≤ 0x7E = omega arith in
+    rw (le-leb 0x21 (at-start .args .c) (at-if1 .if1 .left), le-leb (at-start .args .c) 0x7E h)
 
 returns-3 : tie.Need-returns-3
 unfolding fullwidthOf

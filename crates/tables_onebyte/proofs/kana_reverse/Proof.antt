@@ -30,50 +30,60 @@ run-reverse-requires c κs = search needs
 returns-3 : tie.Need-returns-3
 unfolding kanaAt
 returns-3 c =
-    let a = c .before .before .before .before .before .args in
+    let at-start = c .before .before .before .before .before in
+    let a = at-start .args in
     key (kanaAt (a .kana)) (a .c) 0x79 (omega arith) (omega arith) (omega arith) (c .match .keys1)
 
 returns-4 : tie.Need-returns-4
 unfolding kanaAt
 returns-4 c =
-    let a = c .before .before .before .before .before .args in
+    let at-start = c .before .before .before .before .before in
+    let a = at-start .args in
     key (kanaAt (a .kana)) (a .c) 0x7A (omega arith) (omega arith) (omega arith) (c .match .keys2)
 
 returns-5 : tie.Need-returns-5
 unfolding kanaAt
 returns-5 c =
-    let a = c .before .before .before .before .before .args in
+    let at-start = c .before .before .before .before .before in
+    let a = at-start .args in
     key (kanaAt (a .kana)) (a .c) 0x7B (omega arith) (omega arith) (omega arith) (c .match .keys3)
 
 returns-6 : tie.Need-returns-6
 unfolding kanaAt
 returns-6 c =
-    let a = c .before .before .before .before .before .args in
+    let at-start = c .before .before .before .before .before in
+    let a = at-start .args in
     key (kanaAt (a .kana)) (a .c) 0x7C (omega arith) (omega arith) (omega arith) (c .match .keys4)
 
 returns-7 : tie.Need-returns-7
 unfolding kanaAt
 returns-7 c =
-    let a = c .before .before .before .before .before .args in
+    let at-start = c .before .before .before .before .before in
+    let a = at-start .args in
     key (kanaAt (a .kana)) (a .c) 0x7D (omega arith) (omega arith) (omega arith) (c .match .keys5)
 
 returns-8 : tie.Need-returns-8
 unfolding kanaAt
 returns-8 c =
-    let a = c .before .before .before .before .before .args in
+    let at-start = c .before .before .before .before .before in
+    let a = at-start .args in
     key (kanaAt (a .kana)) (a .c) 0x7E (omega arith) (omega arith) (omega arith) (c .match .keys6)
 
 returns-9 : tie.Need-returns-9
 returns-9 c =
-    let z = c .before .before .before .before .before .before in
+    let at-match = c .before in
+    let at-if2 = at-match .before in
+    let at-if1 = at-if2 .before .before in
+    let at-place = at-if1 .before .before in
+    let z = at-place in
     let k = z .args .kana in
     let x = z .args .c in
-    let n = c .before .match .rest in
+    let n = at-match .match .rest in
     kana-run k (z .pre) x
     (no-sign (k .iteration) x
     (rw (
-      ne-eqb (k .iteration) x (λ e. c .before .before .before .before .if1 .left (sym e)),
-      ne-eqb (k .iteration + 1) x (λ e. c .before .before .if2 .left (sym e)),
+      ne-eqb (k .iteration) x (λ e. at-if1 .if1 .left (sym e)),
+      ne-eqb (k .iteration + 1) x (λ e. at-if2 .if2 .left (sym e)),
       ne-eqb 0x30FC x (λ e. n .0 .0 .0 .0 .0 .1 (sym e)),
       ne-eqb 0x3002 x (λ e. n .0 .0 .0 .0 .1 (sym e)),
       ne-eqb 0x300C x (λ e. n .0 .0 .0 .1 (sym e)),

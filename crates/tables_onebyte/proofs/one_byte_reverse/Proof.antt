@@ -48,26 +48,34 @@ run-reverse-requires c κs = search needs
 
 returns : tie.Need-returns
 returns c =
-    arm Alphanumeric (c .before .before .before .args .c) (c .before .enum-told .given .1)
-    (inverse Alphanumeric (alphanumericAt 0x21 0xA5) alphanumeric-rule (c .before .before .before .args .c) (c .alphanumeric-reverse .result) (c .alphanumeric-reverse .ensures))
+    let at-enum-told = c .before in
+    let at-start = at-enum-told .before .before in
+    arm Alphanumeric (at-start .args .c) (at-enum-told .enum-told .given .1)
+    (inverse Alphanumeric (alphanumericAt 0x21 0xA5) alphanumeric-rule (at-start .args .c) (c .alphanumeric-reverse .result) (c .alphanumeric-reverse .ensures))
 
 returns-2 : tie.Need-returns-2
 returns-2 c = arm Fullwidth (c .before .before .before .args .c) (c .before .enum-told2 .given .1) (c .half .ensures)
 
 returns-3 : tie.Need-returns-3
 returns-3 c =
-    arm Hiragana (c .before .before .before .args .c) (c .before .enum-told3 .given .1)
-    (inverse Hiragana (kanaAt hiraganaSet) hiragana-rule (c .before .before .before .args .c) (c .kana-reverse .result) (c .kana-reverse .ensures))
+    let at-enum-told3 = c .before in
+    let at-start = at-enum-told3 .before .before in
+    arm Hiragana (at-start .args .c) (at-enum-told3 .enum-told3 .given .1)
+    (inverse Hiragana (kanaAt hiraganaSet) hiragana-rule (at-start .args .c) (c .kana-reverse .result) (c .kana-reverse .ensures))
 
 returns-4 : tie.Need-returns-4
 returns-4 c =
-    arm Katakana (c .before .before .before .args .c) (c .before .enum-told4 .given .1)
-    (inverse Katakana (kanaAt katakanaSet) katakana-rule (c .before .before .before .args .c) (c .kana-reverse2 .result) (c .kana-reverse2 .ensures))
+    let at-enum-told4 = c .before in
+    let at-start = at-enum-told4 .before .before in
+    arm Katakana (at-start .args .c) (at-enum-told4 .enum-told4 .given .1)
+    (inverse Katakana (kanaAt katakanaSet) katakana-rule (at-start .args .c) (c .kana-reverse2 .result) (c .kana-reverse2 .ensures))
 
 returns-5 : tie.Need-returns-5
 returns-5 c =
-    arm JisX0201Katakana (c .before .before .before .args .c) (c .before .enum-told5 .given .1)
-    (inverse JisX0201Katakana (runAt 0xFF61 0x5F) jis-x0201-katakana-rule (c .before .before .before .args .c) (c .run-reverse .result) (c .run-reverse .ensures))
+    let at-enum-told5 = c .before in
+    let at-start = at-enum-told5 .before .before in
+    arm JisX0201Katakana (at-start .args .c) (at-enum-told5 .enum-told5 .given .1)
+    (inverse JisX0201Katakana (runAt 0xFF61 0x5F) jis-x0201-katakana-rule (at-start .args .c) (c .run-reverse .result) (c .run-reverse .ensures))
 
 pub one-byte-reverse-spec : {M : Type 1} → statement M
 one-byte-reverse-spec =

@@ -63,7 +63,9 @@ returns-3 c =
     nowhere x h (no-cell (y .symbols .result) x (y .symbols .ensures) h (c .before .among-symbols .ensures (not-true (c .before .among-symbols .result) (c .if3 .taken))))
 
 rows-holds : tie.Need-rows-holds Inv-cells μ-cells Inv-rows μ-rows
-rows-holds c = let z = c .before .before .before .before .before .before in from-85 (z .before .args .c) (z .if1 .left)
+rows-holds c =
+    let at-place = c .before .before .before .before .before .before in
+    let z = at-place in from-85 (z .before .args .c) (z .if1 .left)
 
 cells-holds : tie.Need-cells-holds Inv-cells μ-cells Inv-rows μ-rows
 cells-holds c = c .before .rows .inv
@@ -99,8 +101,10 @@ rows-again c = next-row (c .before .cells .inv) (c .before .before .rows-test .t
 returns-4 : tie.Need-returns-4 Inv-cells μ-cells Inv-rows μ-rows
 unfolding additionalReverse
 returns-4 c =
-    let z = c .before .before .before .before .before .before .before .before in
-    found-nowhere (c .before .rows .inv) (omega arith) ∙ ap placeOf (sym (first-char symbolPlace (z .before .args .c) [] 8836 (z .if1 .left)))
+    let at-rows = c .before in
+    let at-place = at-rows .before .before .before .before .before .before .before in
+    let z = at-place in
+    found-nowhere (at-rows .rows .inv) (omega arith) ∙ ap placeOf (sym (first-char symbolPlace (z .before .args .c) [] 8836 (z .if1 .left)))
 
 returns-5 : tie.Need-returns-5 Inv-cells μ-cells Inv-rows μ-rows
 unfolding additionalReverse

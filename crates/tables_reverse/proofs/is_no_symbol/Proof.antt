@@ -15,14 +15,19 @@ returns-2 c e =
 
 returns-3 : tie.Need-returns-3
 returns-3 c e =
-    let x = c .before .before .before .before .before .args .c in
-    let s = c .before .before .before .before in
+    let at-if4 = c .before in
+    let at-if3 = at-if4 .before in
+    let at-if2 = at-if3 .before in
+    let at-place = at-if2 .before in
+    let at-start = at-place .before in
+    let x = at-start .args .c in
+    let s = at-place in
     no-symbol-in x
     (rw (
       le-ltb x 0x80 (s .if1 .left),
-      le-leb 0x3041 x (c .before .before .before .if2 .left),
-      le-ltb x 0x3100 (c .before .before .if3 .left),
-      le-leb 0xFF00 x (c .before .if4 .left),
+      le-leb 0x3041 x (at-if2 .if2 .left),
+      le-ltb x 0x3100 (at-if3 .if3 .left),
+      le-leb 0xFF00 x (at-if4 .if4 .left),
       lt-ltb x 0x10000 (c .if5 .taken),
     ))
 

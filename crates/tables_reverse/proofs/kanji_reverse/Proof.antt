@@ -90,14 +90,20 @@ add-row-2 : tie.Need-add-row-2 Inv-cells μ-cells Inv-rows μ-rows
 add-row-2 c = omega arith
 
 rows-less-2 : tie.Need-rows-less-2 Inv-cells μ-cells Inv-rows μ-rows
-rows-less-2 c = let r = c .before .before .before .before .before in omega (arith, r .rows .inv .0, c .before .before .before .before .if2 .left)
+rows-less-2 c =
+    let at-if2 = c .before .before .before .before in
+    let at-place = at-if2 .before in
+    let r = at-place in omega (arith, r .rows .inv .0, at-if2 .if2 .left)
 
 rows-again-2 : tie.Need-rows-again-2 Inv-cells μ-cells Inv-rows μ-rows
 rows-again-2 c =
-    let r = c .before .before .before .before .before in
+    let at-cells = c .before in
+    let at-if2 = at-cells .before .before .before in
+    let at-place = at-if2 .before in
+    let r = at-place in
     let h = r .rows .inv .0 in
-    let n = c .before .before .before .before .if2 .left in
-    (omega (arith, h, n), next-row (c .before .cells .inv) (omega (arith, h)) (c .cells-test .left))
+    let n = at-if2 .if2 .left in
+    (omega (arith, h, n), next-row (at-cells .cells .inv) (omega (arith, h)) (c .cells-test .left))
 
 returns-2 : tie.Need-returns-2 Inv-cells μ-cells Inv-rows μ-rows
 unfolding kanjiReverse

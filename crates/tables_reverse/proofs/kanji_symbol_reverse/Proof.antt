@@ -101,15 +101,20 @@ cells-less-2 c = omega arith
 
 cells-again-2 : tie.Need-cells-again-2 Inv-cells μ-cells Inv-rows μ-rows
 cells-again-2 c =
-    let k = c .before .before .before .before .before .before in
+    let at-symbol-in = c .before in
+    let at-if2 = at-symbol-in .before .before in
+    let at-in-gap = at-if2 .before in
+    let at-cells-test = at-in-gap .before in
+    let at-place = at-cells-test .before in
+    let k = at-place in
     let r = k .before .before in
     let y = r .before in
     let z = y .before .before .before in
     let p = k .cells .inv in
-    let g = sym (c .before .before .before .before .in-gap .ensures) ∙ c .before .before .before .if2 .left in
-    let s = c .before .symbol-in .ensures ∙ y .symbols .ensures (r .rows .row) (k .cells .cell) in (
+    let g = sym (at-in-gap .in-gap .ensures) ∙ at-if2 .if2 .left in
+    let s = at-symbol-in .symbol-in .ensures ∙ y .symbols .ensures (r .rows .row) (k .cells .cell) in (
       p .0,
-      λ t. next-cell (p .1 t) (k .before .rows-test .taken) (c .before .before .before .before .before .cells-test .taken)
+      λ t. next-cell (p .1 t) (k .before .rows-test .taken) (at-cells-test .cells-test .taken)
           (λ q. c .if3 .left
           (s ∙ sym (off-reads (z .args .c) (r .rows .row) (k .cells .cell) (z .pre) (p .0) (omega arith) (p .1 t .cell-from) (omega arith) t g) ∙ q)),
     )
@@ -130,14 +135,19 @@ returns-2 c t = found-nowhere (c .before .rows .inv .1 t) (c .rows-test .left)
 
 returns-3 : tie.Need-returns-3 Inv-cells μ-cells Inv-rows μ-rows
 returns-3 c t =
-    let k = c .before .before .before .before .before .before in
+    let at-symbol-in = c .before in
+    let at-if2 = at-symbol-in .before .before in
+    let at-in-gap = at-if2 .before in
+    let at-cells-test = at-in-gap .before in
+    let at-place = at-cells-test .before in
+    let k = at-place in
     let r = k .before .before in
     let y = r .before in
     let z = y .before .before .before in
     let p = k .cells .inv in
-    let g = sym (c .before .before .before .before .in-gap .ensures) ∙ c .before .before .before .if2 .left in
-    let s = c .before .symbol-in .ensures ∙ y .symbols .ensures (r .rows .row) (k .cells .cell) in
-    found-here (p .1 t) (k .before .rows-test .taken) (c .before .before .before .before .before .cells-test .taken)
+    let g = sym (at-in-gap .in-gap .ensures) ∙ at-if2 .if2 .left in
+    let s = at-symbol-in .symbol-in .ensures ∙ y .symbols .ensures (r .rows .row) (k .cells .cell) in
+    found-here (p .1 t) (k .before .rows-test .taken) (at-cells-test .cells-test .taken)
     (off-reads (z .args .c) (r .rows .row) (k .cells .cell) (z .pre) (p .0) (omega arith) (p .1 t .cell-from) (omega arith) t g ∙ sym s ∙ c .if3 .taken)
 
 pub kanji-symbol-reverse-spec : {M : Type 1} → statement M

@@ -37,11 +37,17 @@ table-lacks-requires-2 c κs = search needs
 
 returns-4 : tie.Need-returns-4
 returns-4 c e cell a b r =
-    let z = c .before .before .before .before .before .before .before in
+    let at-if3 = c .before in
+    let at-is-override = at-if3 .before in
+    let at-if2 = at-is-override .before in
+    let at-is-non-spacing = at-if2 .before in
+    let at-if1 = at-is-non-spacing .before in
+    let at-place = at-if1 .before .before in
+    let z = at-place in
     let t = z .args .t .now in
-    let m = sym (c .before .before .before .before .is-non-spacing .ensures) ∙ c .before .before .before .if2 .left in
-    let o = sym (c .before .before .is-override .ensures) ∙ c .before .if3 .left in
-    c .table-lacks2 .ensures e cell a b (plain-row t (z .args .row) cell (z .args .c) (omega (arith, c .before .before .before .before .before .if1 .left)) m o r)
+    let m = sym (at-is-non-spacing .is-non-spacing .ensures) ∙ at-if2 .if2 .left in
+    let o = sym (at-is-override .is-override .ensures) ∙ at-if3 .if3 .left in
+    c .table-lacks2 .ensures e cell a b (plain-row t (z .args .row) cell (z .args .c) (omega (arith, at-if1 .if1 .left)) m o r)
 
 pub row-lacks-spec : {M : Type 1} → statement M
 row-lacks-spec =

@@ -53,11 +53,13 @@ among-requires c κs = search needs
 
 returns-3 : tie.Need-returns-3
 returns-3 c e cell a b r =
-    let z = c .before .before .before .before .before in
+    let at-if1 = c .before .before .before in
+    let at-place = at-if1 .before .before in
+    let z = at-place in
     let t = z .args .t .now in
     let q = on-grid t (z .args .row) cell (z .pre .0) (omega (arith, z .pre .1)) a b in
     let f = (z .args .row - 1) * 94 in
-    in-part t f (f + 96 - f) (z .args .c) (cell - 1) (omega (arith, c .before .before .before .if1 .left)) (omega arith)
+    in-part t f (f + 96 - f) (z .args .c) (cell - 1) (omega (arith, at-if1 .if1 .left)) (omega arith)
     (c .among .ensures (not-true (c .among .result) e)) (sym q ∙ r)
 
 pub table-lacks-spec : {M : Type 1} → statement M

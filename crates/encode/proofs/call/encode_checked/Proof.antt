@@ -17,7 +17,9 @@ slice-aggregate-find-3 : tie.Need-slice-aggregate-find-3
 slice-aggregate-find-3 c = search needs
 
 find-requires : tie.Need-find-requires
-find-requires c κs = let h : length (c .before .before .before .before .before .before .before .before .args .text .now) ≤ 7281 = passed _ _ _ _ _ (c .before .before .before .before .before .before .before .before .pre) .within in (h, record { chars = h; kanji = h; symbols = h })
+find-requires c κs =
+    let at-start = c .before .before .before .before .before .before .before .before in
+    let h : length (at-start .args .text .now) ≤ 7281 = passed _ _ _ _ _ (at-start .pre) .within in (h, record { chars = h; kanji = h; symbols = h })
 
 enum-told : tie.Need-enum-told
 enum-told c = search needs
@@ -38,7 +40,14 @@ slice-aggregate-write-3 : tie.Need-slice-aggregate-write-3
 slice-aggregate-write-3 c = search needs
 
 write-requires : tie.Need-write-requires
-write-requires c κs = let l = leading (c .before .before .before .before .before .before .before .before .before .before .before .before .before .before .before .before .before .before .before .before .before .before .args .cells .now) (c .before .before .before .before .before .before .before .before .before .before .before .before .before .before .before .before .before .before .before .before .before .before .args .initial) (c .before .before .before .before .before .before .before .before .before .before .before .before .before .before .before .before .before .before .before .before .before .before .args .width) (c .before .before .before .before .before .before .before .before .before .before .before .before .before .before .before .before .before .before .before .before .before .before .args .text .now) (c .before .before .before .before .before .before .before .before .before .before .before .before .before .before .before .before .before .before .before .before .before .before .args .store .now) (c .before .before .before .before .before .before .before .before .before .before .before .before .before .before .before .before .before .before .before .before .before .before .args .coding .now) (c .before .before .before .before .before .before .before .before .before .before .before .before .before .find .last .1 .1 .1 .1 .0) (c .before .before .before .before .before .before .before .before .before .before .before .before .before .find .last .1 .1 .1 .1 .1 .0) (c .before .before .before .before .before .before .before .before .before .before .before .before .before .find .last .1 .1 .1 .1 .1 .1 .0) (c .before .before .before .before .before .before .before .before .before .before .before .before .before .find .last .1 .1 .1 .1 .1 .1 .1 .0) (c .before .before .before .before .before .before .before .before .before .before .before .before .before .find .result) (c .before .before .before .before .before .before .before .before .before .before .before .before .before .find .ensures (length (c .before .before .before .before .before .before .before .before .before .before .before .before .before .before .before .before .before .before .before .before .before .before .args .coding .now))) (c .before .before .before .before .before .before .plan .given .1) in (l .held, l .searched)
+write-requires c κs =
+    let at-plan = c .before .before .before .before .before .before in
+    let at-find = at-plan .before .before .before .before .before .before .before in
+    let at-start = at-find .before .before .before .before .before .before .before .before .before in
+    let l = leading (at-start .args .cells .now) (at-start .args .initial) (at-start .args .width) (at-start .args .text .now) (at-start .args .store .now)
+    (at-start .args .coding .now) (at-find .find .last .1 .1 .1 .1 .0) (at-find .find .last .1 .1 .1 .1 .1 .0) (at-find .find .last .1 .1 .1 .1 .1 .1 .0)
+    (at-find .find .last .1 .1 .1 .1 .1 .1 .1 .0) (at-find .find .result) (at-find .find .ensures (length (at-start .args .coding .now))) (at-plan .plan .given .1) in
+    (l .held, l .searched)
 
 enum-known-plan-2 : tie.Need-enum-known-plan-2
 enum-known-plan-2 c = search needs
@@ -53,7 +62,16 @@ same-length-2 : tie.Need-same-length-2
 same-length-2 c = search needs
 
 returns : tie.Need-returns
-returns c = answered-nothing (c .before .before .before .before .before .before .before .before .before .before .before .before .before .before .before .before .before .before .before .before .before .before .before .args .cells .now) (c .before .before .before .before .before .before .before .before .before .before .before .before .before .before .before .before .before .before .before .before .before .before .before .args .initial) (c .before .before .before .before .before .before .before .before .before .before .before .before .before .before .before .before .before .before .before .before .before .before .before .args .width) (c .before .before .before .before .before .before .before .before .before .before .before .before .before .before .before .before .before .before .before .before .before .before .before .args .text .now) (c .before .before .before .before .before .before .before .before .before .before .before .before .before .before .before .before .before .before .before .before .before .before .before .args .store .now) (c .before .before .before .before .before .before .before .before .before .before .before .before .before .before .before .before .before .before .before .before .before .before .before .args .coding .now) (c .before .before .before .before .before .before .before .before .before .before .before .before .before .before .find .last .1 .1 .1 .1 .0) (c .before .before .before .before .before .before .before .before .before .before .before .before .before .before .find .last .1 .1 .1 .1 .1 .0) (c .before .before .before .before .before .before .before .before .before .before .before .before .before .before .find .last .1 .1 .1 .1 .1 .1 .0) (c .before .before .before .before .before .before .before .before .before .before .before .before .before .before .find .last .1 .1 .1 .1 .1 .1 .1 .0) (c .before .before .before .before .before .before .before .before .before .before .before .before .before .before .find .result) (c .before .before .before .before .before .before .before .before .before .before .before .before .before .before .find .ensures (length (c .before .before .before .before .before .before .before .before .before .before .before .before .before .before .before .before .before .before .before .before .before .before .before .args .coding .now))) (c .before .before .before .before .before .before .before .before .before .before .before .before .before .before .before .before .before .before .before .before .before .before .before .pre) (c .before .before .before .before .before .before .before .enum-told .given .1) (c .before .before .before .before .before .before .before .before .before .before .before .before .before .store .given) (c .before .before .before .before .nothing .ensures)
+returns c =
+    let at-nothing = c .before .before .before .before in
+    let at-enum-told = at-nothing .before .before .before in
+    let at-store = at-enum-told .before .before .before .before .before .before in
+    let at-find = at-store .before in
+    let at-start = at-find .before .before .before .before .before .before .before .before .before in
+    answered-nothing (at-start .args .cells .now) (at-start .args .initial) (at-start .args .width) (at-start .args .text .now) (at-start .args .store .now)
+    (at-start .args .coding .now) (at-find .find .last .1 .1 .1 .1 .0) (at-find .find .last .1 .1 .1 .1 .1 .0) (at-find .find .last .1 .1 .1 .1 .1 .1 .0)
+    (at-find .find .last .1 .1 .1 .1 .1 .1 .1 .0) (at-find .find .result) (at-find .find .ensures (length (at-start .args .coding .now))) (at-start .pre)
+    (at-enum-told .enum-told .given .1) (at-store .store .given) (at-nothing .nothing .ensures)
 
 same-length-3 : tie.Need-same-length-3
 same-length-3 c = search needs
@@ -62,7 +80,19 @@ same-length-4 : tie.Need-same-length-4
 same-length-4 c = search needs
 
 returns-2 : tie.Need-returns-2
-returns-2 c = answered-written (c .before .before .before .before .before .before .before .before .before .before .before .before .before .before .before .before .before .before .before .before .before .before .before .before .before .before .before .args .cells .now) (c .before .before .before .before .before .before .before .before .before .before .before .before .before .before .before .before .before .before .before .before .before .before .before .before .before .before .before .args .initial) (c .before .before .before .before .before .before .before .before .before .before .before .before .before .before .before .before .before .before .before .before .before .before .before .before .before .before .before .args .width) (c .before .before .before .before .before .before .before .before .before .before .before .before .before .before .before .before .before .before .before .before .before .before .before .before .before .before .before .args .text .now) (c .before .before .before .before .before .before .before .before .before .before .before .before .before .before .before .before .before .before .before .before .before .before .before .before .before .before .before .args .store .now) (c .before .before .before .before .before .before .before .before .before .before .before .before .before .before .before .before .before .before .before .before .before .before .before .before .before .before .before .args .coding .now) (c .before .before .before .before .before .before .before .before .before .before .before .before .before .before .before .before .before .before .find .last .1 .1 .1 .1 .0) (c .before .before .before .before .before .before .before .before .before .before .before .before .before .before .before .before .before .before .find .last .1 .1 .1 .1 .1 .0) (c .before .before .before .before .before .before .before .before .before .before .before .before .before .before .before .before .before .before .find .last .1 .1 .1 .1 .1 .1 .0) (c .before .before .before .before .before .before .before .before .before .before .before .before .before .before .before .before .before .before .find .last .1 .1 .1 .1 .1 .1 .1 .0) (c .before .before .before .before .before .before .before .before .before .before .before .before .before .before .before .before .before .before .find .result) (c .before .before .before .before .before .before .before .before .before .before .before .before .before .before .before .before .before .before .find .ensures (length (c .before .before .before .before .before .before .before .before .before .before .before .before .before .before .before .before .before .before .before .before .before .before .before .before .before .before .before .args .coding .now))) (c .before .before .before .before .before .before .before .before .before .before .before .before .before .before .before .before .before .before .before .before .before .before .before .before .before .before .before .pre) (c .before .before .before .before .before .before .before .before .before .before .before .plan .given .1) (c .before .before .before .before .before .before .before .before .before .before .before .before .before .before .before .before .before .store .given) (c .before .before .before .before .write .ensures _ (leading (c .before .before .before .before .before .before .before .before .before .before .before .before .before .before .before .before .before .before .before .before .before .before .before .before .before .before .before .args .cells .now) (c .before .before .before .before .before .before .before .before .before .before .before .before .before .before .before .before .before .before .before .before .before .before .before .before .before .before .before .args .initial) (c .before .before .before .before .before .before .before .before .before .before .before .before .before .before .before .before .before .before .before .before .before .before .before .before .before .before .before .args .width) (c .before .before .before .before .before .before .before .before .before .before .before .before .before .before .before .before .before .before .before .before .before .before .before .before .before .before .before .args .text .now) (c .before .before .before .before .before .before .before .before .before .before .before .before .before .before .before .before .before .before .before .before .before .before .before .before .before .before .before .args .store .now) (c .before .before .before .before .before .before .before .before .before .before .before .before .before .before .before .before .before .before .before .before .before .before .before .before .before .before .before .args .coding .now) (c .before .before .before .before .before .before .before .before .before .before .before .before .before .before .before .before .before .before .find .last .1 .1 .1 .1 .0) (c .before .before .before .before .before .before .before .before .before .before .before .before .before .before .before .before .before .before .find .last .1 .1 .1 .1 .1 .0) (c .before .before .before .before .before .before .before .before .before .before .before .before .before .before .before .before .before .before .find .last .1 .1 .1 .1 .1 .1 .0) (c .before .before .before .before .before .before .before .before .before .before .before .before .before .before .before .before .before .before .find .last .1 .1 .1 .1 .1 .1 .1 .0) (c .before .before .before .before .before .before .before .before .before .before .before .before .before .before .before .before .before .before .find .result) (c .before .before .before .before .before .before .before .before .before .before .before .before .before .before .before .before .before .before .find .ensures (length (c .before .before .before .before .before .before .before .before .before .before .before .before .before .before .before .before .before .before .before .before .before .before .before .before .before .before .before .args .coding .now))) (c .before .before .before .before .before .before .before .before .before .before .before .plan .given .1)))
+returns-2 c =
+    let at-write = c .before .before .before .before in
+    let at-plan = at-write .before .before .before .before .before .before .before in
+    let at-store = at-plan .before .before .before .before .before .before in
+    let at-find = at-store .before in
+    let at-start = at-find .before .before .before .before .before .before .before .before .before in
+    answered-written (at-start .args .cells .now) (at-start .args .initial) (at-start .args .width) (at-start .args .text .now) (at-start .args .store .now)
+    (at-start .args .coding .now) (at-find .find .last .1 .1 .1 .1 .0) (at-find .find .last .1 .1 .1 .1 .1 .0) (at-find .find .last .1 .1 .1 .1 .1 .1 .0)
+    (at-find .find .last .1 .1 .1 .1 .1 .1 .1 .0) (at-find .find .result) (at-find .find .ensures (length (at-start .args .coding .now))) (at-start .pre)
+    (at-plan .plan .given .1) (at-store .store .given) (at-write .write .ensures _
+    (leading (at-start .args .cells .now) (at-start .args .initial) (at-start .args .width) (at-start .args .text .now) (at-start .args .store .now)
+    (at-start .args .coding .now) (at-find .find .last .1 .1 .1 .1 .0) (at-find .find .last .1 .1 .1 .1 .1 .0) (at-find .find .last .1 .1 .1 .1 .1 .1 .0)
+    (at-find .find .last .1 .1 .1 .1 .1 .1 .1 .0) (at-find .find .result) (at-find .find .ensures (length (at-start .args .coding .now))) (at-plan .plan .given .1)))
 
 same-length-5 : tie.Need-same-length-5
 same-length-5 c = search needs
@@ -71,7 +101,16 @@ same-length-6 : tie.Need-same-length-6
 same-length-6 c = search needs
 
 returns-3 : tie.Need-returns-3
-returns-3 c = answered-refused (c .before .before .before .before .before .before .before .before .before .before .before .before .before .before .before .before .before .before .before .before .before .before .before .before .args .cells .now) (c .before .before .before .before .before .before .before .before .before .before .before .before .before .before .before .before .before .before .before .before .before .before .before .before .args .initial) (c .before .before .before .before .before .before .before .before .before .before .before .before .before .before .before .before .before .before .before .before .before .before .before .before .args .width) (c .before .before .before .before .before .before .before .before .before .before .before .before .before .before .before .before .before .before .before .before .before .before .before .before .args .text .now) (c .before .before .before .before .before .before .before .before .before .before .before .before .before .before .before .before .before .before .before .before .before .before .before .before .args .store .now) (c .before .before .before .before .before .before .before .before .before .before .before .before .before .before .before .before .before .before .before .before .before .before .before .before .args .coding .now) (c .before .before .before .before .before .before .before .before .before .before .before .before .before .before .before .find .last .1 .1 .1 .1 .0) (c .before .before .before .before .before .before .before .before .before .before .before .before .before .before .before .find .last .1 .1 .1 .1 .1 .0) (c .before .before .before .before .before .before .before .before .before .before .before .before .before .before .before .find .last .1 .1 .1 .1 .1 .1 .0) (c .before .before .before .before .before .before .before .before .before .before .before .before .before .before .before .find .last .1 .1 .1 .1 .1 .1 .1 .0) (c .before .before .before .before .before .before .before .before .before .before .before .before .before .before .before .find .result) (c .before .before .before .before .before .before .before .before .before .before .before .before .before .before .before .find .ensures (length (c .before .before .before .before .before .before .before .before .before .before .before .before .before .before .before .before .before .before .before .before .before .before .before .before .args .coding .now))) (c .before .before .before .before .before .before .before .before .before .before .before .before .before .before .before .before .before .before .before .before .before .before .before .before .pre) (c .before .before .before .before .before .before .before .before .plan2 .given .1) (c .before .before .before .before .before .before .before .before .before .before .before .before .before .before .store .given) (c .before .before .before .before .refuse .ensures)
+returns-3 c =
+    let at-refuse = c .before .before .before .before in
+    let at-plan2 = at-refuse .before .before .before .before in
+    let at-store = at-plan2 .before .before .before .before .before .before in
+    let at-find = at-store .before in
+    let at-start = at-find .before .before .before .before .before .before .before .before .before in
+    answered-refused (at-start .args .cells .now) (at-start .args .initial) (at-start .args .width) (at-start .args .text .now) (at-start .args .store .now)
+    (at-start .args .coding .now) (at-find .find .last .1 .1 .1 .1 .0) (at-find .find .last .1 .1 .1 .1 .1 .0) (at-find .find .last .1 .1 .1 .1 .1 .1 .0)
+    (at-find .find .last .1 .1 .1 .1 .1 .1 .1 .0) (at-find .find .result) (at-find .find .ensures (length (at-start .args .coding .now))) (at-start .pre)
+    (at-plan2 .plan2 .given .1) (at-store .store .given) (at-refuse .refuse .ensures)
 
 pub encode-checked-spec : {M : Type 1} → statement M
 encode-checked-spec =

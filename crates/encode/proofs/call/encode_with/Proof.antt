@@ -17,7 +17,12 @@ same-length-2 : tie.Need-same-length-2
 same-length-2 c = search needs
 
 returns : tie.Need-returns
-returns c = refused-first _ _ _ _ (c .before .before .before .before .before .before .before .before .before .before .before .before .before .args .store .now) (c .before .before .before .before .before .before .before .before .before .before .before .before .before .args .coding .now) (c .before .before .before .before .before .before .before .before .first .ensures) (c .before .before .before .before .before .before .before .if1 .taken) (c .before .before .before .before .refuse .ensures)
+returns c =
+    let at-refuse = c .before .before .before .before in
+    let at-if1 = at-refuse .before .before .before in
+    let at-first = at-if1 .before in
+    let at-start = at-first .before .before .before .before .before in
+    refused-first _ _ _ _ (at-start .args .store .now) (at-start .args .coding .now) (at-first .first .ensures) (at-if1 .if1 .taken) (at-refuse .refuse .ensures)
 
 encode-checked-requires : tie.Need-encode-checked-requires
 encode-checked-requires c κs = search needs

@@ -17,7 +17,11 @@ same-length-2 : tie.Need-same-length-2
 same-length-2 c = search needs
 
 returns : tie.Need-returns
-returns c = λ k l. too-long (c .before .before .before .before .before .before .before .before .before .before .before .before .before .args .length) (c .before .before .before .before .before .before .before .if1 .taken) k (l .length-is) (c .before .before .before .before .refuse .ensures)
+returns c =
+    let at-refuse = c .before .before .before .before in
+    let at-if1 = at-refuse .before .before .before in
+    let at-start = at-if1 .before .before .before .before .before .before in
+    λ k l. too-long (at-start .args .length) (at-if1 .if1 .taken) k (l .length-is) (at-refuse .refuse .ensures)
 
 write-back-requires : tie.Need-write-back-requires
 write-back-requires c κs = search needs
@@ -35,7 +39,13 @@ same-length-4 : tie.Need-same-length-4
 same-length-4 c = search needs
 
 returns-2 : tie.Need-returns-2
-returns-2 c = λ k l. wrote k (l .length-is) (l .gap-is) (omega arith) (c .before .before .before .before .before .before .before .before .before .before .write-back .ensures (l .searched) ∙ ap (sets (c .before .before .before .before .before .before .before .before .before .before .before .before .before .before .before .before .before .before .before .args .coding .now) 0) (l .out)) (c .before .before .before .before .before .before .clear .ensures) (c .before .before .clear32 .ensures)
+returns-2 c =
+    let at-clear32 = c .before .before in
+    let at-clear = at-clear32 .before .before .before .before in
+    let at-write-back = at-clear .before .before .before .before in
+    let at-start = at-write-back .before .before .before .before .before .before .before .before .before in
+    λ k l. wrote k (l .length-is) (l .gap-is) (omega arith) (at-write-back .write-back .ensures (l .searched) ∙ ap (sets (at-start .args .coding .now) 0) (l .out))
+    (at-clear .clear .ensures) (at-clear32 .clear32 .ensures)
 
 pub write-spec : {M : Type 1} → statement M
 write-spec =

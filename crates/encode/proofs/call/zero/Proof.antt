@@ -18,7 +18,10 @@ same-length-2 : tie.Need-same-length-2
 same-length-2 c = search needs
 
 returns : tie.Need-returns
-returns c = record { store = c .before .before .before .before .before .before .clear32 .ensures ∙ clear-all _; buffer = c .before .before .clear .ensures ∙ clear-all _ }
+returns c =
+    let at-clear = c .before .before in
+    let at-clear32 = at-clear .before .before .before .before in
+    record { store = at-clear32 .clear32 .ensures ∙ clear-all _; buffer = at-clear .clear .ensures ∙ clear-all _ }
 
 pub zero-spec : {M : Type 1} → statement M
 zero-spec = tie.close (tie.spec clear32-requires clear-requires same-length same-length-2 returns)

@@ -27,7 +27,17 @@ slice-aggregate-read-all-3 : tie.Need-slice-aggregate-read-all-3
 slice-aggregate-read-all-3 c = search needs
 
 read-all-requires : tie.Need-read-all-requires
-read-all-requires c κs = record { table = λ e. sym (c .before .before .before .before .before .before .cells .ensures) ∙ e; line-long = sym (c .before .before .before .before .before .line-buffer .ensures); title-long = sym (c .before .before .before .before .title-buffer .ensures); out-long = sym (c .before .before .before .out-buffer .ensures) }
+read-all-requires c κs =
+    let at-out-buffer = c .before .before .before in
+    let at-title-buffer = at-out-buffer .before in
+    let at-line-buffer = at-title-buffer .before in
+    let at-cells = at-line-buffer .before in
+    record {
+      table = λ e. sym (at-cells .cells .ensures) ∙ e;
+      line-long = sym (at-line-buffer .line-buffer .ensures);
+      title-long = sym (at-title-buffer .title-buffer .ensures);
+      out-long = sym (at-out-buffer .out-buffer .ensures);
+    }
 
 slice-aggregate-last-line : tie.Need-slice-aggregate-last-line
 slice-aggregate-last-line c = search needs
@@ -39,7 +49,21 @@ slice-aggregate-last-line-3 : tie.Need-slice-aggregate-last-line-3
 slice-aggregate-last-line-3 c = search needs
 
 last-line-requires : tie.Need-last-line-requires
-last-line-requires c κs = (record { table = λ e. sym (c .before .before .before .before .before .before .before .before .before .before .before .before .before .cells .ensures) ∙ e; line-long = c .before .before .before .before .before .before .read-all .kept .1 .1 .0 ∙ sym (c .before .before .before .before .before .before .before .before .before .before .before .before .line-buffer .ensures); title-long = c .before .before .before .before .before .before .read-all .kept .1 .1 .1 .0 ∙ sym (c .before .before .before .before .before .before .before .before .before .before .before .title-buffer .ensures); out-long = c .before .before .before .before .before .before .read-all .kept .1 .1 .1 .1 .0 ∙ sym (c .before .before .before .before .before .before .before .before .before .before .out-buffer .ensures) }, c .before .before .before .before .before .before .read-all .ensures)
+last-line-requires c κs =
+    let at-read-all = c .before .before .before .before .before .before in
+    let at-out-buffer = at-read-all .before .before .before .before in
+    let at-title-buffer = at-out-buffer .before in
+    let at-line-buffer = at-title-buffer .before in
+    let at-cells = at-line-buffer .before in (
+      record {
+        table = λ e. sym (at-cells .cells .ensures) ∙ e;
+        line-long = at-read-all .read-all .kept .1 .1 .0 ∙ sym (at-line-buffer .line-buffer .ensures);
+        title-long = at-read-all .read-all .kept .1 .1 .1 .0 ∙ sym (at-title-buffer .title-buffer .ensures);
+        out-long = at-read-all .read-all .kept .1 .1 .1 .1 .0 ∙
+            sym (at-out-buffer .out-buffer .ensures);
+      },
+      at-read-all .read-all .ensures,
+    )
 
 returns : tie.Need-returns
 returns c = search needs

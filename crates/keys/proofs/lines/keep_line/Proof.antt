@@ -23,13 +23,18 @@ same-length : tie.Need-same-length Inv-loop μ-loop
 same-length c = c .before .before .before .loop .inv .0
 
 returns : tie.Need-returns Inv-loop μ-loop
-returns c = (c .before .before .before .loop .inv .1, c .before .before .before .loop .inv .2)
+returns c =
+    let at-loop = c .before .before .before in
+    (at-loop .loop .inv .1, at-loop .loop .inv .2)
 
 sub-keep : tie.Need-sub-keep Inv-loop μ-loop
 sub-keep c = omega (arith, c .before .before .before .before .loop .inv .1)
 
 add-keep : tie.Need-add-keep Inv-loop μ-loop
-add-keep c = omega (arith, c .before .before .before .before .loop .inv .1, c .before .before .before .before .before .before .before .pre .1, c .before .before .before .before .before .before .before .good)
+add-keep c =
+    let at-loop = c .before .before .before .before in
+    let at-start = at-loop .before .before .before in
+    omega (arith, at-loop .loop .inv .1, at-start .pre .1, at-start .good)
 
 keep-requires : tie.Need-keep-requires Inv-loop μ-loop
 keep-requires c κs = search needs
@@ -41,7 +46,10 @@ loop-less : tie.Need-loop-less Inv-loop μ-loop
 loop-less c = omega arith
 
 loop-again : tie.Need-loop-again Inv-loop μ-loop
-loop-again c = (c .before .before .keep .kept .0 ∙ c .before .before .before .before .before .before .before .loop .inv .0, omega (arith, c .before .before .before .before .before .before .before .loop .inv .1), omega arith)
+loop-again c =
+    let at-keep = c .before .before in
+    let at-loop = at-keep .before .before .before .before .before in
+    (at-keep .keep .kept .0 ∙ at-loop .loop .inv .0, omega (arith, at-loop .loop .inv .1), omega arith)
 
 same-length-2 : tie.Need-same-length-2 Inv-loop μ-loop
 same-length-2 c = c .before .loop .inv .0

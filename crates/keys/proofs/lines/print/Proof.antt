@@ -13,7 +13,9 @@ slice-aggregate-print : tie.Need-slice-aggregate-print
 slice-aggregate-print c = sym (length-take-le _ _ (c .before .if1 .left))
 
 print-requires : tie.Need-print-requires
-print-requires c κs = c .before .before .before .before .before .before .before .before .pre
+print-requires c κs =
+    let at-start = c .before .before .before .before .before .before .before .before in
+    at-start .pre
 
 enum-known-r : tie.Need-enum-known-r
 enum-known-r c = search needs
@@ -28,7 +30,10 @@ same-length-2 : tie.Need-same-length-2
 same-length-2 c = search needs
 
 returns-2 : tie.Need-returns-2
-returns-2 c = within _ _ _ _ (c .before .r .given .1) (c .before .before .before .before .before .before .before .print .ensures)
+returns-2 c =
+    let at-r = c .before in
+    let at-print = at-r .before .before .before .before .before .before in
+    within _ _ _ _ (at-r .r .given .1) (at-print .print .ensures)
 
 same-length-3 : tie.Need-same-length-3
 same-length-3 c = search needs

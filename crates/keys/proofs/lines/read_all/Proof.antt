@@ -17,19 +17,40 @@ loop-holds : tie.Need-loop-holds Inv-loop μ-loop
 loop-holds c = (refl, refl, refl, record { waiting = omega arith; counted = omega arith })
 
 read-piece-requires : tie.Need-read-piece-requires Inv-loop μ-loop
-read-piece-requires c κs = (record { table = c .before .before .before .before .before .before .before .before .before .pre .table; line-long = c .before .before .before .before .loop .inv .0 ∙ c .before .before .before .before .before .before .before .before .before .pre .line-long; title-long = c .before .before .before .before .loop .inv .1 ∙ c .before .before .before .before .before .before .before .before .before .pre .title-long; out-long = c .before .before .before .before .loop .inv .2 ∙ c .before .before .before .before .before .before .before .before .before .pre .out-long }, c .before .before .before .before .loop .inv .3)
+read-piece-requires c κs =
+    let at-loop = c .before .before .before .before in
+    let at-start = at-loop .before .before .before .before .before in (
+      record {
+        table = at-start .pre .table;
+        line-long = at-loop .loop .inv .0 ∙ at-start .pre .line-long;
+        title-long = at-loop .loop .inv .1 ∙ at-start .pre .title-long;
+        out-long = at-loop .loop .inv .2 ∙ at-start .pre .out-long;
+      },
+      at-loop .loop .inv .3,
+    )
 
 same-length : tie.Need-same-length Inv-loop μ-loop
-same-length c = c .before .before .before .before .before .before .before .before .before .read-piece .kept .1 .1 .0 ∙ c .before .before .before .before .before .before .before .before .before .before .before .before .before .before .loop .inv .0
+same-length c =
+    let at-read-piece = c .before .before .before .before .before .before .before .before .before in
+    let at-loop = at-read-piece .before .before .before .before .before in
+    at-read-piece .read-piece .kept .1 .1 .0 ∙ at-loop .loop .inv .0
 
 same-length-2 : tie.Need-same-length-2 Inv-loop μ-loop
-same-length-2 c = c .before .before .before .before .before .before .before .before .before .read-piece .kept .1 .1 .1 .0 ∙ c .before .before .before .before .before .before .before .before .before .before .before .before .before .before .loop .inv .1
+same-length-2 c =
+    let at-read-piece = c .before .before .before .before .before .before .before .before .before in
+    let at-loop = at-read-piece .before .before .before .before .before in
+    at-read-piece .read-piece .kept .1 .1 .1 .0 ∙ at-loop .loop .inv .1
 
 same-length-3 : tie.Need-same-length-3 Inv-loop μ-loop
-same-length-3 c = c .before .before .before .before .before .before .before .before .before .read-piece .kept .1 .1 .1 .1 .0 ∙ c .before .before .before .before .before .before .before .before .before .before .before .before .before .before .loop .inv .2
+same-length-3 c =
+    let at-read-piece = c .before .before .before .before .before .before .before .before .before in
+    let at-loop = at-read-piece .before .before .before .before .before in
+    at-read-piece .read-piece .kept .1 .1 .1 .1 .0 ∙ at-loop .loop .inv .2
 
 returns : tie.Need-returns Inv-loop μ-loop
-returns c = c .before .before .before .before .before .before .before .before .before .read-piece .ensures
+returns c =
+    let at-read-piece = c .before .before .before .before .before .before .before .before .before in
+    at-read-piece .read-piece .ensures
 
 sub-turns : tie.Need-sub-turns Inv-loop μ-loop
 sub-turns c = omega arith
@@ -38,7 +59,14 @@ loop-less : tie.Need-loop-less Inv-loop μ-loop
 loop-less c = omega arith
 
 loop-again : tie.Need-loop-again Inv-loop μ-loop
-loop-again c = (c .before .before .before .before .before .before .before .before .before .read-piece .kept .1 .1 .0 ∙ c .before .before .before .before .before .before .before .before .before .before .before .before .before .before .loop .inv .0, c .before .before .before .before .before .before .before .before .before .read-piece .kept .1 .1 .1 .0 ∙ c .before .before .before .before .before .before .before .before .before .before .before .before .before .before .loop .inv .1, c .before .before .before .before .before .before .before .before .before .read-piece .kept .1 .1 .1 .1 .0 ∙ c .before .before .before .before .before .before .before .before .before .before .before .before .before .before .loop .inv .2, c .before .before .before .before .before .before .before .before .before .read-piece .ensures)
+loop-again c =
+    let at-read-piece = c .before .before .before .before .before .before .before .before .before in
+    let at-loop = at-read-piece .before .before .before .before .before in (
+      at-read-piece .read-piece .kept .1 .1 .0 ∙ at-loop .loop .inv .0,
+      at-read-piece .read-piece .kept .1 .1 .1 .0 ∙ at-loop .loop .inv .1,
+      at-read-piece .read-piece .kept .1 .1 .1 .1 .0 ∙ at-loop .loop .inv .2,
+      at-read-piece .read-piece .ensures,
+    )
 
 same-length-4 : tie.Need-same-length-4 Inv-loop μ-loop
 same-length-4 c = c .before .loop .inv .0

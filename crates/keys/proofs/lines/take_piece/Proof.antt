@@ -9,13 +9,16 @@ use Rattle.keys.proofs.lines.take_piece.Statement.{statement}
 use Rattle.keys.proofs.lines.take_piece.Tie as tie
 
 abbrev Inv-loop : tie.InvT-loop
-Inv-loop cells admitted piece line₀ title₀ out₀ q₀ i₀ line title out q i = (length line ≡ length line₀) × (length title ≡ length title₀) × (length out ≡ length out₀) × Within q × (i ≤ length piece)
+Inv-loop cells admitted piece line₀ title₀ out₀ q₀ i₀ line title out q i =
+    (length line ≡ length line₀) × (length title ≡ length title₀) × (length out ≡ length out₀) × Within q × (i ≤ length piece)
 
 abbrev μ-loop : tie.MeasureT-loop
 μ-loop cells admitted piece line₀ title₀ out₀ q₀ i₀ line title out q i = suc (length piece) - i
 
 loop-holds : tie.Need-loop-holds Inv-loop μ-loop
-loop-holds c = (refl, refl, refl, c .before .before .before .before .before .pre .1, omega arith)
+loop-holds c =
+    let at-start = c .before .before .before .before .before in
+    (refl, refl, refl, at-start .pre .1, omega arith)
 
 keep-line-requires : tie.Need-keep-line-requires Inv-loop μ-loop
 keep-line-requires c κs = (c .before .loop .inv .4, c .before .loop .inv .3 .counted)
@@ -27,28 +30,65 @@ count-bytes-requires : tie.Need-count-bytes-requires Inv-loop μ-loop
 count-bytes-requires c κs = c .before .before .before .before .loop .inv .3
 
 same-length : tie.Need-same-length Inv-loop μ-loop
-same-length c = c .before .before .before .before .keep-line .kept .1 .1 .0 ∙ c .before .before .before .before .before .before .loop .inv .0
+same-length c =
+    let at-keep-line = c .before .before .before .before in
+    let at-loop = at-keep-line .before .before in
+    at-keep-line .keep-line .kept .1 .1 .0 ∙ at-loop .loop .inv .0
 
 same-length-2 : tie.Need-same-length-2 Inv-loop μ-loop
-same-length-2 c = c .before .before .before .before .before .before .loop .inv .1
+same-length-2 c =
+    let at-loop = c .before .before .before .before .before .before in
+    at-loop .loop .inv .1
 
 same-length-3 : tie.Need-same-length-3 Inv-loop μ-loop
-same-length-3 c = c .before .before .before .before .before .before .loop .inv .2
+same-length-3 c =
+    let at-loop = c .before .before .before .before .before .before in
+    at-loop .loop .inv .2
 
 returns : tie.Need-returns Inv-loop μ-loop
 returns c = c .before .count-bytes .ensures
 
 end-line-requires : tie.Need-end-line-requires Inv-loop μ-loop
-end-line-requires c κs = (record { table = c .before .before .before .before .before .before .before .before .before .before .before .before .before .before .before .pre .0 .table; line-long = c .before .before .before .before .before .before .before .keep-line .kept .1 .1 .0 ∙ (c .before .before .before .before .before .before .before .before .before .loop .inv .0 ∙ c .before .before .before .before .before .before .before .before .before .before .before .before .before .before .before .pre .0 .line-long); title-long = c .before .before .before .before .before .before .before .before .before .loop .inv .1 ∙ c .before .before .before .before .before .before .before .before .before .before .before .before .before .before .before .pre .0 .title-long; out-long = c .before .before .before .before .before .before .before .before .before .loop .inv .2 ∙ c .before .before .before .before .before .before .before .before .before .before .before .before .before .before .before .pre .0 .out-long }, c .before .before .before .before .count-bytes .ensures)
+end-line-requires c κs =
+    let at-count-bytes = c .before .before .before .before in
+    let at-keep-line = at-count-bytes .before .before .before in
+    let at-loop = at-keep-line .before .before in
+    let at-start = at-loop .before .before .before .before .before .before in (
+      record {
+        table = at-start .pre .0 .table;
+        line-long = at-keep-line .keep-line .kept .1 .1 .0 ∙ (at-loop .loop .inv .0 ∙ at-start .pre .0 .line-long);
+        title-long = at-loop .loop .inv .1 ∙ at-start .pre .0 .title-long;
+        out-long = at-loop .loop .inv .2 ∙ at-start .pre .0 .out-long;
+      },
+      at-count-bytes .count-bytes .ensures,
+    )
 
 add-i : tie.Need-add-i Inv-loop μ-loop
-add-i c = omega (arith, c .before .before .before .before .before .before .before .before .before .before .before .before .keep-line .ensures .1, c .before .before .before .before .before .before .before .before .if1 .left, c .before .before .before .before .before .before .before .before .before .before .before .before .before .before .before .before .before .before .before .before .good)
+add-i c =
+    let at-if1 = c .before .before .before .before .before .before .before .before in
+    let at-keep-line = at-if1 .before .before .before .before in
+    let at-start = at-keep-line .before .before .before .before .before .before .before .before in
+    omega (arith, at-keep-line .keep-line .ensures .1, at-if1 .if1 .left, at-start .good)
 
 loop-less : tie.Need-loop-less Inv-loop μ-loop
-loop-less c = omega (arith, c .before .before .before .before .before .before .before .before .before .before .before .before .keep-line .ensures, c .before .before .before .before .before .before .before .before .if1 .left, c .before .before .before .before .before .before .before .before .before .before .before .before .before .before .loop .inv .4)
+loop-less c =
+    let at-if1 = c .before .before .before .before .before .before .before .before in
+    let at-keep-line = at-if1 .before .before .before .before in
+    let at-loop = at-keep-line .before .before in
+    omega (arith, at-keep-line .keep-line .ensures, at-if1 .if1 .left, at-loop .loop .inv .4)
 
 loop-again : tie.Need-loop-again Inv-loop μ-loop
-loop-again c = (c .before .before .before .before .before .before .before .before .before .before .before .before .keep-line .kept .1 .1 .0 ∙ c .before .before .before .before .before .before .before .before .before .before .before .before .before .before .loop .inv .0, c .before .before .before .before .end-line .kept .1 .1 .1 .0 ∙ c .before .before .before .before .before .before .before .before .before .before .before .before .before .before .loop .inv .1, c .before .before .before .before .end-line .kept .1 .1 .1 .1 .0 ∙ c .before .before .before .before .before .before .before .before .before .before .before .before .before .before .loop .inv .2, c .before .before .before .before .end-line .ensures, omega (arith, c .before .before .before .before .before .before .before .before .before .before .before .before .keep-line .ensures .1, c .before .before .before .before .before .before .before .before .if1 .left))
+loop-again c =
+    let at-end-line = c .before .before .before .before in
+    let at-if1 = at-end-line .before .before .before .before in
+    let at-keep-line = at-if1 .before .before .before .before in
+    let at-loop = at-keep-line .before .before in (
+      at-keep-line .keep-line .kept .1 .1 .0 ∙ at-loop .loop .inv .0,
+      at-end-line .end-line .kept .1 .1 .1 .0 ∙ at-loop .loop .inv .1,
+      at-end-line .end-line .kept .1 .1 .1 .1 .0 ∙ at-loop .loop .inv .2,
+      at-end-line .end-line .ensures,
+      omega (arith, at-keep-line .keep-line .ensures .1, at-if1 .if1 .left),
+    )
 
 pub take-piece-spec : {M : Type 1} → statement M
 take-piece-spec =

@@ -18,7 +18,9 @@ returns-2 : tie.Need-returns-2
 returns-2 c = hex-upper (c .before .before .before .before .args .x) (λ g. omega arith) (omega arith) (omega arith)
 
 returns-3 : tie.Need-returns-3
-returns-3 c = hex-lower (c .before .before .before .before .before .before .args .x) (omega arith) (omega arith)
+returns-3 c =
+    let at-start = c .before .before .before .before .before .before in
+    hex-lower (at-start .args .x) (omega arith) (omega arith)
 
 returns-4 : tie.Need-returns-4
 returns-4 c = hex-none (c .before .args .x) (λ f. omega arith) (λ g. omega arith) (λ h. omega arith)
@@ -27,10 +29,14 @@ returns-5 : tie.Need-returns-5
 returns-5 c = hex-none (c .before .before .before .args .x) (λ f. omega arith) (λ g. omega arith) (λ h. omega arith)
 
 returns-6 : tie.Need-returns-6
-returns-6 c = hex-none (c .before .before .before .before .before .args .x) (λ f. omega arith) (λ g. omega arith) (λ h. omega arith)
+returns-6 c =
+    let at-start = c .before .before .before .before .before in
+    hex-none (at-start .args .x) (λ f. omega arith) (λ g. omega arith) (λ h. omega arith)
 
 returns-7 : tie.Need-returns-7
-returns-7 c = hex-none (c .before .before .before .before .before .before .args .x) (λ f. omega arith) (λ g. omega arith) (λ h. omega arith)
+returns-7 c =
+    let at-start = c .before .before .before .before .before .before in
+    hex-none (at-start .args .x) (λ f. omega arith) (λ g. omega arith) (λ h. omega arith)
 
 pub hex-value-spec : {M : Type 1} → statement M
 hex-value-spec =

@@ -18,7 +18,11 @@ is-number-requires : tie.Need-is-number-requires
 is-number-requires c κs = search needs
 
 returns-2 : tie.Need-returns-2
-returns-2 c = line-no-number _ _ (c .before .before .before .before .before .pre) (c .before .before .before .if1 .left) (sym (c .before .is-number .ensures) ∙ not-true _ (c .if2 .taken))
+returns-2 c =
+    let at-is-number = c .before in
+    let at-if1 = at-is-number .before .before in
+    let at-start = at-if1 .before .before in
+    line-no-number _ _ (at-start .pre) (at-if1 .if1 .left) (sym (at-is-number .is-number .ensures) ∙ not-true _ (c .if2 .taken))
 
 add-is-hex : tie.Need-add-is-hex
 add-is-hex c = omega arith

@@ -48,7 +48,10 @@ cast-v : tie.Need-cast-v Inv-loop μ-loop
 cast-v c = omega (arith, c .before .before .shared-slice-known2 .given (c .before .before .before .before .loop .i))
 
 add-v : tie.Need-add-v Inv-loop μ-loop
-add-v c = omega (arith, c .before .before .before .before .loop .inv .0, c .before .before .shared-slice-known2 .given (c .before .before .before .before .loop .i))
+add-v c =
+    let at-shared-slice-known2 = c .before .before in
+    let at-loop = at-shared-slice-known2 .before .before in
+    omega (arith, at-loop .loop .inv .0, at-shared-slice-known2 .shared-slice-known2 .given (at-loop .loop .i))
 
 returns-4 : tie.Need-returns-4 Inv-loop μ-loop
 returns-4 c =

@@ -19,10 +19,16 @@ loop-holds : tie.Need-loop-holds Inv-loop μ-loop
 loop-holds c = half-none _ _
 
 mul-hex-value : tie.Need-mul-hex-value Inv-loop μ-loop
-mul-hex-value c = omega (arith, c .before .loop .inv .long, c .before .before .before .before .pre .1, c .before .before .before .before .good)
+mul-hex-value c =
+    let at-loop = c .before in
+    let at-start = at-loop .before .before .before in
+    omega (arith, at-loop .loop .inv .long, at-start .pre .1, at-start .good)
 
 shared-slice-read-hex-value : tie.Need-shared-slice-read-hex-value Inv-loop μ-loop
-shared-slice-read-hex-value c = omega (arith, c .before .before .loop .inv .long, c .before .before .before .before .before .pre .1)
+shared-slice-read-hex-value c =
+    let at-loop = c .before .before in
+    let at-start = at-loop .before .before .before in
+    omega (arith, at-loop .loop .inv .long, at-start .pre .1)
 
 hex-value-requires : tie.Need-hex-value-requires Inv-loop μ-loop
 hex-value-requires c κs = search needs
@@ -34,24 +40,35 @@ mul-bytes c =
     omega (arith, c .hex-value .ensures, is-hex _ (at-start .pre .0) .digits (2 * at-loop .loop .i) (omega (arith, at-loop .loop .inv .long, at-start .pre .1)))
 
 mul-hex-value-2 : tie.Need-mul-hex-value-2 Inv-loop μ-loop
-mul-hex-value-2 c = omega (arith, c .before .before .before .loop .inv .long, c .before .before .before .before .before .before .pre .1, c .before .before .before .before .before .before .good)
+mul-hex-value-2 c =
+    let at-loop = c .before .before .before in
+    let at-start = at-loop .before .before .before in
+    omega (arith, at-loop .loop .inv .long, at-start .pre .1, at-start .good)
 
 add-hex-value : tie.Need-add-hex-value Inv-loop μ-loop
-add-hex-value c = omega (arith, c .before .before .before .loop .inv .long, c .before .before .before .before .before .before .pre .1, c .before .before .before .before .before .before .good)
+add-hex-value c =
+    let at-loop = c .before .before .before in
+    let at-start = at-loop .before .before .before in
+    omega (arith, at-loop .loop .inv .long, at-start .pre .1, at-start .good)
 
 shared-slice-read-hex-value-2 : tie.Need-shared-slice-read-hex-value-2 Inv-loop μ-loop
-shared-slice-read-hex-value-2 c = omega (arith, c .before .before .before .before .loop .inv .long, c .before .before .before .before .before .before .before .pre .1)
+shared-slice-read-hex-value-2 c =
+    let at-loop = c .before .before .before .before in
+    let at-start = at-loop .before .before .before in
+    omega (arith, at-loop .loop .inv .long, at-start .pre .1)
 
 hex-value-requires-2 : tie.Need-hex-value-requires-2 Inv-loop μ-loop
 hex-value-requires-2 c κs = search needs
 
 add-bytes : tie.Need-add-bytes Inv-loop μ-loop
 add-bytes c =
-    let at-loop = c .before .before .before .before .before in
+    let at-hex-value = c .before .before in
+    let at-place = at-hex-value .before .before .before in
+    let at-loop = at-place in
     let at-start = at-loop .before .before .before in
     omega (
       arith,
-      c .before .before .hex-value .ensures,
+      at-hex-value .hex-value .ensures,
       c .hex-value2 .ensures,
       is-hex _ (at-start .pre .0) .digits (2 * at-loop .loop .i)
           (omega (arith, at-loop .loop .inv .long, at-start .pre .1)),
@@ -69,9 +86,11 @@ loop-less c = simp length-set (omega arith)
 
 loop-again : tie.Need-loop-again Inv-loop μ-loop
 loop-again c =
-    let at-loop = c .before .before .before .before .before in
+    let at-hex-value = c .before .before in
+    let at-place = at-hex-value .before .before .before in
+    let at-loop = at-place in
     let at-start = at-loop .before .before .before in
-    rw (c .before .before .hex-value .ensures, c .hex-value2 .ensures) (half-next _ _ _ _ (at-loop .loop .inv) (omega (arith, at-loop .loop .inv .long)) (at-start .pre .1))
+    rw (at-hex-value .hex-value .ensures, c .hex-value2 .ensures) (half-next _ _ _ _ (at-loop .loop .inv) (omega (arith, at-loop .loop .inv .long)) (at-start .pre .1))
 
 same-length : tie.Need-same-length Inv-loop μ-loop
 same-length c = c .before .loop .inv .long

@@ -22,13 +22,19 @@ array-borrow-prefix-store : tie.Need-array-borrow-prefix-store
 array-borrow-prefix-store c = search needs
 
 slice-aggregate-same : tie.Need-slice-aggregate-same
-slice-aggregate-same c = sym (length-take-le (c .before .before .before .before .before .before .before .before .args .case .«store_room») (c .before .before .before .before .number-room .result) (omega (arith, c .before .before .before .before .number-room .ensures)))
+slice-aggregate-same c =
+    let at-number-room = c .before .before .before .before in
+    let at-start = at-number-room .before .before .before .before in
+    sym (length-take-le (at-start .args .case .«store_room») (at-number-room .number-room .result) (omega (arith, at-number-room .number-room .ensures)))
 
 array-borrow-prefix-bytes : tie.Need-array-borrow-prefix-bytes
 array-borrow-prefix-bytes c = search needs
 
 slice-aggregate-same-2 : tie.Need-slice-aggregate-same-2
-slice-aggregate-same-2 c = sym (length-take-le (c .before .before .before .before .before .before .before .before .before .args .case .«coding_room») (c .before .before .before .before .byte-room .result) (omega (arith, c .before .before .before .before .byte-room .ensures)))
+slice-aggregate-same-2 c =
+    let at-byte-room = c .before .before .before .before in
+    let at-start = at-byte-room .before .before .before .before .before in
+    sym (length-take-le (at-start .args .case .«coding_room») (at-byte-room .byte-room .result) (omega (arith, at-byte-room .byte-room .ensures)))
 
 same-requires : tie.Need-same-requires
 same-requires c κs = search needs

@@ -4,14 +4,33 @@ use Rattle.base.proofs.Table.{at}
 use mathlib.Core.List.{List, [], _∷_}
 use Rattle.sets.specs.Sets.{setNumber}
 use Rattle.sets.specs.declared.GraphicSet.{GraphicSet}
-use Rattle.sets.specs.declared.GraphicSet.the-variants.{Kanji, Alphanumeric, Hiragana, Katakana, MosaicA, MosaicB, MosaicC, MosaicD, ProportionalAlphanumeric, ProportionalHiragana, ProportionalKatakana, JisX0201Katakana, JisKanjiPlane1, JisKanjiPlane2, AdditionalSymbols, Macro}
+use Rattle.sets.specs.declared.GraphicSet.the-variants.{
+  Kanji,
+  Alphanumeric,
+  Hiragana,
+  Katakana,
+  MosaicA,
+  MosaicB,
+  MosaicC,
+  MosaicD,
+  ProportionalAlphanumeric,
+  ProportionalHiragana,
+  ProportionalKatakana,
+  JisX0201Katakana,
+  JisKanjiPlane1,
+  JisKanjiPlane2,
+  AdditionalSymbols,
+  Macro,
+}
 use borrow.Author.Needs.{needs}
 use Rattle.sets.proofs.GraphicSet.from_number.Statement.{statement}
 use Rattle.sets.proofs.GraphicSet.from_number.Tie as tie
 
 -- `SETS`
 abbrev sets : List GraphicSet
-sets = Kanji ∷ Alphanumeric ∷ Hiragana ∷ Katakana ∷ MosaicA ∷ MosaicB ∷ MosaicC ∷ MosaicD ∷ ProportionalAlphanumeric ∷ ProportionalHiragana ∷ ProportionalKatakana ∷ JisX0201Katakana ∷ JisKanjiPlane1 ∷ JisKanjiPlane2 ∷ AdditionalSymbols ∷ Macro ∷ []
+sets =
+    Kanji ∷ Alphanumeric ∷ Hiragana ∷ Katakana ∷ MosaicA ∷ MosaicB ∷ MosaicC ∷ MosaicD ∷ ProportionalAlphanumeric ∷ ProportionalHiragana ∷ ProportionalKatakana ∷
+    JisX0201Katakana ∷ JisKanjiPlane1 ∷ JisKanjiPlane2 ∷ AdditionalSymbols ∷ Macro ∷ []
 
 mul-result : tie.Need-mul-result
 mul-result c = search needs
