@@ -194,17 +194,17 @@ fn macro_cmd(b: &[u8], i: usize, at: u32, s: Core, issues: &mut [u32]) -> Steppe
     ensures { λ r. ⌜ ((left : ℕ) (R : Run) (place : ℕ) (cells t : List ℕ) → TookOver cells (now (b .entry)) i (λ g. macroCmd g left R (drop (i + 1) (now (b .entry))) place at) s t (now (issues .entry)) r t (now (issues .exit))) ⌝ }
 {
     match decode_macros::read_command(b, i) {
-        Command::Cut => decode_controls::truncated(b, i, at, s, issues),
+        Command::Cut => decode_reports::truncated(b, i, at, s, issues),
         Command::Malformed => {
             let r = decode_characters::report(at, IssueKind::MalformedControl(0x95), s, issues);
             Stepped { used: 2, core: r }
         }
-        Command::Ends => decode_controls::truncated(b, i, at, s, issues),
+        Command::Ends => decode_reports::truncated(b, i, at, s, issues),
         Command::Defines {
             code: _,
             len: _,
             runs: _,
-        } => decode_controls::truncated(b, i, at, s, issues),
+        } => decode_reports::truncated(b, i, at, s, issues),
     }
 }
 

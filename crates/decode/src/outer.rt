@@ -153,7 +153,7 @@ fn macro_cmd(
     let core = d.core;
     match decode_macros::read_command(input, i) {
         Command::Cut => {
-            let r = decode_controls::truncated(input, i, i as u32, core, issues);
+            let r = decode_reports::truncated(input, i, i as u32, core, issues);
             let after = r.core;
             Outer {
                 used: r.used,

@@ -21,7 +21,7 @@ ghost use Rattle.utf8.specs.Utf8.{utf8};
 ghost use Rattle.tables.specs.Kanji.{cellOf};
 ghost use Rattle.reading.specs.Characters.{letter};
 ghost use Rattle.decode_state.specs.Contracts.{Good, Stretch};
-ghost use Rattle.decode_settings.specs.Contracts.{Fine};
+ghost use Rattle.decode_settings.specs.Contracts.{Settings};
 ghost use Rattle.decode_runs.specs.Contracts.{Spacing, Has, Pair, Ideograph, Reads, Letters, RunsTo};
 
 // Where a run stopped, and how many bytes of text there are then.
@@ -301,7 +301,7 @@ fn runs_from(
     text: &mut [u8],
     n: usize,
 ) -> Reached
-    requires { ⌜ (from ≤ length (now b)) × (to ≤ length (now b)) × (8836 ≤ length (now cells)) × (n + 3 * (to - from) ≤ length (now text)) × Fine (now settings) ⌝ }
+    requires { ⌜ (from ≤ length (now b)) × (to ≤ length (now b)) × (8836 ≤ length (now cells)) × (n + 3 * (to - from) ≤ length (now text)) × Settings (now settings) ⌝ }
     ensures { λ r. ⌜ RunsTo (now (cells .entry)) (now (b .entry)) from annex (now (settings .entry)) n (now (text .entry)) (r .at) (now (settings .exit)) (r .len) (now (text .exit)) ⌝ }
 {
     let mut i = from;

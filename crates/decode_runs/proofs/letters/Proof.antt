@@ -97,7 +97,7 @@ returns-6 c =
     λ base origin i.
     stretch-runs i base origin (c .before .before .before .before .before .before .before .before .before .before .before .before .before .before .before .before .before .before .before .before .before .pre .1)
     (settings-of s (boolByte (s .narrow)) four (byte (s .narrow)) (plain-text s (c .before .before .before .before .before .before .before .before .before .before .before .before .before .if2 .left) (c .before .before .before .before .before .before .before .before .before .before .before .if3 .left) (c .before .before .before .before .before .before .before .before .before .before .before .before .before .before .before .if1 .left)))
-    (core-of _ _ s (c .before .before .before .runs-from .ensures .fine))
+    (core-of _ _ s (c .before .before .before .runs-from .ensures .settings))
     (c .before .before .before .runs-from .ensures)
 
 pub letters-spec : {M : Type 1} → statement M

@@ -3,7 +3,7 @@ use mathlib.Core.Path.{refl}
 use mathlib.Core.Logic.{inl, inr}
 use native.Mathlib.Omega.{arith}
 use borrow.Author.Needs.{needs}
-use Rattle.decode_steps.proofs.Branches.{gl-in, gl-below, gl-above, gr-in, gr-below, gr-above}
+use Rattle.decode_controls.proofs.Bytes.{gl-in, gl-below, gl-above, gr-in, gr-below, gr-above}
 use Rattle.decode_steps.proofs.Stops.{passes-other}
 use Rattle.decode_steps.proofs.stop.Statement.{statement}
 use Rattle.decode_steps.proofs.stop.Tie as tie

@@ -6,7 +6,7 @@ use Rattle.decode.proofs.cycle.macro_cmd.Tie as tie
 use Rattle.decode.proofs.cycle.macro_cmd.Reads as reads
 use Rattle.decode.proofs.cycle.macro_cmd.Lts as lts
 use Rattle.decode_characters.proofs.report.Reads as report-reads
-use Rattle.decode_controls.proofs.truncated.Reads as truncated-reads
+use Rattle.decode_reports.proofs.truncated.Reads as truncated-reads
 use Rattle.decode_macros.proofs.read_command.Reads as read-command-reads
 
 read-command-requires : tie.Need-read-command-requires

@@ -12,7 +12,7 @@ use Rattle.decode.proofs.outer.macro_cmd.Tie as tie
 use Rattle.decode.proofs.outer.macro_cmd.Reads as reads
 use Rattle.decode.proofs.outer.macro_cmd.Lts as lts
 use Rattle.decode_characters.proofs.report.Reads as report-reads
-use Rattle.decode_controls.proofs.truncated.Reads as truncated-reads
+use Rattle.decode_reports.proofs.truncated.Reads as truncated-reads
 use Rattle.decode.proofs.outer.definition.Reads as definition-reads
 use Rattle.decode.proofs.outer.with_core.Reads as with-core-reads
 use Rattle.decode_macros.proofs.read_command.Reads as read-command-reads
