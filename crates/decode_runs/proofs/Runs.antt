@@ -17,7 +17,7 @@ use Rattle.decode_state.specs.declared.Core.{Core}
 use Rattle.decode_state.specs.Contracts.{whole, Holds, Goes, Good, Stretch}
 use Rattle.decode_state.proofs.Lift.{holds-writes}
 use Rattle.decode_state.proofs.Steps.{goes-none, goes-on, goes-step}
-use Rattle.decode_settings.specs.Contracts.{withSettings, Fine, Controls}
+use Rattle.decode_settings.specs.Contracts.{withSettings, Settings, Controls}
 use Rattle.decode_settings.proofs.Turning.{seven}
 use Rattle.decode_letters.specs.declared.Invoked.{Invoked}
 use Rattle.decode_letters.specs.Contracts.{Sees, Spells}
@@ -111,13 +111,13 @@ stretch-none {b = b} {j} {c} {t} {i} base origin h p =
 -- ---- characters and controls
 
 module _ {cells b : List ℕ} {j : ℕ} {annex : Bool} {l : List ℕ} {n : ℕ} {t : List ℕ} where
-  pub runs-none : j ≤ length b → Fine l → RunsTo cells b j annex l n t j l n t
+  pub runs-none : j ≤ length b → Settings l → RunsTo cells b j annex l n t j l n t
   runs-none h f =
       record {
         past = omega arith;
         within = h;
         most = omega arith;
-        fine = f;
+        settings = f;
         goes = λ g e left R base origin i starts lens c a. goes-none g left R base origin b j (whole (coreAt l n c) starts lens) t i;
       }
 
@@ -132,7 +132,7 @@ module _ {cells b : List ℕ} {j : ℕ} {annex : Bool} {l : List ℕ} {n : ℕ} 
           past = omega (arith, w .past);
           within = w .within;
           most = omega (arith, w .past, w .most);
-          fine = r .fine;
+          settings = r .settings;
           goes = λ g e left R base origin i starts lens c a.
               goes-on g left R base origin b j (whole (coreAt l n c) starts lens) t i j₁ (whole (coreAt l₁ n₁ c) starts lens) t₁ i j₂ (whole (coreAt l₁ n₂ c) starts lens) t₂ i
               (r .goes g e left R base origin i starts lens c a)
@@ -148,7 +148,7 @@ module _ {cells b : List ℕ} {j : ℕ} {annex : Bool} {l : List ℕ} {n : ℕ} 
           past = omega (arith, w .past);
           within = w .within;
           most = omega (arith, w .past);
-          fine = w .fine;
+          settings = w .settings;
           goes = λ g e left R base origin i starts lens c a.
               goes-on g left R base origin b j (whole (coreAt l n c) starts lens) t i j₁ (whole (coreAt l₁ n₁ c) starts lens) t₁ i j₂ (whole (coreAt l₂ n₁ c) starts lens) t₁ i
               (r .goes g e left R base origin i starts lens c a)
@@ -195,7 +195,7 @@ pub record Running (cells b : List ℕ) (j to : ℕ) (annex : Bool) (l : List �
   pub room : n₁ + 3 * (to - j₁) ≤ length t
 
 module _ {cells b : List ℕ} {j to : ℕ} {annex : Bool} {l : List ℕ} {n : ℕ} {t : List ℕ} where
-  pub running-start : j ≤ length b → n + 3 * (to - j) ≤ length t → Fine l → Running cells b j to annex l n t j l n t
+  pub running-start : j ≤ length b → n + 3 * (to - j) ≤ length t → Settings l → Running cells b j to annex l n t j l n t
   running-start h r f = record { runs = runs-none h f; as-long = refl; room = r }
 
   -- characters, a character, and controls more
@@ -204,7 +204,7 @@ module _ {cells b : List ℕ} {j to : ℕ} {annex : Bool} {l : List ℕ} {n : �
       → Letters cells b j₁ v n₁ t₁ j₂ n₂ t₂ → Letters cells b j₂ v n₂ t₂ j₃ n₃ t₃ → Controls b j₃ l₁ j₄ l₄
       → length t₂ ≡ length t₁ → length t₃ ≡ length t₂ → n₃ + 3 * (to - j₃) ≤ length t₃ → Running cells b j to annex l n t j₄ l₄ n₃ t₃
   running-more {l₁ = l₁} r x y z u v w p q h =
-      let f = r .runs .fine in
+      let f = r .runs .settings in
       let a = x ∙ sym (getD-take 4 l₁ _ 0 (f .gl)) in
       let c = y ∙ sym (getD-take 4 l₁ _ 0 (f .gr)) in
       record {
@@ -224,7 +224,7 @@ stretch-runs {cells} {b} {j} {l} {n} {c} {t} {j₁} {l₁} {n₁} {t₁} i base 
     (record {
       past = w .past;
       within = w .within;
-      kept = record { gl = w .fine .gl; gr = w .fine .gr; charged = refl; grew = record { ordered = omega arith; repeat = omega arith; text = omega arith; issues = omega arith } };
+      kept = record { gl = w .settings .gl; gr = w .settings .gr; charged = refl; grew = record { ordered = omega arith; repeat = omega arith; text = omega arith; issues = omega arith } };
       goes = λ g q left R starts lens.
           subst (λ (z : Core). Goes g left R base origin b j (whole z starts lens) t i j₁ (whole (coreAt l₁ n₁ c) starts lens) t₁ i) (sym e)
           (w .goes g q left R base origin i starts lens c refl);

@@ -11,7 +11,7 @@ use Rattle.reading.specs.Macros.{Run}
 use Rattle.decode_state.specs.declared.Core.{Core}
 use Rattle.decode_state.specs.Contracts.{whole, Goes}
 use Rattle.decode_letters.specs.declared.Invoked.{Invoked}
-use Rattle.decode_settings.specs.Contracts.{Fine}
+use Rattle.decode_settings.specs.Contracts.{Settings}
 
 -- ---- runs of characters
 
@@ -63,7 +63,7 @@ pub record RunsTo (cells b : List ℕ) (j : ℕ) (annex : Bool) (l : List ℕ) (
   pub past : j ≤ j′
   pub within : j′ ≤ length b
   pub most : n′ ≤ n + 3 * (j′ - j)
-  pub fine : Fine l′
+  pub settings : Settings l′
   pub goes : (g : Given) → g .cells ≡ cells → (left : ℕ) (R : Run) (base origin : ℕ) (i starts lens : List ℕ) (c : Core) → c .annex ≡ annex
       → Goes g left R base origin b j (whole (coreAt l n c) starts lens) t i j′ (whole (coreAt l′ n′ c) starts lens) t′ i
 

@@ -14,7 +14,7 @@ ghost use Prim.Native.Nat.{ℕ, _+_, _-_, _*_, _≤_, _<_};
 ghost use mathlib.Core.List.{List};
 ghost use lib.ListN.{length};
 ghost use Rattle.decode_state.specs.Contracts.{Good, Stretch};
-ghost use Rattle.decode_settings.specs.Contracts.{Fine};
+ghost use Rattle.decode_settings.specs.Contracts.{Settings};
 ghost use Rattle.decode_runs.specs.Contracts.{withText, Letters, coreAt, RunsTo, Begins};
 
 /// A place in the input, and the bytes of text that there are then.
@@ -125,7 +125,7 @@ fn runs_from(
     settings: &mut [u8],
     text: &mut [u8],
 ) -> Reached
-    requires { ⌜ (from .at ≤ length (now b)) × (8836 ≤ length (now cells)) × (from .len ≤ length (now text)) × Fine (now settings) ⌝ }
+    requires { ⌜ (from .at ≤ length (now b)) × (8836 ≤ length (now cells)) × (from .len ≤ length (now text)) × Settings (now settings) ⌝ }
     ensures { λ r. ⌜ RunsTo (now (cells .entry)) (now (b .entry)) (from .at) annex (now (settings .entry)) (from .len) (now (text .entry)) (r .at) (now (settings .exit))
         (r .len) (now (text .exit)) ⌝ }
 {
@@ -175,7 +175,7 @@ fn may_begin(out: Out, cells: usize, text: usize) -> bool
 /// The settings that controls change.
 fn settings_of(s: Core) -> [u8; 7]
     requires { ⌜ (s .gl < 4) × (s .gr < 4) ⌝ }
-    ensures fine { λ r. ⌜ Fine r ⌝ }
+    ensures settings { λ r. ⌜ Settings r ⌝ }
     ensures same { λ r. ⌜ ((n : ℕ) → coreAt r n s ≡ withText s n) ⌝ }
 {
     let sets = s.sets;

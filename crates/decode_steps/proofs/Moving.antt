@@ -8,11 +8,11 @@ use lib.ListN.{length}
 use Rattle.decode_output.specs.declared.Out.{Out}
 use Rattle.decode_output.specs.Output.{Output}
 use Rattle.decode_output.specs.Contracts as output
-use Rattle.reading.specs.State.{Given, State, Step, took, writes, invokeGL}
+use Rattle.reading.specs.State.{Given, State, Step, took, writes}
 use Rattle.decode_state.specs.declared.Core.{Core}
 use Rattle.decode_state.specs.declared.Stepped.{Stepped}
 use Rattle.decode_state.specs.Contracts.{whole, Holds, Good, Took, TookOver}
-use Rattle.decode_state.proofs.Lift.{withGL, withOut, holds-writes, holds-gl}
+use Rattle.decode_state.proofs.Lift.{withOut, holds-writes}
 
 -- a step that concerns no cell
 pub took-over : {cells b : List ℕ} {j : ℕ} {f : Given → State → Step} {c : Core} {t i : List ℕ} {r : Stepped} {t′ i′ : List ℕ} → ((g : Given) → Took b j (f g) c t i r t′ i′)
@@ -52,15 +52,4 @@ took-writes {f = f} {c} {t} {i} {o} {t′} {i′} b j p q l h w =
       some = omega arith;
       within = omega arith;
       kept = record { gl = h .gl; gr = h .gr; charged = refl; grew = record { ordered = v .ordered; repeat = v .repeat; text = omega arith; issues = omega arith } };
-    }
-
--- one byte is used, and a code element is invoked in GL
-pub took-gl : {c : Core} {t i : List ℕ} (b : List ℕ) (j e : ℕ) → e < 4 → j < length b → Good 1 c → Took b j (λ s. took 1 (invokeGL e s)) c t i (record { used = 1; core = withGL c e }) t i
-took-gl {c} {t} {i} b j e p l h =
-    let v = h .room in
-    record {
-      moves = λ g. record { does = λ starts lens t₀ i₀ s k. holds-gl g starts lens t₀ i₀ s c t i k e; used = λ starts lens t₀ i₀ s k. refl };
-      some = omega arith;
-      within = omega arith;
-      kept = record { gl = p; gr = h .gr; charged = refl; grew = record { ordered = v .ordered; repeat = v .repeat; text = omega arith; issues = omega arith } };
     }

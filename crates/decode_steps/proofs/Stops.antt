@@ -11,7 +11,7 @@ use lib.ListN.{length, getD}
 use Rattle.reading.specs.Characters.{isGL, isGR, isGraphic}
 use Rattle.decode_state.specs.declared.Core.{Core}
 use Rattle.decode_steps.specs.Contracts.{CharOf, ShiftOf, Passes}
-use Rattle.decode_steps.proofs.Branches.{gl-above, gr-below}
+use Rattle.decode_controls.proofs.Bytes.{gl-above, gr-below}
 
 pub never : {u : Bool} → u ≡ true → u ≡ false → ⊥
 never p q = let z : _≡_ {A = ℕ} 0 1 = cc in omega arith

@@ -1,9 +1,6 @@
 // Steps that concern no macro. They are taken outside the cycle, so that plain text costs no
 // calls through it.
 use control::APR;
-use control::ESC;
-use control::LS0;
-use control::LS1;
 use control::MACRO;
 use control::SP;
 use control::SS2;
@@ -17,8 +14,8 @@ ghost use mathlib.Core.List.{List};
 ghost use lib.ListN.{length, drop, getD};
 ghost use Rattle.reading.specs.Characters.{isGraphic, graphicOf};
 ghost use Rattle.reading.specs.Macros.{Run};
-ghost use Rattle.reading.specs.State.{took, invokeGL, writes};
-ghost use Rattle.reading.specs.Steps.{step, offset, control0, space};
+ghost use Rattle.reading.specs.State.{took, writes};
+ghost use Rattle.reading.specs.Steps.{step, offset, space};
 ghost use Rattle.decode_output.specs.Output.{newline};
 ghost use Rattle.decode_state.specs.Contracts.{Good, TookOver};
 ghost use Rattle.decode_steps.specs.Contracts.{CharOf, ShiftOf, Verdict, Passes, Plain};
@@ -118,17 +115,6 @@ fn space(s: Core, text: &mut [u8]) -> Stepped
     Stepped { used: 1, core: r }
 }
 
-/// LS0 and LS1. Table 7-1.
-fn invoke_gl(s: Core, e: u8) -> Stepped
-    requires { ⌜ Good 1 s ⌝ }
-    requires { ⌜ e < 4 ⌝ }
-    ensures { λ r. ⌜ ((cells b t i₁ : List ℕ) (i : ℕ) → i < length b → TookOver cells b i (λ g s. took 1 (invokeGL e s)) s t i₁ r t i₁) ⌝ }
-{
-    let mut r = s;
-    r.gl = e;
-    Stepped { used: 1, core: r }
-}
-
 /// APR. Table 7-15.
 fn newline(s: Core, text: &mut [u8], issues: &mut [u32]) -> Stepped
     requires { ⌜ Good 1 s ⌝ }
@@ -139,37 +125,6 @@ fn newline(s: Core, text: &mut [u8], issues: &mut [u32]) -> Stepped
     let mut r = s;
     r.out = o;
     Stepped { used: 1, core: r }
-}
-
-/// SP, LS0, LS1, SS2, SS3, ESC, APR, and the codes below 80 with fixed parameters.
-fn control0(
-    cells: &[u16],
-    b: &[u8],
-    i: usize,
-    place: u32,
-    at: u32,
-    s: Core,
-    text: &mut [u8],
-    issues: &mut [u32],
-) -> Stepped
-    requires { ⌜ (i < length (now b)) × (length (now b) ≤ 65535) ⌝ }
-    requires { ⌜ Good 1 s ⌝ }
-    requires { ⌜ Passes (now b) i s ⌝ }
-    ensures { λ r. ⌜ ((left : ℕ) (R : Run) → TookOver (now (cells .entry)) (now (b .entry)) i
-        (λ g. control0 g left R (getD (now (b .entry)) i 0) (drop (i + 1) (now (b .entry))) place at) s (now (text .entry)) (now (issues .entry)) r (now (text .exit))
-        (now (issues .exit))) ⌝ }
-{
-    let x = b[i];
-    match x {
-        SP => space(s, text),
-        LS0 => invoke_gl(s, 0),
-        LS1 => invoke_gl(s, 1),
-        SS2 => decode_graphic::single_shift(cells, b, i, 2, at, s, text, issues),
-        SS3 => decode_graphic::single_shift(cells, b, i, 3, at, s, text, issues),
-        ESC => decode_controls::escape(b, i, place, at, s, issues),
-        APR => newline(s, text, issues),
-        _ => decode_controls::fixed(b, i, at, s, issues),
-    }
 }
 
 /// A character of the set in the code element e, which is not the macro set.
@@ -215,8 +170,11 @@ fn simple(
     match x {
         0x21..=0x7E => graphic(cells, b, i, s.gl as usize, at, s, text, issues),
         0xA1..=0xFE => graphic(cells, b, i, s.gr as usize, at, s, text, issues),
-        0x00..=0x7F => control0(cells, b, i, place, at, s, text, issues),
-        _ => decode_controls::control1(b, i, at, s, issues),
+        SP => space(s, text),
+        APR => newline(s, text, issues),
+        SS2 => decode_graphic::single_shift(cells, b, i, 2, at, s, text, issues),
+        SS3 => decode_graphic::single_shift(cells, b, i, 3, at, s, text, issues),
+        _ => decode_reports::control(b, i, place, at, s, issues),
     }
 }
 

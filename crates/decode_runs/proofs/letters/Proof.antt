@@ -41,7 +41,8 @@ returns c =
 
 returns-2 : tie.Need-returns-2
 returns-2 c =
-    let at-place = c .before .before .before .before .before .before in
+    let at-place-2 = c .before .before .before .before .before .before in
+    let at-place = at-place-2 in
     let entry = at-place in
     λ base origin i. stretch-none base origin (entry .pre .0 .0) (entry .pre .1)
 

@@ -42,7 +42,8 @@ same-length-2 c = search needs
 
 returns-2 : tie.Need-returns-2 Inv-loop μ-loop
 returns-2 c =
-    let at-place = c .before .before .before .before .before .before in
+    let at-place-2 = c .before .before .before .before .before .before in
+    let at-place = at-place-2 in
     let turn = at-place in
     let inv = turn .loop .inv in
     (inv .letters, omega (arith, inv .room, inv .as-long))
@@ -60,7 +61,8 @@ put3-requires c κs =
 
 add-m : tie.Need-add-m Inv-loop μ-loop
 add-m c =
-    let at-place = c .before .before .before .before .before .before .before .before .before in
+    let at-place-2 = c .before .before .before .before .before .before .before .before .before in
+    let at-place = at-place-2 in
     let at-if1 = at-place in
     let turn = at-if1 .before in
     let inv = turn .loop .inv in
@@ -68,7 +70,8 @@ add-m c =
 
 add-i : tie.Need-add-i Inv-loop μ-loop
 add-i c =
-    let at-place = c .before .before .before .before .before .before .before .before .before in
+    let at-place-2 = c .before .before .before .before .before .before .before .before .before in
+    let at-place = at-place-2 in
     let at-if1 = at-place in
     let turn = at-if1 .before in
     let inv = turn .loop .inv in
@@ -76,7 +79,8 @@ add-i c =
 
 loop-less : tie.Need-loop-less Inv-loop μ-loop
 loop-less c =
-    let at-place = c .before .before .before .before .before .before .before .before .before in
+    let at-place-2 = c .before .before .before .before .before .before .before .before .before in
+    let at-place = at-place-2 in
     let at-if1 = at-place in
     let turn = at-if1 .before in
     let inv = turn .loop .inv in
@@ -126,7 +130,8 @@ put3-requires-2 c κs =
 
 add-m-2 : tie.Need-add-m-2 Inv-loop μ-loop
 add-m-2 c =
-    let at-place = c .before .before .before .before .before .before .before .before .before in
+    let at-place-2 = c .before .before .before .before .before .before .before .before .before in
+    let at-place = at-place-2 in
     let at-if1 = at-place in
     let turn = at-if1 .before in
     let inv = turn .loop .inv in
@@ -134,7 +139,8 @@ add-m-2 c =
 
 add-i-2 : tie.Need-add-i-2 Inv-loop μ-loop
 add-i-2 c =
-    let at-place = c .before .before .before .before .before .before .before .before .before in
+    let at-place-2 = c .before .before .before .before .before .before .before .before .before in
+    let at-place = at-place-2 in
     let at-if1 = at-place in
     let turn = at-if1 .before in
     let inv = turn .loop .inv in
@@ -142,7 +148,8 @@ add-i-2 c =
 
 loop-less-2 : tie.Need-loop-less-2 Inv-loop μ-loop
 loop-less-2 c =
-    let at-place = c .before .before .before .before .before .before .before .before .before in
+    let at-place-2 = c .before .before .before .before .before .before .before .before .before in
+    let at-place = at-place-2 in
     let at-if1 = at-place in
     let turn = at-if1 .before in
     let inv = turn .loop .inv in
@@ -175,7 +182,8 @@ same-length-3 c = search needs
 
 returns-3 : tie.Need-returns-3 Inv-loop μ-loop
 returns-3 c =
-    let at-place = c .before .before .before .before .before .before .before in
+    let at-place-2 = c .before .before .before .before .before .before .before in
+    let at-place = at-place-2 in
     let turn = at-place in
     let inv = turn .loop .inv in
     (inv .letters, omega (arith, inv .room, inv .as-long))
@@ -185,7 +193,8 @@ same-length-4 c = search needs
 
 returns-4 : tie.Need-returns-4 Inv-loop μ-loop
 returns-4 c =
-    let at-place = c .before .before .before .before .before .before .before .before in
+    let at-place-2 = c .before .before .before .before .before .before .before .before in
+    let at-place = at-place-2 in
     let turn = at-place in
     let inv = turn .loop .inv in
     (inv .letters, omega (arith, inv .room, inv .as-long))
@@ -195,7 +204,8 @@ cast-text c = search needs
 
 slice-write-text : tie.Need-slice-write-text Inv-loop μ-loop
 slice-write-text c =
-    let at-place = c .before .before .before .before .before .before .before in
+    let at-place-2 = c .before .before .before .before .before .before .before in
+    let at-place = at-place-2 in
     let at-if1 = at-place in
     let turn = at-if1 .before in
     let inv = turn .loop .inv in
@@ -203,7 +213,8 @@ slice-write-text c =
 
 add-m-3 : tie.Need-add-m-3 Inv-loop μ-loop
 add-m-3 c =
-    let at-place = c .before .before .before .before .before .before .before in
+    let at-place-2 = c .before .before .before .before .before .before .before in
+    let at-place = at-place-2 in
     let at-if1 = at-place in
     let turn = at-if1 .before in
     let inv = turn .loop .inv in
@@ -211,7 +222,8 @@ add-m-3 c =
 
 add-i-3 : tie.Need-add-i-3 Inv-loop μ-loop
 add-i-3 c =
-    let at-place = c .before .before .before .before .before .before .before in
+    let at-place-2 = c .before .before .before .before .before .before .before in
+    let at-place = at-place-2 in
     let at-if1 = at-place in
     let turn = at-if1 .before in
     let inv = turn .loop .inv in
@@ -219,7 +231,8 @@ add-i-3 c =
 
 loop-less-3 : tie.Need-loop-less-3 Inv-loop μ-loop
 loop-less-3 c =
-    let at-place = c .before .before .before .before .before .before .before in
+    let at-place-2 = c .before .before .before .before .before .before .before in
+    let at-place = at-place-2 in
     let at-if1 = at-place in
     let turn = at-if1 .before in
     let inv = turn .loop .inv in

@@ -17,7 +17,8 @@ character-requires c κs = search needs
 
 returns-2 : tie.Need-returns-2
 returns-2 c =
-    let at-place = c .before .before .before .before .before .before in
+    let at-place-2 = c .before .before .before .before .before .before in
+    let at-place = at-place-2 in
     let entry = at-place in
     (spelt-start (entry .pre .0) (entry .pre .2) .letters, entry .pre .2)
 
@@ -26,7 +27,8 @@ put-requires c κs = search needs
 
 add-at : tie.Need-add-at
 add-at c =
-    let at-place = c .before .before .before .before .before in
+    let at-place-2 = c .before .before .before .before .before in
+    let at-place = at-place-2 in
     let at-if2 = at-place in
     let at-character = at-if2 .before in
     let entry = at-character .before .before .before .before .before in

@@ -28,7 +28,8 @@ add-to c = search needs
 
 loop-holds : tie.Need-loop-holds Inv-loop μ-loop
 loop-holds c =
-    let at-place = c .before .before .before .before .before in
+    let at-place-2 = c .before .before .before .before .before in
+    let at-place = at-place-2 in
     let entry = at-place in
     let fits = c .fitting .ensures in
     running-start (entry .pre .0) (omega (arith, fits .0, entry .pre .2)) (entry .pre .3)
@@ -71,7 +72,7 @@ same-length c =
     let at-controls = c .before .before .before in
     let turn = at-controls .before .before .before .before .before .before .before .before .before .before .before .before .before .before .before .before in
     let entry = turn .before .before .before .before .before .before in
-    at-controls .controls .ensures .fine .seven ∙ sym (entry .pre .3 .seven)
+    at-controls .controls .ensures .settings .seven ∙ sym (entry .pre .3 .seven)
 
 same-length-2 : tie.Need-same-length-2 Inv-loop μ-loop
 same-length-2 c = search needs

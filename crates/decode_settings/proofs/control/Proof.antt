@@ -23,12 +23,14 @@ control0-requires c κs = search needs
 
 returns : tie.Need-returns
 returns c =
-    let at-start = c .before .before .before .before .before .before in
+    let at-place = c .before .before .before .before .before .before in
+    let at-start = at-place in
     λ g left R place at. turns-none (at-start .pre .1) (at-start .pre .0)
 
 returns-2 : tie.Need-returns-2
 returns-2 c =
-    let at-start = c .before .before .before .before .before .before .before .before in
+    let at-place = c .before .before .before .before .before .before .before .before in
+    let at-start = at-place in
     λ g left R place at. turns-none (at-start .pre .1) (at-start .pre .0)
 
 same-length : tie.Need-same-length

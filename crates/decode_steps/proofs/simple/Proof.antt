@@ -1,19 +1,40 @@
--- `simple` meets its contract, by the byte.
-use mathlib.Core.Path.{_≡_}
+-- `simple` meets its contract, by the byte. Assumes nothing.
+use mathlib.Core.Path.{_≡_, refl, sym}
 use mathlib.Core.Bool.{false}
-use mathlib.Core.Logic.{⊎-elim}
-use Prim.Native.Nat.{_≤_, _<_}
+use mathlib.Core.Logic.{inl, inr, ⊎-elim}
 use native.Mathlib.Omega.{arith}
 use lib.ListN.{getD}
 use Rattle.reading.specs.Characters.{isGL, isGR}
+use Rattle.decode_controls.proofs.Bytes.{gl-in, gl-below, gl-above, gr-in, gr-below, gr-above}
 use Rattle.decode_steps.proofs.Moving.{took-over, took-as}
-use Rattle.decode_steps.proofs.Branches.{gl-in, gl-below, gl-above, gr-in, gr-below, gr-above, graphic-left, graphic-right, set-left, set-right, step-left, step-right, step-0, step-1}
+use Rattle.decode_steps.proofs.Branches.{graphic-left, graphic-right, set-left, set-right, step-left, step-right, step-space, step-newline}
+use Rattle.decode_steps.proofs.Dispatch.{step-shift}
 use borrow.Author.Needs.{needs}
 use Rattle.decode_steps.proofs.simple.Statement.{statement}
 use Rattle.decode_steps.proofs.simple.Tie as tie
 
 shared-slice-read-x : tie.Need-shared-slice-read-x
 shared-slice-read-x c = search needs
+
+space-requires : tie.Need-space-requires
+space-requires c κs = search needs
+
+newline-requires : tie.Need-newline-requires
+newline-requires c κs = search needs
+
+single-shift-requires : tie.Need-single-shift-requires
+single-shift-requires c κs =
+    let at-match = c .before .before in
+    let at-start = at-match .before .before .before .before .before .before in
+    let p = at-start .pre in
+    (p .1 .0, (p .0 .0, omega arith, λ l g s. p .1 .1 .shift 2 (inl (at-match .match .keys3, refl)) s l g))
+
+single-shift-requires-2 : tie.Need-single-shift-requires-2
+single-shift-requires-2 c κs =
+    let at-match = c .before .before in
+    let at-start = at-match .before .before .before .before .before .before in
+    let p = at-start .pre in
+    (p .1 .0, (p .0 .0, omega arith, λ l g s. p .1 .1 .shift 3 (inr (at-match .match .keys4, refl)) s l g))
 
 cast-graphic : tie.Need-cast-graphic
 cast-graphic c = search needs
@@ -39,58 +60,58 @@ graphic-requires-2 c κs =
     let k = gr-in x (omega arith) (omega arith) in
     ((p .0 .0, p .1 .0 .gr, graphic-right x (gl-above x (omega arith)) k, p .1 .1 .right k), p .1 .0)
 
-control1-requires : tie.Need-control1-requires
-control1-requires c κs = search needs
-
-control0-requires : tie.Need-control0-requires
-control0-requires c κs = search needs
+control-requires : tie.Need-control-requires
+control-requires c κs =
+    let at-if1 = c .before in
+    let at-match = at-if1 .before in
+    let at-start = at-match .before .before .before .before .before .before in
+    let a = at-start .args in
+    let p = at-start .pre in
+    let x = getD (a .b .now) (a .i) 0 in
+    let came = at-if1 .if1 .came in
+    let other = at-match .match .rest in
+    let l : isGL x ≡ false = ⊎-elim (λ w. gl-below x (omega (arith, w .taken))) (⊎-elim (λ w. gl-above x (w .1 .left)) (λ w. gl-above x (w .1 .left))) came in
+    let r : isGR x ≡ false = ⊎-elim (λ w. gr-below x (omega (arith, w .taken))) (⊎-elim (λ w. gr-below x (w .2 .taken)) (λ w. gr-above x (w .3 .left))) came in
+    ((p .0 .0, p .0 .1, record { gl = l; gr = r; space = other .0 .0 .0 .1; newline = other .0 .0 .1; ss2 = other .0 .1; ss3 = other .1; macro = p .1 .1 .command }), p .1 .0)
 
 same-length : tie.Need-same-length
 same-length c = search needs
 
-same-length-2 : tie.Need-same-length-2
-same-length-2 c = search needs
-
 returns : tie.Need-returns
 returns c =
-    let at-graphic = c .before .before .before .before in
-    let at-start = at-graphic .before .before .before .before .before .before .before .before .before .before .before .before in
+    let at-space = c .before .before in
+    let at-match = at-space .before .before in
+    let at-start = at-match .before .before .before .before .before .before in
     let a = at-start .args in
-    let x = getD (a .b .now) (a .i) 0 in
-    let k = gl-in x (omega arith) (omega arith) in
-    λ left R. took-as (λ g starts lens t₀ i₀ s h. step-left g left R _ _ _ _ s _ (set-left h) k) (at-graphic .graphic .ensures left R)
+    λ left R. took-as (λ g starts lens t₀ i₀ s h. step-space g left R _ _ _ _ s (at-match .match .keys1))
+    (at-space .space .ensures (a .cells .now) (a .b .now) (a .issues .now) (a .i) (at-start .pre .0 .0))
+
+same-length-2 : tie.Need-same-length-2
+same-length-2 c = search needs
 
 same-length-3 : tie.Need-same-length-3
 same-length-3 c = search needs
 
-same-length-4 : tie.Need-same-length-4
-same-length-4 c = search needs
-
 returns-2 : tie.Need-returns-2
 returns-2 c =
-    let at-graphic2 = c .before .before .before .before in
-    let at-start = at-graphic2 .before .before .before .before .before .before .before .before .before .before .before .before .before .before in
+    let at-newline = c .before .before .before .before in
+    let at-match = at-newline .before .before .before in
+    let at-start = at-match .before .before .before .before .before .before in
     let a = at-start .args in
-    let x = getD (a .b .now) (a .i) 0 in
-    let k = gr-in x (omega arith) (omega arith) in
-    let n = gl-above x (omega arith) in
-    λ left R. took-as (λ g starts lens t₀ i₀ s h. step-right g left R _ _ _ _ s _ (set-right h) n k) (at-graphic2 .graphic2 .ensures left R)
+    λ left R. took-as (λ g starts lens t₀ i₀ s h. step-newline g left R _ _ _ _ s (at-match .match .keys2))
+    (at-newline .newline .ensures (a .cells .now) (a .b .now) (a .i) (at-start .pre .0 .0))
+
+same-length-4 : tie.Need-same-length-4
+same-length-4 c = search needs
 
 same-length-5 : tie.Need-same-length-5
 same-length-5 c = search needs
 
 returns-3 : tie.Need-returns-3
 returns-3 c =
-    let at-control1 = c .before .before in
-    let at-if3 = at-control1 .before .before in
-    let at-if2 = at-if3 .before in
-    let at-match = at-if2 .before .before in
-    let at-start = at-match .before .before .before .before .before .before in
-    let a = at-start .args in
-    let x = getD (a .b .now) (a .i) 0 in
-    let n : isGR x ≡ false = ⊎-elim (λ w. gr-below x (w .taken)) (λ w. gr-above x (w .1 .left)) (at-if3 .if3 .came) in
-    let l : 0x80 ≤ x = omega (arith, at-if2 .if2 .left, at-match .match .rest .1) in
-    λ left R. took-as (λ g starts lens t₀ i₀ s h. step-1 g left R _ _ _ _ s n l) (took-over (λ g. at-control1 .control1 .ensures g left R (a .place) (a .text .now)))
+    let at-single-shift = c .before .before .before .before in
+    let at-match = at-single-shift .before .before .before in
+    λ left R. took-as (λ g starts lens t₀ i₀ s h. sym (step-shift g left R _ _ _ _ s 2 (inl (at-match .match .keys3, refl)))) (at-single-shift .single-shift .ensures left R)
 
 same-length-6 : tie.Need-same-length-6
 same-length-6 c = search needs
@@ -100,34 +121,81 @@ same-length-7 c = search needs
 
 returns-4 : tie.Need-returns-4
 returns-4 c =
-    let at-control0 = c .before .before .before .before in
-    let at-match = at-control0 .before .before .before in
-    let at-start = at-match .before .before .before .before .before .before in
+    let at-single-shift2 = c .before .before .before .before in
+    let at-match = at-single-shift2 .before .before .before in
+    λ left R. took-as (λ g starts lens t₀ i₀ s h. sym (step-shift g left R _ _ _ _ s 3 (inr (at-match .match .keys4, refl)))) (at-single-shift2 .single-shift2 .ensures left R)
+
+same-length-8 : tie.Need-same-length-8
+same-length-8 c = search needs
+
+same-length-9 : tie.Need-same-length-9
+same-length-9 c = search needs
+
+returns-5 : tie.Need-returns-5
+returns-5 c =
+    let at-graphic = c .before .before .before .before in
+    let at-start = at-graphic .before .before .before .before .before .before .before .before .before .before .before .before in
     let a = at-start .args in
     let x = getD (a .b .now) (a .i) 0 in
-    let n : isGL x ≡ false = ⊎-elim (λ w. gl-above x (omega (arith, w .keys1))) (λ w. gl-below x (w .1 .taken)) (at-match .match .came) in
-    let l : x < 0x80 = ⊎-elim (λ w. omega (arith, w .keys1)) (λ w. omega (arith, w .1 .taken)) (at-match .match .came) in
-    λ left R. took-as (λ g starts lens t₀ i₀ s h. step-0 g left R _ _ _ _ s n l) (at-control0 .control0 .ensures left R)
+    let k = gl-in x (omega arith) (omega arith) in
+    λ left R. took-as (λ g starts lens t₀ i₀ s h. step-left g left R _ _ _ _ s _ (set-left h) k) (at-graphic .graphic .ensures left R)
+
+same-length-10 : tie.Need-same-length-10
+same-length-10 c = search needs
+
+same-length-11 : tie.Need-same-length-11
+same-length-11 c = search needs
+
+returns-6 : tie.Need-returns-6
+returns-6 c =
+    let at-graphic2 = c .before .before .before .before in
+    let at-start = at-graphic2 .before .before .before .before .before .before .before .before .before .before .before .before .before .before in
+    let a = at-start .args in
+    let x = getD (a .b .now) (a .i) 0 in
+    let k = gr-in x (omega arith) (omega arith) in
+    let n = gl-above x (omega arith) in
+    λ left R. took-as (λ g starts lens t₀ i₀ s h. step-right g left R _ _ _ _ s _ (set-right h) n k) (at-graphic2 .graphic2 .ensures left R)
+
+same-length-12 : tie.Need-same-length-12
+same-length-12 c = search needs
+
+returns-7 : tie.Need-returns-7
+returns-7 c =
+    let at-control = c .before .before in
+    let at-start = at-control .before .before .before .before .before .before .before .before .before in
+    let a = at-start .args in
+    λ left R. took-over (λ g. at-control .control .ensures g left R (a .text .now))
 
 pub simple-spec : {M : Type 1} → statement M
 simple-spec =
     tie.close
     (tie.spec
     shared-slice-read-x
+    space-requires
+    newline-requires
+    single-shift-requires
+    single-shift-requires-2
     cast-graphic
     graphic-requires
     cast-graphic-2
     graphic-requires-2
-    control1-requires
-    control0-requires
+    control-requires
     same-length
-    same-length-2
     returns
+    same-length-2
     same-length-3
-    same-length-4
     returns-2
+    same-length-4
     same-length-5
     returns-3
     same-length-6
     same-length-7
-    returns-4)
+    returns-4
+    same-length-8
+    same-length-9
+    returns-5
+    same-length-10
+    same-length-11
+    returns-6
+    same-length-12
+    returns-7)

@@ -107,7 +107,8 @@ simple-requires c κs =
 
 add-i : tie.Need-add-i Inv-loop μ-loop
 add-i c =
-    let at-place = c .before .before .before .before .before .before in
+    let at-place-2 = c .before .before .before .before .before .before in
+    let at-place = at-place-2 in
     let at-simple = at-place in
     let at-test = at-simple .before .before .before .before .before .before .before in
     let entry = at-test .before .before .before .before .before .before .before .before .before .before .before in
@@ -115,7 +116,8 @@ add-i c =
 
 loop-less : tie.Need-loop-less Inv-loop μ-loop
 loop-less c =
-    let at-simple = c .before .before .before .before .before .before in
+    let at-place-2 = c .before .before .before .before .before .before in
+    let at-simple = at-place-2 in
     let at-place = at-simple .before .before .before .before .before .before .before in
     let k = at-place in
     let l = k .before .before .before .before in
@@ -126,7 +128,8 @@ loop-less c =
 
 loop-again : tie.Need-loop-again Inv-loop μ-loop
 loop-again c =
-    let at-place = c .before .before .before .before .before .before in
+    let at-place-2 = c .before .before .before .before .before .before in
+    let at-place = at-place-2 in
     let p = at-place in
     let o = p .before .before .before in
     let k = o .before .before .before .before in
