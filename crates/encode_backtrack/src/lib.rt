@@ -13,7 +13,7 @@ ghost use Rattle.encode_states.specs.Written.{written};
 ghost use Rattle.encode_layer.specs.Entries.{layerOf};
 ghost use Rattle.encode_backtrack.specs.Contracts.{Searched, Held, Proper};
 
-// The place of the layer's first node of a cost; where none has it, how many nodes there are.
+/// The place of the layer's first node of a cost; where none has it, how many nodes there are.
 pub fn first_of(store: &[u32], from: usize, count: usize, cost: u32) -> usize
     requires { ⌜ (from + count) * 4 ≤ length (now store) ⌝ }
     ensures { λ r. ⌜ ((cs : List Cand) → r ≡ firstOf cost (layerOf cs (now (store .entry)) from count)) ⌝ }
@@ -28,7 +28,7 @@ pub fn first_of(store: &[u32], from: usize, count: usize, cost: u32) -> usize
     i
 }
 
-// Writes a character by one of its candidates, as `how` says.
+/// Writes a character by one of its candidates, as `how` says.
 fn put_character(coding: &mut [u8], at: usize, k: Cands, how: u32)
     requires { ⌜ (at ≤ 4294967296) × Proper k ⌝ }
     ensures { λ _. ⌜ now (coding .exit) ≡ sets (now (coding .entry)) at (written (candsOf k) how) ⌝ }
@@ -46,8 +46,8 @@ fn put_character(coding: &mut [u8], at: usize, k: Cands, how: u32)
     encode_writing::put_graphic(coding, at, x as u32, code, how);
 }
 
-// Writes the coding that leads to the i-th node of the newest layer, which begins at the node from:
-// the bytes of the last of the n characters first, each character's at the cost of the node before.
+/// Writes the coding that leads to the i-th node of the newest layer, which begins at the node from:
+/// the bytes of the last of the n characters first, each character's at the cost of the node before.
 pub fn write_back(
     chars: &[u32],
     kanji: &[u16],

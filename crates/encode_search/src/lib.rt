@@ -12,8 +12,8 @@ ghost use Rattle.encode_layer.specs.Entries.{entriesOf};
 ghost use Rattle.encode_layer.specs.Layer.{HasRoom};
 ghost use Rattle.encode_search.specs.Layers.{Able, Reached, Capped, Advanced, Turned, Begins, Arrays, Searched};
 
-// Every state that the pcount nodes from the node pfrom on reach by the m candidates, behind them.
-// Returns how many there are, cap + 1 for more than cap.
+/// Every state that the pcount nodes from the node pfrom on reach by the m candidates, behind them.
+/// Returns how many there are, cap + 1 for more than cap.
 fn reach<'a>(
     store: &mut [u32],
     index: &mut [u16],
@@ -59,7 +59,7 @@ fn reach<'a>(
     count
 }
 
-// How many nodes have room behind the first from, in a store of len numbers.
+/// How many nodes have room behind the first from, in a store of len numbers.
 fn room(len: usize, from: usize) -> usize
     requires { ⌜ from * 4 ≤ len ⌝ }
     ensures { λ r. ⌜ Capped len from r ⌝ }
@@ -68,15 +68,15 @@ fn room(len: usize, from: usize) -> usize
     if all < 48385 { all } else { 48385 }
 }
 
-// The next layer: whether it fits the store, how many of its states are kept, and the floor.
+/// The next layer: whether it fits the store, how many of its states are kept, and the floor.
 struct Step {
     fits: bool,
     count: usize,
     floor: u32,
 }
 
-// The layer behind the pcount nodes from the node pfrom on, for a character with m candidates. The
-// characters after it have shortest codes of rest bytes.
+/// The layer behind the pcount nodes from the node pfrom on, for a character with m candidates. The
+/// characters after it have shortest codes of rest bytes.
 fn advance<'a>(
     store: &mut [u32],
     index: &mut [u16],
@@ -128,7 +128,7 @@ fn less(a: usize, b: usize) -> usize
     if b < a { a - b } else { 0 }
 }
 
-// The same for a character, with what is left of the shortest codes after it.
+/// The same for a character, with what is left of the shortest codes after it.
 struct Next {
     fits: bool,
     count: usize,
@@ -136,8 +136,8 @@ struct Next {
     floor: u32,
 }
 
-// The layer behind the pcount nodes from the node pfrom on, for the character c with its cells of the
-// Kanji set and of the additional symbols. From it on, the characters have shortest codes of rest bytes.
+/// The layer behind the pcount nodes from the node pfrom on, for the character c with its cells of the
+/// Kanji set and of the additional symbols. From it on, the characters have shortest codes of rest bytes.
 fn turn(
     store: &mut [u32],
     index: &mut [u16],
@@ -175,8 +175,8 @@ fn turn(
     }
 }
 
-// Where the search led: whether its layers fit the store, the newest layer's first node, how many
-// nodes it has, and the floor.
+/// Where the search led: whether its layers fit the store, the newest layer's first node, how many
+/// nodes it has, and the floor.
 pub struct Last {
     pub fits: bool,
     pub from: usize,
@@ -184,7 +184,7 @@ pub struct Last {
     pub floor: u32,
 }
 
-// A layer for each of n characters, behind the start, which stands in the store.
+/// A layer for each of n characters, behind the start, which stands in the store.
 fn run(
     store: &mut [u32],
     index: &mut [u16],
@@ -242,8 +242,8 @@ fn run(
     }
 }
 
-// The search for n characters, of which each array has one number: the character, and its cells of
-// the Kanji set and of the additional symbols, 0 for none. Their shortest codes sum up to rest bytes.
+/// The search for n characters, of which each array has one number: the character, and its cells of
+/// the Kanji set and of the additional symbols, 0 for none. Their shortest codes sum up to rest bytes.
 pub fn search(
     store: &mut [u32],
     chars: &[u32],

@@ -9,9 +9,9 @@ ghost use Rattle.encode_tokens.specs.Steps.{basesOf, Orders, Within, App
 
 /// What questions 4 to 6 say.
 pub enum Tokens {
-    // All three yes: how many characters there are, and the sum of their shortest codes.
+    /// All three yes: how many characters there are, and the sum of their shortest codes.
     Ordered { count: usize, rest: usize },
-    // One no: its number, and the place.
+    /// One no: its number, and the place.
     Refused { number: u32, place: usize },
 }
 

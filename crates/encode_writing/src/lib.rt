@@ -15,7 +15,7 @@ ghost use Rattle.encode_states.specs.Written.{sizeControl, invocation, half, wr
 ghost use Rattle.encode_candidates.specs.Packed.{codeOf};
 ghost use Rattle.encode_writing.specs.Contracts.{WritesAt};
 
-// Writes a byte, where it fits. Returns the place behind it, as all that follow do.
+/// Writes a byte, where it fits. Returns the place behind it, as all that follow do.
 fn put(coding: &mut [u8], at: usize, x: u8) -> usize
     requires { ⌜ at ≤ 4294967360 ⌝ }
     ensures { λ r. ⌜ WritesAt (now (coding .entry)) at (x ∷ []) (now (coding .exit)) r ⌝ }
@@ -28,7 +28,7 @@ fn put(coding: &mut [u8], at: usize, x: u8) -> usize
     to
 }
 
-// Writes a sequence.
+/// Writes a sequence.
 fn put_sequence(coding: &mut [u8], at: usize, q: Sequence) -> usize
     requires { ⌜ (at ≤ 4294967340) × (q .len ≤ 5) × (length (q .bytes) ≡ 5) ⌝ }
     ensures { λ r. ⌜ ((xs : List ℕ) → Holds q xs → WritesAt (now (coding .entry)) at xs (now (coding .exit)) r) ⌝ }
@@ -42,7 +42,7 @@ fn put_sequence(coding: &mut [u8], at: usize, q: Sequence) -> usize
     to
 }
 
-// Writes a size control: none (0), MSZ (1), NSZ (2).
+/// Writes a size control: none (0), MSZ (1), NSZ (2).
 fn put_size(coding: &mut [u8], at: usize, z: u32) -> usize
     requires { ⌜ at ≤ 4294967320 ⌝ }
     ensures { λ r. ⌜ WritesAt (now (coding .entry)) at (sizeControl z) (now (coding .exit)) r ⌝ }
@@ -54,7 +54,7 @@ fn put_size(coding: &mut [u8], at: usize, z: u32) -> usize
     }
 }
 
-// The set of a code of three bits.
+/// The set of a code of three bits.
 fn set_of(x: u32) -> GraphicSet
     requires { ⌜ x < 7 ⌝ }
     ensures { λ r. ⌜ setNumber r ≡ setOf x ⌝ }
@@ -70,7 +70,7 @@ fn set_of(x: u32) -> GraphicSet
     }
 }
 
-// Writes the designation of a set to the code element e, where d says so.
+/// Writes the designation of a set to the code element e, where d says so.
 fn put_designation(coding: &mut [u8], at: usize, x: u32, e: u8, d: u32) -> usize
     requires { ⌜ (at ≤ 4294967330) × (x < 7) × (e < 4) ⌝ }
     ensures { λ r. ⌜ WritesAt (now (coding .entry)) at (cond (eqb d 1) (designation (setOf x) e) []) (now (coding .exit)) r ⌝ }
@@ -81,8 +81,8 @@ fn put_designation(coding: &mut [u8], at: usize, x: u32, e: u8, d: u32) -> usize
     at
 }
 
-// The shift by which the code element e is invoked: a locking shift to GL (2), to GR (3), a single
-// shift (4).
+/// The shift by which the code element e is invoked: a locking shift to GL (2), to GR (3), a single
+/// shift (4).
 fn shift(v: u32, e: u32) -> Shift
     requires { ⌜ (2 ≤ v) × (e < 4) ⌝ }
     ensures { λ r. ⌜ shiftBytes r ≡ invocation v e ⌝ }
@@ -127,7 +127,7 @@ fn single(e: u32) -> Shift
     }
 }
 
-// Writes the invocation of the code element e.
+/// Writes the invocation of the code element e.
 fn put_invocation(coding: &mut [u8], at: usize, v: u32, e: u32) -> usize
     requires { ⌜ (at ≤ 4294967340) × (e < 4) ⌝ }
     ensures { λ r. ⌜ WritesAt (now (coding .entry)) at (invocation v e) (now (coding .exit)) r ⌝ }
@@ -138,7 +138,7 @@ fn put_invocation(coding: &mut [u8], at: usize, v: u32, e: u32) -> usize
     put_sequence(coding, at, shift(v, e).bytes())
 }
 
-// What an invocation adds to each byte of a code.
+/// What an invocation adds to each byte of a code.
 fn half(v: u32) -> u8
     ensures { λ r. ⌜ r ≡ half v ⌝ }
 {
@@ -149,7 +149,7 @@ fn half(v: u32) -> u8
     }
 }
 
-// Writes a code of one byte or two, in GL's half or in GR's.
+/// Writes a code of one byte or two, in GL's half or in GR's.
 fn put_code(coding: &mut [u8], at: usize, code: u16, h: u8) -> usize
     requires { ⌜ (at ≤ 4294967350) × (code / 256 < 128) × (code % 256 < 128) × (h ≤ 128) ⌝ }
     ensures { λ r. ⌜ WritesAt (now (coding .entry)) at (map (λ b. b + h) (codeOf code)) (now (coding .exit)) r ⌝ }
@@ -161,7 +161,7 @@ fn put_code(coding: &mut [u8], at: usize, code: u16, h: u8) -> usize
     put(coding, to, (code % 256) as u8 + h)
 }
 
-// Writes a code of a set, by its three bits, as `how` says.
+/// Writes a code of a set, by its three bits, as `how` says.
 pub fn put_graphic(coding: &mut [u8], at: usize, x: u32, code: u16, how: u32) -> usize
     requires { ⌜ (at ≤ 4294967296) × (x < 7) × (code / 256 < 128) × (code % 256 < 128) ⌝ }
     ensures { λ r. ⌜ ((size : ℕ) → WritesAt (now (coding .entry)) at (writtenBy (graphic (setOf x) (codeOf code) size) (how / 16 % 4) (how / 64 % 4) (how / 256 % 2) (how / 512)) (now (coding .exit)) r) ⌝ }
@@ -174,7 +174,7 @@ pub fn put_graphic(coding: &mut [u8], at: usize, x: u32, code: u16, how: u32) ->
     put_code(coding, to, code, half(v))
 }
 
-// Writes SP or APR, as `how` says.
+/// Writes SP or APR, as `how` says.
 pub fn put_plain(coding: &mut [u8], at: usize, x: u8, how: u32) -> usize
     requires { ⌜ at ≤ 4294967296 ⌝ }
     ensures { λ r. ⌜ ((size : ℕ) → WritesAt (now (coding .entry)) at (writtenBy (plain x size) (how / 16 % 4) (how / 64 % 4) (how / 256 % 2) (how / 512)) (now (coding .exit)) r) ⌝ }
