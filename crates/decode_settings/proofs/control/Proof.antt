@@ -1,13 +1,15 @@
 -- `control` meets its contract, by the byte. Assumes nothing.
-use Prim.Native.Nat.{_+_, _≤_, _<_}
-use mathlib.Core.Path.{_≡_}
+use Prim.Native.Nat.{ℕ, _+_, _≤_}
+use mathlib.Core.Path.{_≡_, ap, _∙_}
 use mathlib.Core.Bool.{false}
-use mathlib.Core.Logic.{⊎-elim}
+use mathlib.Core.Logic.{inl, inr, ⊎-elim}
 use native.Mathlib.Omega.{arith}
 use lib.ListN.{drop, getD}
 use Rattle.reading.specs.Characters.{isGL, isGR}
-use Rattle.decode_controls.proofs.Bytes.{gl-below, gl-above, gr-below, gr-above, step-0, step-1}
-use Rattle.decode_settings.proofs.Turning.{turns-none, turns-as}
+use Rattle.reading.specs.Steps.{step, control0, control1}
+use Rattle.decode_controls.proofs.Cases.{fixed-all}
+use Rattle.decode_controls.proofs.Bytes.{gl-below, gl-above, gr-below, gr-above, step-colour, step-fixed}
+use Rattle.decode_settings.proofs.Turning.{turns-none, turns-same, turns-as, colours}
 use borrow.Author.Needs.{needs}
 use Rattle.decode_settings.proofs.control.Statement.{statement}
 use Rattle.decode_settings.proofs.control.Tie as tie
@@ -15,51 +17,305 @@ use Rattle.decode_settings.proofs.control.Tie as tie
 shared-slice-read-match : tie.Need-shared-slice-read-match
 shared-slice-read-match c = search needs
 
-control1-requires : tie.Need-control1-requires
-control1-requires c κs = search needs
+invoke-requires : tie.Need-invoke-requires
+invoke-requires c κs = search needs
 
-control0-requires : tie.Need-control0-requires
-control0-requires c κs = search needs
+apply-requires : tie.Need-apply-requires
+apply-requires c κs =
+    let a = c .before .before .before .before .before .before .args in
+    (c .before .invoke .ensures (a .b .now) (a .i) (c .before .before .before .before .before .before .pre .0) .bounded .element, c .before .before .before .before .before .before .pre .1)
 
-returns : tie.Need-returns
-returns c = λ g left R place at. turns-none (c .before .before .before .before .before .before .pre .1) (c .before .before .before .before .before .before .pre .0)
+invoke-requires-2 : tie.Need-invoke-requires-2
+invoke-requires-2 c κs = search needs
 
-returns-2 : tie.Need-returns-2
-returns-2 c = λ g left R place at. turns-none (c .before .before .before .before .before .before .before .before .pre .1) (c .before .before .before .before .before .before .before .before .pre .0)
+apply-requires-2 : tie.Need-apply-requires-2
+apply-requires-2 c κs =
+    let a = c .before .before .before .before .before .before .args in
+    (c .before .invoke2 .ensures (a .b .now) (a .i) (c .before .before .before .before .before .before .pre .0) .bounded .element, c .before .before .before .before .before .before .pre .1)
+
+escape-requires : tie.Need-escape-requires
+escape-requires c κs = search needs
+
+apply-requires-3 : tie.Need-apply-requires-3
+apply-requires-3 c κs = search needs
+
+size-requires : tie.Need-size-requires
+size-requires c κs = search needs
+
+apply-requires-4 : tie.Need-apply-requires-4
+apply-requires-4 c κs =
+    let a = c .before .before .before .before .before .before .args in
+    (c .before .size .ensures (a .b .now) (a .i) (c .before .before .before .before .before .before .pre .0) .bounded .element, c .before .before .before .before .before .before .pre .1)
+
+size-requires-2 : tie.Need-size-requires-2
+size-requires-2 c κs = search needs
+
+apply-requires-5 : tie.Need-apply-requires-5
+apply-requires-5 c κs =
+    let a = c .before .before .before .before .before .before .args in
+    (c .before .size2 .ensures (a .b .now) (a .i) (c .before .before .before .before .before .before .pre .0) .bounded .element, c .before .before .before .before .before .before .pre .1)
+
+size-requires-3 : tie.Need-size-requires-3
+size-requires-3 c κs = search needs
+
+apply-requires-6 : tie.Need-apply-requires-6
+apply-requires-6 c κs =
+    let a = c .before .before .before .before .before .before .args in
+    (c .before .size3 .ensures (a .b .now) (a .i) (c .before .before .before .before .before .before .pre .0) .bounded .element, c .before .before .before .before .before .before .pre .1)
+
+szx-requires : tie.Need-szx-requires
+szx-requires c κs = search needs
+
+apply-requires-7 : tie.Need-apply-requires-7
+apply-requires-7 c κs = search needs
+
+colour-requires : tie.Need-colour-requires
+colour-requires c κs = search needs
+
+apply-requires-8 : tie.Need-apply-requires-8
+apply-requires-8 c κs = search needs
+
+csi-requires : tie.Need-csi-requires
+csi-requires c κs = search needs
+
+apply-requires-9 : tie.Need-apply-requires-9
+apply-requires-9 c κs = search needs
+
+time-requires : tie.Need-time-requires
+time-requires c κs = search needs
+
+apply-requires-10 : tie.Need-apply-requires-10
+apply-requires-10 c κs = search needs
+
+fixed-requires : tie.Need-fixed-requires
+fixed-requires c κs = search needs
+
+apply-requires-11 : tie.Need-apply-requires-11
+apply-requires-11 c κs = search needs
 
 same-length : tie.Need-same-length
 same-length c = search needs
 
-returns-3 : tie.Need-returns-3
-returns-3 c =
-    let a = c .before .before .before .before .before .before .before .before .before .before .before .args in
-    let x = getD (a .b .now) (a .i) 0 in
-    let l : 0x80 ≤ x = omega (arith, c .before .before .before .before .before .if2 .left, c .before .before .before .before .before .before .before .match .rest .1) in
-    let n : isGR x ≡ false = ⊎-elim (λ w. gr-below x (w .taken)) (λ w. gr-above x (w .1 .left)) (c .before .before .before .before .if3 .came) in
-    λ g left R place at. turns-as (λ s. step-1 g left R x (drop (a .i + 1) (a .b .now)) place at s n l) (c .before .before .control1 .ensures g left R place at)
+returns : tie.Need-returns
+unfolding step control0 isGL isGR
+returns c =
+    let a = c .before .before .before .before .before .before .before .before .before .args in
+    λ g left R place at.
+    turns-as (λ s. ap (λ (x : ℕ). step g left R x (drop (a .i + 1) (a .b .now)) place at s) (c .before .before .before .before .before .match .keys1)) (c .before .before .apply .ensures _ _ _ (c .before .before .before .before .invoke .ensures (a .b .now) (a .i) (c .before .before .before .before .before .before .before .before .before .pre .0)) place at)
 
 same-length-2 : tie.Need-same-length-2
 same-length-2 c = search needs
 
+returns-2 : tie.Need-returns-2
+unfolding step control0 isGL isGR
+returns-2 c =
+    let a = c .before .before .before .before .before .before .before .before .before .args in
+    λ g left R place at.
+    turns-as (λ s. ap (λ (x : ℕ). step g left R x (drop (a .i + 1) (a .b .now)) place at s) (c .before .before .before .before .before .match .keys2)) (c .before .before .apply2 .ensures _ _ _ (c .before .before .before .before .invoke2 .ensures (a .b .now) (a .i) (c .before .before .before .before .before .before .before .before .before .pre .0)) place at)
+
+same-length-3 : tie.Need-same-length-3
+same-length-3 c = search needs
+
+returns-3 : tie.Need-returns-3
+unfolding step control0 isGL isGR
+returns-3 c =
+    let a = c .before .before .before .before .before .before .before .before .before .args in
+    λ g left R place at.
+    turns-as (λ s. ap (λ (x : ℕ). step g left R x (drop (a .i + 1) (a .b .now)) place at s) (c .before .before .before .before .before .match .keys3)) (c .before .before .apply3 .ensures _ _ _ (c .before .before .before .before .escape .ensures) place at)
+
+same-length-4 : tie.Need-same-length-4
+same-length-4 c = search needs
+
 returns-4 : tie.Need-returns-4
+unfolding step control1 isGL isGR
 returns-4 c =
+    let a = c .before .before .before .before .before .before .before .before .before .args in
+    λ g left R place at.
+    turns-as (λ s. ap (λ (x : ℕ). step g left R x (drop (a .i + 1) (a .b .now)) place at s) (c .before .before .before .before .before .match .keys4)) (c .before .before .apply4 .ensures _ _ _ (c .before .before .before .before .size .ensures (a .b .now) (a .i) (c .before .before .before .before .before .before .before .before .before .pre .0)) place at)
+
+same-length-5 : tie.Need-same-length-5
+same-length-5 c = search needs
+
+returns-5 : tie.Need-returns-5
+unfolding step control1 isGL isGR
+returns-5 c =
+    let a = c .before .before .before .before .before .before .before .before .before .args in
+    λ g left R place at.
+    turns-as (λ s. ap (λ (x : ℕ). step g left R x (drop (a .i + 1) (a .b .now)) place at s) (c .before .before .before .before .before .match .keys5)) (c .before .before .apply5 .ensures _ _ _ (c .before .before .before .before .size2 .ensures (a .b .now) (a .i) (c .before .before .before .before .before .before .before .before .before .pre .0)) place at)
+
+same-length-6 : tie.Need-same-length-6
+same-length-6 c = search needs
+
+returns-6 : tie.Need-returns-6
+unfolding step control1 isGL isGR
+returns-6 c =
+    let a = c .before .before .before .before .before .before .before .before .before .args in
+    λ g left R place at.
+    turns-as (λ s. ap (λ (x : ℕ). step g left R x (drop (a .i + 1) (a .b .now)) place at s) (c .before .before .before .before .before .match .keys6)) (c .before .before .apply6 .ensures _ _ _ (c .before .before .before .before .size3 .ensures (a .b .now) (a .i) (c .before .before .before .before .before .before .before .before .before .pre .0)) place at)
+
+same-length-7 : tie.Need-same-length-7
+same-length-7 c = search needs
+
+returns-7 : tie.Need-returns-7
+unfolding step control1 isGL isGR
+returns-7 c =
+    let a = c .before .before .before .before .before .before .before .before .before .args in
+    λ g left R place at.
+    turns-as (λ s. ap (λ (x : ℕ). step g left R x (drop (a .i + 1) (a .b .now)) place at s) (c .before .before .before .before .before .match .keys7)) (c .before .before .apply7 .ensures _ _ _ (c .before .before .before .before .szx .ensures) place at)
+
+same-length-8 : tie.Need-same-length-8
+same-length-8 c = search needs
+
+returns-8 : tie.Need-returns-8
+returns-8 c =
+    let a = c .before .before .before .before .before .before .before .before .before .args in
+    λ g left R place at. turns-as (λ s. step-colour g left R _ (drop (a .i + 1) (a .b .now)) place at s (c .before .before .before .before .before .match .keys8)) (c .before .before .apply8 .ensures _ _ _ (c .before .before .before .before .colour .ensures) place at)
+
+same-length-9 : tie.Need-same-length-9
+same-length-9 c = search needs
+
+returns-9 : tie.Need-returns-9
+unfolding step control1 isGL isGR
+returns-9 c =
+    let a = c .before .before .before .before .before .before .before .before .before .args in
+    λ g left R place at.
+    turns-as (λ s. ap (λ (x : ℕ). step g left R x (drop (a .i + 1) (a .b .now)) place at s) (c .before .before .before .before .before .match .keys9)) (c .before .before .apply9 .ensures _ _ _ (c .before .before .before .before .csi .ensures) place at)
+
+same-length-10 : tie.Need-same-length-10
+same-length-10 c = search needs
+
+returns-10 : tie.Need-returns-10
+unfolding step control1 isGL isGR
+returns-10 c =
+    let a = c .before .before .before .before .before .before .before .before .before .args in
+    λ g left R place at.
+    turns-as (λ s. ap (λ (x : ℕ). step g left R x (drop (a .i + 1) (a .b .now)) place at s) (c .before .before .before .before .before .match .keys10)) (c .before .before .apply10 .ensures _ _ _ (c .before .before .before .before .time .ensures) place at)
+
+returns-11 : tie.Need-returns-11
+returns-11 c = λ g left R place at. turns-none (c .before .before .before .before .pre .1) (c .before .before .before .before .pre .0)
+
+returns-12 : tie.Need-returns-12
+returns-12 c = λ g left R place at. turns-none (c .before .before .before .before .before .before .pre .1) (c .before .before .before .before .before .before .pre .0)
+
+returns-13 : tie.Need-returns-13
+returns-13 c =
     let a = c .before .before .before .before .before .before .before .before .args in
+    let inside = c .before .before .before .before .before .before .before .before .pre .0 in
     let x = getD (a .b .now) (a .i) 0 in
-    let came = c .before .before .before .before .match .came in
-    let n : isGL x ≡ false = ⊎-elim (λ w. gl-above x (omega (arith, w .keys1))) (λ w. gl-below x (w .1 .taken)) came in
-    let l : x < 0x80 = ⊎-elim (λ w. omega (arith, w .keys1)) (λ w. omega (arith, w .1 .taken)) came in
-    λ g left R place at. turns-as (λ s. step-0 g left R x (drop (a .i + 1) (a .b .now)) place at s n l) (c .before .before .control0 .ensures g left R place at)
+    let p : 0x80 ≤ x = omega (arith, c .before .if3 .left) in
+    let q : x ≤ 0x87 = omega (arith, c .if4 .taken) in
+    λ g left R place at.
+    turns-same (c .before .before .before .before .before .before .before .before .pre .1) (omega arith)
+    (λ s.
+    step-fixed g left R x (drop (a .i + 1) (a .b .now)) place at s (gl-above x (omega arith)) (gr-below x (omega arith))
+    (record { space = λ e. omega arith; ls0 = λ e. omega arith; ls1 = λ e. omega arith; ss2 = λ e. omega arith; ss3 = λ e. omega arith; esc = λ e. omega arith; newline = λ e. omega arith })
+    (record {
+      ssz = λ e. omega arith;
+      msz = λ e. omega arith;
+      nsz = λ e. omega arith;
+      szx = λ e. omega arith;
+      col = λ e. omega arith;
+      cdc = λ e. omega arith;
+      macro = λ e. omega arith;
+      rpc = λ e. omega arith;
+      csi = λ e. omega arith;
+      time = λ e. omega arith;
+    })
+    ∙ fixed-all (a .b .now) (a .i) at s inside 0 (colours x p q) (omega arith))
+
+returns-14 : tie.Need-returns-14
+returns-14 c = λ g left R place at. turns-none (c .before .before .before .before .before .before .before .before .before .before .pre .1) (c .before .before .before .before .before .before .before .before .before .before .pre .0)
+
+same-length-11 : tie.Need-same-length-11
+same-length-11 c = search needs
+
+returns-15 : tie.Need-returns-15
+returns-15 c =
+    let a = c .before .before .before .before .before .before .before .before .before .before .args in
+    let x = getD (a .b .now) (a .i) 0 in
+    let m = c .before .before .before .before .before .before .match .rest in
+    let came = c .before .before .before .before .before .if1 .came in
+    let l : isGL x ≡ false =
+      ⊎-elim (λ w. gl-below x (omega (arith, w .taken))) (⊎-elim (λ w. gl-above x (w .1 .left)) (⊎-elim (λ w. gl-above x (w .1 .left)) (λ w. gl-above x (w .1 .left)))) came in
+    let r : isGR x ≡ false =
+      ⊎-elim (λ w. gr-below x (omega (arith, w .taken))) (⊎-elim (λ w. gr-below x (omega (arith, w .2 .taken))) (⊎-elim (λ w. gr-below x (w .4 .taken)) (λ w. gr-above x (w .5 .left)))) came in
+    λ g left R place at.
+    turns-as
+    (λ s.
+    step-fixed g left R x (drop (a .i + 1) (a .b .now)) place at s l r
+    (record {
+      space = λ e. m .1 (inr (inr (inr (inl e))));
+      ls0 = m .0 .0 .0 .0 .0 .0 .0 .0 .0 .0 .1;
+      ls1 = m .0 .0 .0 .0 .0 .0 .0 .0 .0 .1;
+      ss2 = λ e. m .1 (inr (inl e));
+      ss3 = λ e. m .1 (inr (inr (inl e)));
+      esc = m .0 .0 .0 .0 .0 .0 .0 .0 .1;
+      newline = λ e. m .1 (inl e);
+    })
+    (record {
+      ssz = m .0 .0 .0 .0 .0 .0 .0 .1;
+      msz = m .0 .0 .0 .0 .0 .0 .1;
+      nsz = m .0 .0 .0 .0 .0 .1;
+      szx = m .0 .0 .0 .0 .1;
+      col = λ e. m .0 .0 .0 .1 (inl e);
+      cdc = λ e. m .0 .0 .0 .1 (inr e);
+      macro = λ e. m .1 (inr (inr (inr (inr (inl e)))));
+      rpc = λ e. m .1 (inr (inr (inr (inr (inr e)))));
+      csi = m .0 .0 .1;
+      time = m .0 .1;
+    }))
+    (c .before .before .apply11 .ensures _ _ _ (c .before .before .before .before .fixed .ensures) place at)
 
 pub control-spec : {M : Type 1} → statement M
 control-spec =
     tie.close
     (tie.spec
     shared-slice-read-match
-    control1-requires
-    control0-requires
-    returns
-    returns-2
+    invoke-requires
+    apply-requires
+    invoke-requires-2
+    apply-requires-2
+    escape-requires
+    apply-requires-3
+    size-requires
+    apply-requires-4
+    size-requires-2
+    apply-requires-5
+    size-requires-3
+    apply-requires-6
+    szx-requires
+    apply-requires-7
+    colour-requires
+    apply-requires-8
+    csi-requires
+    apply-requires-9
+    time-requires
+    apply-requires-10
+    fixed-requires
+    apply-requires-11
     same-length
-    returns-3
+    returns
     same-length-2
-    returns-4)
+    returns-2
+    same-length-3
+    returns-3
+    same-length-4
+    returns-4
+    same-length-5
+    returns-5
+    same-length-6
+    returns-6
+    same-length-7
+    returns-7
+    same-length-8
+    returns-8
+    same-length-9
+    returns-9
+    same-length-10
+    returns-10
+    returns-11
+    returns-12
+    returns-13
+    returns-14
+    same-length-11
+    returns-15)
