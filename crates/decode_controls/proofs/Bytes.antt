@@ -1,10 +1,11 @@
 -- A step by its first byte. Assumes nothing.
 use Prim.Native.Nat.{ℕ, _≤_, _<_}
 use mathlib.Core.Path.{_≡_, ap}
-use mathlib.Core.Bool.{true, false}
+use mathlib.Core.Bool.{Bool, true, false, cond}
 use mathlib.Core.Logic.{_⊎_, inl, inr}
 use mathlib.Core.List.{List}
 use native.Mathlib.Omega.{arith}
+use lib.Dec.{ltb}
 use borrow.Author.Tests.{ne-eqb, le-leb, lt-leb, lt-ltb, le-ltb}
 use Rattle.reading.specs.State.{Given, State}
 use Rattle.reading.specs.Characters.{isGL, isGR}
@@ -96,3 +97,17 @@ module _ (g : Given) (left : ℕ) (R : Run) (x : ℕ) (rest : List ℕ) (place a
         ne-eqb x 0x9B (p .csi),
         ne-eqb x 0x95 (p .macro),
       )
+
+  -- a code in neither half that has no step of its own
+  pub step-fixed : isGL x ≡ false → isGR x ≡ false → Plain0 x → Plain1 x → step g left R x rest place at s ≡ fixed x rest at s
+  unfolding step
+  step-fixed l r p q = rw (l, r) (go (ltb x 0x80))
+    where
+      go : (u : Bool) → cond u (control0 g left R x rest place at s) (control1 g left R x rest place at s) ≡ fixed x rest at s
+      go true = control0-fixed p
+      go false = control1-fixed q
+
+  pub step-colour : (x ≡ 0x90) ⊎ (x ≡ 0x92) → step g left R x rest place at s ≡ colour rest at s
+  unfolding step control1 isGL isGR
+  step-colour (inl e) = ap (λ (y : ℕ). step g left R y rest place at s) e
+  step-colour (inr e) = ap (λ (y : ℕ). step g left R y rest place at s) e

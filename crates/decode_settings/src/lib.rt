@@ -3,8 +3,8 @@
 // takes the step at the byte `b[i]` and answers how many bytes it used, or 0 where it leaves the step to `decode_steps`:
 // one that is cut, that reports, or that makes a character wait.
 //
-// The codes are told apart here as in `decode_controls::read`: called from two places, it would not be part of this loop,
-// which is the innermost one.
+// The codes are told apart here as `decode_controls::read` does: called from two places it would be compiled apart from
+// this loop, which is the innermost one.
 use control::APR;
 use control::BKF;
 use control::CDC;
@@ -33,7 +33,7 @@ ghost use Prim.Native.Nat.{ℕ, _+_, _≤_, _<_};
 ghost use lib.ListN.{length, drop, getD, set};
 ghost use Rattle.reading.specs.State.{Given, State, Step};
 ghost use Rattle.reading.specs.Macros.{Run};
-ghost use Rattle.reading.specs.Steps.{step, control0, control1};
+ghost use Rattle.reading.specs.Steps.{step};
 ghost use Rattle.decode_controls.specs.Controls.{elementOf, Reads};
 ghost use Rattle.decode_settings.specs.Contracts.{Settings, Turns, Controls};
 
@@ -69,42 +69,7 @@ fn apply(c: Control, settings: &mut [u8]) -> usize
     }
 }
 
-/// A code below 08/0 outside GL. SP and APR write, and single shifts read a character.
-fn control0(b: &[u8], i: usize, settings: &mut [u8]) -> usize
-    requires { ⌜ (i < length (now b)) × Settings (now settings) ⌝ }
-    ensures { λ r. ⌜ ((g : Given) (left : ℕ) (R : Run) (place at : ℕ) → Turns (control0 g left R (getD (now (b .entry)) i 0) (drop (i + 1) (now (b .entry))) place at)
-        (now (b .entry)) i (now (settings .entry)) r (now (settings .exit))) ⌝ }
-{
-    match b[i] {
-        LS0 => apply(decode_controls::invoke(0), settings),
-        LS1 => apply(decode_controls::invoke(1), settings),
-        ESC => apply(decode_controls::escape(b, i), settings),
-        SP | APR | SS2 | SS3 => 0,
-        _ => apply(decode_controls::fixed(b, i), settings),
-    }
-}
-
-/// A code from 08/0 on outside GR. RPC makes a character wait.
-fn control1(b: &[u8], i: usize, settings: &mut [u8]) -> usize
-    requires { ⌜ (i < length (now b)) × Settings (now settings) ⌝ }
-    ensures { λ r. ⌜ ((g : Given) (left : ℕ) (R : Run) (place at : ℕ) → Turns (control1 g left R (getD (now (b .entry)) i 0) (drop (i + 1) (now (b .entry))) place at)
-        (now (b .entry)) i (now (settings .entry)) r (now (settings .exit))) ⌝ }
-{
-    match b[i] {
-        BKF..=WHF => 1,
-        SSZ => apply(decode_controls::size(CharSize::Small), settings),
-        MSZ => apply(decode_controls::size(CharSize::Middle), settings),
-        NSZ => apply(decode_controls::size(CharSize::Normal), settings),
-        SZX => apply(decode_controls::szx(b, i), settings),
-        COL | CDC => apply(decode_controls::colour(b, i), settings),
-        CSI => apply(decode_controls::csi(b, i), settings),
-        TIME => apply(decode_controls::time(b, i), settings),
-        RPC | MACRO => 0,
-        _ => apply(decode_controls::fixed(b, i), settings),
-    }
-}
-
-/// One control.
+/// One control. Characters, SP and APR write, single shifts read a character, and RPC makes one wait.
 fn control(b: &[u8], i: usize, settings: &mut [u8]) -> usize
     requires { ⌜ (i < length (now b)) × Settings (now settings) ⌝ }
     ensures { λ r. ⌜ ((g : Given) (left : ℕ) (R : Run) (place at : ℕ) → Turns (step g left R (getD (now (b .entry)) i 0) (drop (i + 1) (now (b .entry))) place at)
@@ -113,8 +78,19 @@ fn control(b: &[u8], i: usize, settings: &mut [u8]) -> usize
     match b[i] {
         0x21..=0x7E => 0,
         0xA1..=0xFE => 0,
-        0x00..=0x7F => control0(b, i, settings),
-        _ => control1(b, i, settings),
+        BKF..=WHF => 1,
+        LS0 => apply(decode_controls::invoke(0), settings),
+        LS1 => apply(decode_controls::invoke(1), settings),
+        ESC => apply(decode_controls::escape(b, i), settings),
+        SSZ => apply(decode_controls::size(CharSize::Small), settings),
+        MSZ => apply(decode_controls::size(CharSize::Middle), settings),
+        NSZ => apply(decode_controls::size(CharSize::Normal), settings),
+        SZX => apply(decode_controls::szx(b, i), settings),
+        COL | CDC => apply(decode_controls::colour(b, i), settings),
+        CSI => apply(decode_controls::csi(b, i), settings),
+        TIME => apply(decode_controls::time(b, i), settings),
+        SP | APR | SS2 | SS3 | RPC | MACRO => 0,
+        _ => apply(decode_controls::fixed(b, i), settings),
     }
 }
 

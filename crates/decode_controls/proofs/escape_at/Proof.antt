@@ -109,7 +109,8 @@ returns-3 c =
 
 returns-4 : tie.Need-returns-4
 returns-4 c =
-    let at-match = c .before .before .before .before .before in
+    let at-place-2 = c .before .before .before .before .before in
+    let at-match = at-place-2 in
     let at-place = at-match .before .before in
     let start = at-place in
     let b = start .args .b .now in
