@@ -6,7 +6,7 @@ use native.Mathlib.Omega.{arith}
 use lib.ListN.{length}
 use Rattle.reading.specs.Macros.{limit}
 use Rattle.decode_state.specs.declared.Core.{Core}
-use Rattle.decode_state.specs.Contracts.{Good, Kept}
+use Rattle.decode_state.specs.Contracts.{MayTake, Kept}
 use Rattle.decode_state.proofs.Lift.{withCharged}
 use Rattle.decode_bodies.specs.declared.Place.{Place}
 use Rattle.decode_bodies.specs.Contracts.{Ready, Opens, Grown}
@@ -16,7 +16,7 @@ unfolding limit
 limit-is input = omega arith
 
 -- room for the bytes alone
-pub ready-good : {n e : ℕ} {c : Core} → Ready n e c → Good e c
+pub ready-good : {n e : ℕ} {c : Core} → Ready n e c → MayTake e c
 ready-good h = record {
   gl = h .gl;
   gr = h .gr;

@@ -14,7 +14,7 @@ ghost use lib.ListN.{length, drop, getD};
 ghost use Rattle.reading.specs.Macros.{Run, runMacro, runBody, macroCmd};
 ghost use Rattle.reading.specs.Characters.{graphic, char1};
 ghost use Rattle.reading.specs.Steps.{run};
-ghost use Rattle.decode_state.specs.Contracts.{whole, Good, TookOver};
+ghost use Rattle.decode_state.specs.Contracts.{whole, MayTake, TookOver};
 ghost use Rattle.decode_steps.specs.Contracts.{StopAt};
 ghost use Rattle.decode_bodies.specs.Contracts.{below, Body, Opens, Ran, RanStep, stepIn};
 
@@ -168,7 +168,7 @@ pub fn graphic<'a>(
 fn macro_cmd(b: &[u8], i: usize, at: u32, s: Core, issues: &mut [u32]) -> Stepped
     requires { ⌜ (i < length (now b)) × (getD (now b) i 0 ≡ 0x95) ⌝ }
     requires { ⌜ Body (now b) ⌝ }
-    requires { ⌜ Good 1 s ⌝ }
+    requires { ⌜ MayTake 1 s ⌝ }
     ensures { λ r. ⌜ ((left : ℕ) (R : Run) (place : ℕ) (cells t : List ℕ) → TookOver cells (now (b .entry)) i (λ g. macroCmd g left R (drop (i + 1) (now (b .entry))) place at)
         s t (now (issues .entry)) r t (now (issues .exit))) ⌝ }
 {

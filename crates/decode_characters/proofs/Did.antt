@@ -11,12 +11,12 @@ use Rattle.reading.specs.State.{Given, State, Step, took, writes}
 use Rattle.decode_state.specs.declared.Core.{Core}
 use Rattle.decode_state.specs.declared.Decoder.{Decoder}
 use Rattle.decode_state.specs.declared.Stepped.{Stepped}
-use Rattle.decode_state.specs.Contracts.{whole, Holds, Good, TookOver}
+use Rattle.decode_state.specs.Contracts.{whole, Holds, MayTake, TookOver}
 use Rattle.decode_state.proofs.Lift.{withOut, holds-writes}
 use Rattle.decode_characters.specs.Contracts.{Did}
 
 -- from what a function of `decode_output` writes
-pub did-writes : {n k : ℕ} {f : Output → Output} {s : Core} {t i : List ℕ} {o : Out} {t′ i′ : List ℕ} (cells : List ℕ) → n ≤ 1 → k ≤ 1 → Good 1 s
+pub did-writes : {n k : ℕ} {f : Output → Output} {s : Core} {t i : List ℕ} {o : Out} {t′ i′ : List ℕ} (cells : List ℕ) → n ≤ 1 → k ≤ 1 → MayTake 1 s
     → output.Wrote n k f (s .out) t i o t′ i′ → Did cells (λ g. writes f) s t i (withOut s o) t′ i′
 did-writes {f = f} {s} {t} {i} {o} {t′} {i′} cells a b h w =
     let p = w .grew in

@@ -9,12 +9,12 @@ ghost use Rattle.tables.specs.Kanji.{cellOf};
 ghost use Rattle.decode_output.specs.Output.{emit, mark};
 ghost use Rattle.reading.specs.State.{issue, placeholder, writes};
 ghost use Rattle.reading.specs.Characters.{emitOr, cellOr, mosaic};
-ghost use Rattle.decode_state.specs.Contracts.{Good};
+ghost use Rattle.decode_state.specs.Contracts.{MayTake};
 ghost use Rattle.decode_characters.specs.Contracts.{Did};
 
 /// An issue.
 pub fn report(at: u32, kind: IssueKind, s: Core, issues: &mut [u32]) -> Core
-    requires { ⌜ Good 1 s ⌝ }
+    requires { ⌜ MayTake 1 s ⌝ }
     ensures { λ r. ⌜ ((cells t : List ℕ) → Did cells (λ g. issue at kind) s t (now (issues .entry)) r t (now (issues .exit))) ⌝ }
 {
     let out = s.out;
@@ -32,7 +32,7 @@ pub fn report_placeholder(
     text: &mut [u8],
     issues: &mut [u32],
 ) -> Core
-    requires { ⌜ Good 1 s ⌝ }
+    requires { ⌜ MayTake 1 s ⌝ }
     ensures { λ r. ⌜ ((cells : List ℕ) → Did cells (λ g. placeholder at kind) s (now (text .entry)) (now (issues .entry)) r (now (text .exit)) (now (issues .exit))) ⌝ }
 {
     let out = s.out;
@@ -45,7 +45,7 @@ pub fn report_placeholder(
 
 /// A character.
 fn show(c: u32, s: Core, text: &mut [u8]) -> Core
-    requires { ⌜ Good 1 s ⌝ }
+    requires { ⌜ MayTake 1 s ⌝ }
     ensures { λ r. ⌜ ((cells i : List ℕ) → Did cells (λ g. writes (emit c)) s (now (text .entry)) i r (now (text .exit)) i) ⌝ }
 {
     let out = s.out;
@@ -57,7 +57,7 @@ fn show(c: u32, s: Core, text: &mut [u8]) -> Core
 
 /// A mark waits for its base. 7.1.1.4.
 fn wait(c: u32, at: u32, s: Core, text: &mut [u8]) -> Core
-    requires { ⌜ Good 1 s ⌝ }
+    requires { ⌜ MayTake 1 s ⌝ }
     ensures { λ r. ⌜ ((cells i : List ℕ) → Did cells (λ g. writes (mark c at)) s (now (text .entry)) i r (now (text .exit)) i) ⌝ }
 {
     let out = s.out;
@@ -69,7 +69,7 @@ fn wait(c: u32, at: u32, s: Core, text: &mut [u8]) -> Core
 
 /// A mosaic character: nothing is written, and a waiting repeat is gone. Table 7-8.
 pub fn report_mosaic(set: u8, c: u8, at: u32, s: Core, issues: &mut [u32]) -> Core
-    requires { ⌜ Good 1 s ⌝ }
+    requires { ⌜ MayTake 1 s ⌝ }
     ensures { λ r. ⌜ ((cells t : List ℕ) → Did cells (λ g. mosaic set c at) s t (now (issues .entry)) r t (now (issues .exit))) ⌝ }
 {
     let out = s.out;
@@ -94,7 +94,7 @@ pub fn emit_or(
     text: &mut [u8],
     issues: &mut [u32],
 ) -> Core
-    requires { ⌜ Good 1 s ⌝ }
+    requires { ⌜ MayTake 1 s ⌝ }
     ensures { λ r. ⌜ ((cells : List ℕ) → Did cells (λ g. emitOr kind c at) s (now (text .entry)) (now (issues .entry)) r (now (text .exit)) (now (issues .exit))) ⌝ }
 {
     if c == 0 {
@@ -112,7 +112,7 @@ pub fn cell_or(
     text: &mut [u8],
     issues: &mut [u32],
 ) -> Core
-    requires { ⌜ Good 1 s ⌝ }
+    requires { ⌜ MayTake 1 s ⌝ }
     ensures { λ r. ⌜ ((cells : List ℕ) (x : ℕ) → cell ≡ cellOf x → Did cells (λ g. cellOr kind x at) s (now (text .entry)) (now (issues .entry)) r (now (text .exit))
         (now (issues .exit))) ⌝ }
 {

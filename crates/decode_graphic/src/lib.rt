@@ -11,7 +11,7 @@ ghost use lib.ListN.{length, drop, getD};
 ghost use Rattle.reading.specs.State.{truncated};
 ghost use Rattle.reading.specs.Macros.{Run};
 ghost use Rattle.reading.specs.Characters.{isGraphic, char1, char2, graphic2, graphicOf, singleShift};
-ghost use Rattle.decode_state.specs.Contracts.{Good, TookOver};
+ghost use Rattle.decode_state.specs.Contracts.{MayTake, TookOver};
 ghost use Rattle.decode_characters.specs.Contracts.{Did};
 
 /// A code of a two-byte set.
@@ -23,7 +23,7 @@ struct Code2 {
 
 /// A character of a two-byte set.
 fn char2(cells: &[u16], c: Code2, at: u32, s: Core, text: &mut [u8], issues: &mut [u32]) -> Core
-    requires { ⌜ Good 1 s ⌝ }
+    requires { ⌜ MayTake 1 s ⌝ }
     requires { ⌜ (0x21 ≤ c .a) × (c .a ≤ 0x7E) × (0x21 ≤ c .b) × (c .b ≤ 0x7E) ⌝ }
     ensures { λ r. ⌜ Did (now (cells .entry)) (λ g. char2 g (c .set) (c .a) (c .b) at) s (now (text .entry)) (now (issues .entry)) r (now (text .exit)) (now (issues .exit)) ⌝ }
 {
@@ -34,7 +34,7 @@ fn char2(cells: &[u16], c: Code2, at: u32, s: Core, text: &mut [u8], issues: &mu
 
 /// A character of a one-byte set.
 fn char1(set: u8, c: u8, at: u32, s: Core, text: &mut [u8], issues: &mut [u32]) -> Core
-    requires { ⌜ Good 1 s ⌝ }
+    requires { ⌜ MayTake 1 s ⌝ }
     requires { ⌜ (c < 128) × (set ≡ 15 → ⊥) ⌝ }
     ensures { λ r. ⌜ ((cells : List ℕ) (left : ℕ) (R : Run) → Did cells (λ g. char1 g left R set c at) s (now (text .entry)) (now (issues .entry)) r (now (text .exit))
         (now (issues .exit))) ⌝ }
@@ -70,7 +70,7 @@ fn char1(set: u8, c: u8, at: u32, s: Core, text: &mut [u8], issues: &mut [u32]) 
 
 /// Truncated, and one byte is used.
 fn truncated(at: u32, s: Core, issues: &mut [u32]) -> Stepped
-    requires { ⌜ Good 1 s ⌝ }
+    requires { ⌜ MayTake 1 s ⌝ }
     ensures { λ r. ⌜ ((cells b t : List ℕ) (i : ℕ) → i < length b → TookOver cells b i (λ g. truncated 1 at) s t (now (issues .entry)) r t (now (issues .exit))) ⌝ }
 {
     let r = decode_characters::report(at, IssueKind::Truncated, s, issues);
@@ -88,7 +88,7 @@ fn graphic2(
     text: &mut [u8],
     issues: &mut [u32],
 ) -> Stepped
-    requires { ⌜ Good 1 s ⌝ }
+    requires { ⌜ MayTake 1 s ⌝ }
     requires { ⌜ (i < length (now b)) × (isGraphic (getD (now b) i 0) ≡ true) ⌝ }
     ensures { λ r. ⌜ TookOver (now (cells .entry)) (now (b .entry)) i (λ g. graphic2 g set (getD (now (b .entry)) i 0) (drop (i + 1) (now (b .entry))) at) s
         (now (text .entry)) (now (issues .entry)) r (now (text .exit)) (now (issues .exit)) ⌝ }
@@ -121,7 +121,7 @@ pub fn graphic(
     text: &mut [u8],
     issues: &mut [u32],
 ) -> Stepped
-    requires { ⌜ Good 1 s ⌝ }
+    requires { ⌜ MayTake 1 s ⌝ }
     requires { ⌜ (i < length (now b)) × (isGraphic (getD (now b) i 0) ≡ true) × (set ≡ 15 → ⊥) ⌝ }
     ensures { λ r. ⌜ ((left : ℕ) (R : Run) → TookOver (now (cells .entry)) (now (b .entry)) i
         (λ g. graphicOf g left R set (getD (now (b .entry)) i 0) (drop (i + 1) (now (b .entry))) at) s (now (text .entry)) (now (issues .entry)) r (now (text .exit))
@@ -145,7 +145,7 @@ pub fn single_shift(
     text: &mut [u8],
     issues: &mut [u32],
 ) -> Stepped
-    requires { ⌜ Good 1 s ⌝ }
+    requires { ⌜ MayTake 1 s ⌝ }
     requires { ⌜ (i < length (now b)) × (element < 4) × (i + 1 < length (now b) → isGraphic (getD (now b) (i + 1) 0) ≡ true → getD (s .sets) element 0 ≡ 15 → ⊥) ⌝ }
     ensures { λ r. ⌜ ((left : ℕ) (R : Run) → TookOver (now (cells .entry)) (now (b .entry)) i (λ g. singleShift g left R element (drop (i + 1) (now (b .entry))) at) s
         (now (text .entry)) (now (issues .entry)) r (now (text .exit)) (now (issues .exit))) ⌝ }

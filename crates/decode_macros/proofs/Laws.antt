@@ -12,7 +12,7 @@ use lib.ListN.{length, take, drop, getD, replicate, length-append, length-drop, 
 use lib.Seq.{sets-eq, length-sets, length-take-le, take-append-seam, drop-append-seam, drop-cons}
 use Rattle.base.proofs.Table.{at}
 use Rattle.lent.specs.Put.{Put}
-use Rattle.sets.specs.Sets.{designation, Holds}
+use Rattle.sets.specs.Sets.{designation, HoldsBytes}
 use Rattle.sets.specs.declared.Sequence.{Sequence}
 use Rattle.issues.specs.declared.IssueKind.the-variants.{MalformedControl}
 use Rattle.reading.specs.State.{Given, State, took, issue, truncated}
@@ -23,10 +23,10 @@ use Rattle.decode_macros.specs.Contracts.{Built, Ended, Defined, Within}
 
 -- ---- the bytes of a sequence
 
-pub holds-fits : {q : Sequence} {xs : List ℕ} → Holds q xs → q .len ≤ length (q .bytes)
+pub holds-fits : {q : Sequence} {xs : List ℕ} → HoldsBytes q xs → q .len ≤ length (q .bytes)
 holds-fits {q} {xs} h = omega (arith, ap length (h .filled), length-append xs (replicate (5 - length xs) 0), h .counted)
 
-pub holds-take : {q : Sequence} {s set : ℕ} (n : ℕ) → Holds q (designation s n) → s ≡ set → take (q .len) (q .bytes) ≡ designation set n
+pub holds-take : {q : Sequence} {s set : ℕ} (n : ℕ) → HoldsBytes q (designation s n) → s ≡ set → take (q .len) (q .bytes) ≡ designation set n
 holds-take {q} {s} {set} n h e = rw (h .filled, h .counted, e) (take-append-seam (designation set n) _)
 
 -- ---- the built-in bodies, computed over Table 7-18

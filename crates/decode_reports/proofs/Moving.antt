@@ -15,7 +15,7 @@ use Rattle.reading.specs.State.{Given, State, Step, took, issue, writes, design
 use Rattle.reading.specs.Controls.{repeatBy}
 use Rattle.decode_state.specs.declared.Core.{Core}
 use Rattle.decode_state.specs.declared.Stepped.{Stepped}
-use Rattle.decode_state.specs.Contracts.{whole, Holds, Moves, Good, Took}
+use Rattle.decode_state.specs.Contracts.{whole, Holds, Moves, MayTake, Took}
 use Rattle.decode_state.proofs.Lift.{withSets, withGL, withGR, withNarrow, withOut, holds-writes, holds-gl, holds-gr, holds-narrow, holds-sets}
 use Rattle.decode_controls.specs.declared.Effect.{Effect}
 use Rattle.decode_controls.specs.Controls.{stepOf}
@@ -31,7 +31,7 @@ grew-none : (o : Out) → output.Room 1 1 o → output.Grew 1 1 o o
 grew-none o k = record { ordered = k .ordered; repeat = k .repeat; text = omega arith; issues = omega arith }
 
 -- an issue
-pub reported : (c : Core) (at : ℕ) (kind : IssueKind) (o : Out) (t i i′ : List ℕ) → Good 1 c → output.Wrote 0 1 (report at kind) (c .out) t i o t i′ → Reported at kind c t i (withOut c o) i′
+pub reported : (c : Core) (at : ℕ) (kind : IssueKind) (o : Out) (t i i′ : List ℕ) → MayTake 1 c → output.Wrote 0 1 (report at kind) (c .out) t i o t i′ → Reported at kind c t i (withOut c o) i′
 unfolding issue
 reported c at kind o t i i′ k w =
     record {
@@ -50,7 +50,7 @@ pub moved-issue : {at : ℕ} {kind : IssueKind} {c : Core} {t i : List ℕ} {r :
     Moved n (λ s. took n (issue at kind s)) c t i (stepped n r) t i′
 moved-issue n w = record { moves = λ g. record { does = w .does g; used = λ starts lens t₀ i₀ s h. refl }; used = refl; kept = w .kept }
 
-module _ (c : Core) (t i : List ℕ) (k : Good 1 c) where
+module _ (c : Core) (t i : List ℕ) (k : MayTake 1 c) where
   -- nothing but the bytes is used
   pub moved-same : (n : ℕ) → Moved n (λ s. took n s) c t i (stepped n c) t i
   moved-same n =
@@ -148,7 +148,7 @@ repeat-some zero at s h = absurd (h refl)
 repeat-some (suc n) at s h = refl
 
 -- 0: the issue, and no repeat waits
-pub moved-line : {at : ℕ} {c : Core} {t i : List ℕ} {r : Core} {i′ : List ℕ} (u : ℕ) → Good 1 c → Reported at RepeatToEndOfLine c t i r i′
+pub moved-line : {at : ℕ} {c : Core} {t i : List ℕ} {r : Core} {i′ : List ℕ} (u : ℕ) → MayTake 1 c → Reported at RepeatToEndOfLine c t i r i′
     → Moved u (λ s. took u (repeatBy 0 at s)) c t i (stepped u (withRepeat r 0)) t i′
 unfolding repeatBy
 moved-line {at} {c} {t} {i} {r} {i′} u k w =

@@ -11,13 +11,13 @@ ghost use Rattle.reading.specs.State.{Given, took, truncated, issue};
 ghost use Rattle.reading.specs.Macros.{Run};
 ghost use Rattle.reading.specs.Controls.{repeatBy};
 ghost use Rattle.reading.specs.Steps.{step};
-ghost use Rattle.decode_state.specs.Contracts.{Good, Took};
+ghost use Rattle.decode_state.specs.Contracts.{MayTake, Took};
 ghost use Rattle.decode_controls.specs.Controls.{Begins, Bounded, stepOf};
 ghost use Rattle.decode_reports.specs.Contracts.{Reported, Moved};
 
 /// Reports an issue at `at`.
 pub fn issue(s: Core, at: u32, kind: IssueKind, issues: &mut [u32]) -> Core
-    requires { ⌜ Good 1 s ⌝ }
+    requires { ⌜ MayTake 1 s ⌝ }
     ensures { λ r. ⌜ ((t : List ℕ) → Reported at kind s t (now (issues .entry)) r (now (issues .exit))) ⌝ }
 {
     let out = s.out;
@@ -29,7 +29,7 @@ pub fn issue(s: Core, at: u32, kind: IssueKind, issues: &mut [u32]) -> Core
 
 /// A step of `used` bytes that reports an issue and does nothing else.
 fn report(s: Core, at: u32, kind: IssueKind, used: usize, issues: &mut [u32]) -> Stepped
-    requires { ⌜ Good 1 s ⌝ }
+    requires { ⌜ MayTake 1 s ⌝ }
     ensures { λ r. ⌜ ((t : List ℕ) → Moved used (λ σ. took used (issue at kind σ)) s t (now (issues .entry)) r t (now (issues .exit))) ⌝ }
 {
     let core = issue(s, at, kind, issues);
@@ -39,7 +39,7 @@ fn report(s: Core, at: u32, kind: IssueKind, used: usize, issues: &mut [u32]) ->
 /// The body ended inside a code: all that is left of it is used.
 pub fn truncated(b: &[u8], i: usize, at: u32, s: Core, issues: &mut [u32]) -> Stepped
     requires { ⌜ i < length (now b) ⌝ }
-    requires { ⌜ Good 1 s ⌝ }
+    requires { ⌜ MayTake 1 s ⌝ }
     ensures { λ r. ⌜ ((t : List ℕ) → Took (now (b .entry)) i (truncated (length (now (b .entry)) - i) at) s t (now (issues .entry)) r t (now (issues .exit))) ⌝ }
 {
     report(s, at, IssueKind::Truncated, b.len() - i, issues)
@@ -48,7 +48,7 @@ pub fn truncated(b: &[u8], i: usize, at: u32, s: Core, issues: &mut [u32]) -> St
 /// RPC's count waits; 0 is reported, and then none does.
 fn repeat(s: Core, n: u8, at: u32, used: usize, issues: &mut [u32]) -> Stepped
     requires { ⌜ n < 64 ⌝ }
-    requires { ⌜ Good 1 s ⌝ }
+    requires { ⌜ MayTake 1 s ⌝ }
     ensures { λ r. ⌜ ((t : List ℕ) → Moved used (λ σ. took used (repeatBy n at σ)) s t (now (issues .entry)) r t (now (issues .exit))) ⌝ }
 {
     if n == 0 {
@@ -65,7 +65,7 @@ fn repeat(s: Core, n: u8, at: u32, used: usize, issues: &mut [u32]) -> Stepped
 /// An effect, for a step of `used` bytes from the place `start` of the input.
 fn apply(effect: Effect, used: usize, start: u32, at: u32, s: Core, issues: &mut [u32]) -> Stepped
     requires { ⌜ Bounded effect × (used ≤ 65535) ⌝ }
-    requires { ⌜ Good 1 s ⌝ }
+    requires { ⌜ MayTake 1 s ⌝ }
     ensures { λ r. ⌜ ((t : List ℕ) → Moved used (stepOf effect used start at) s t (now (issues .entry)) r t (now (issues .exit))) ⌝ }
 {
     let mut core = s;
@@ -108,7 +108,7 @@ fn apply(effect: Effect, used: usize, start: u32, at: u32, s: Core, issues: &mut
 /// The step of the control at the byte `i`, which stands at a place of the input.
 pub fn control(b: &[u8], i: usize, place: u32, at: u32, s: Core, issues: &mut [u32]) -> Stepped
     requires { ⌜ (i < length (now b)) × (length (now b) ≤ 65535) × Begins (getD (now b) i 0) ⌝ }
-    requires { ⌜ Good 1 s ⌝ }
+    requires { ⌜ MayTake 1 s ⌝ }
     ensures { λ r. ⌜ ((g : Given) (left : ℕ) (R : Run) (t : List ℕ) →
         Took (now (b .entry)) i (step g left R (getD (now (b .entry)) i 0) (drop (i + 1) (now (b .entry))) place at) s t (now (issues .entry)) r t (now (issues .exit))) ⌝ }
 {

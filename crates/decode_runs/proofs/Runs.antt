@@ -14,7 +14,7 @@ use Rattle.decode_output.proofs.Held.{held-repeat, marks-none, holds-plain}
 use Rattle.reading.specs.State.{Given, State, Step, writes, isNarrow}
 use Rattle.reading.specs.Steps.{steps, offset}
 use Rattle.decode_state.specs.declared.Core.{Core}
-use Rattle.decode_state.specs.Contracts.{whole, Holds, Goes, Good, Stretch}
+use Rattle.decode_state.specs.Contracts.{whole, Holds, Goes, MayTake, Stretch}
 use Rattle.decode_state.proofs.Lift.{holds-writes}
 use Rattle.decode_state.proofs.Steps.{goes-none, goes-on, goes-step}
 use Rattle.decode_settings.specs.Contracts.{withSettings, Settings, Controls}
@@ -98,7 +98,7 @@ module _ {cells b : List ℕ} {j to : ℕ} {v : Invoked} {n : ℕ} {t : List ℕ
       }
 
 -- no step
-pub stretch-none : {cells b : List ℕ} {j : ℕ} {c : Core} {t i : List ℕ} (base origin : ℕ) → j ≤ length b → Good (length b - j) c → Stretch cells base origin b j c t i j c t i
+pub stretch-none : {cells b : List ℕ} {j : ℕ} {c : Core} {t i : List ℕ} (base origin : ℕ) → j ≤ length b → MayTake (length b - j) c → Stretch cells base origin b j c t i j c t i
 stretch-none {b = b} {j} {c} {t} {i} base origin h p =
     let r = p .room in
     record {
@@ -215,7 +215,7 @@ module _ {cells b : List ℕ} {j to : ℕ} {annex : Bool} {l : List ℕ} {n : �
 
 -- the whole run
 pub stretch-runs : {cells b : List ℕ} {j : ℕ} {l : List ℕ} {n : ℕ} {c : Core} {t : List ℕ} {j₁ : ℕ} {l₁ : List ℕ} {n₁ : ℕ} {t₁ : List ℕ} {r : Core} (i : List ℕ) (base origin : ℕ)
-    → Good (length b - j) c → c ≡ coreAt l n c → r ≡ coreAt l₁ n₁ c → RunsTo cells b j (c .annex) l n t j₁ l₁ n₁ t₁ → Stretch cells base origin b j c t i j₁ r t₁ i
+    → MayTake (length b - j) c → c ≡ coreAt l n c → r ≡ coreAt l₁ n₁ c → RunsTo cells b j (c .annex) l n t j₁ l₁ n₁ t₁ → Stretch cells base origin b j c t i j₁ r t₁ i
 stretch-runs {cells} {b} {j} {l} {n} {c} {t} {j₁} {l₁} {n₁} {t₁} i base origin p e d w =
     let past = w .past in
     let most = w .most in

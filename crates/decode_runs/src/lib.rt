@@ -13,7 +13,7 @@ ghost use mathlib.Core.Bool.{true};
 ghost use Prim.Native.Nat.{ℕ, _+_, _-_, _*_, _≤_, _<_};
 ghost use mathlib.Core.List.{List};
 ghost use lib.ListN.{length};
-ghost use Rattle.decode_state.specs.Contracts.{Good, Stretch};
+ghost use Rattle.decode_state.specs.Contracts.{MayTake, Stretch};
 ghost use Rattle.decode_settings.specs.Contracts.{Settings};
 ghost use Rattle.decode_runs.specs.Contracts.{withText, Letters, coreAt, RunsTo, Begins};
 
@@ -216,7 +216,7 @@ fn with_settings(s: Core, settings: [u8; 7], len: usize) -> Core
 /// A run of characters and controls from the byte `from` on.
 pub fn letters(cells: &[u16], b: &[u8], from: usize, s: Core, text: &mut [u8]) -> Far
     requires { ⌜ (from ≤ length (now b)) × (length (now b) ≤ 65535) ⌝ }
-    requires { ⌜ Good (length (now b) - from) s ⌝ }
+    requires { ⌜ MayTake (length (now b) - from) s ⌝ }
     ensures { λ r. ⌜ ((base origin : ℕ) (i : List ℕ) → Stretch (now (cells .entry)) base origin (now (b .entry)) from s (now (text .entry)) i (r .at) (r .core) (now (text .exit)) i) ⌝ }
 {
     let out = s.out;

@@ -34,7 +34,7 @@ pub record Moves (g : Given) (f : State → Step) (c : Core) (t i : List ℕ) (u
   pub used : (starts lens t₀ i₀ : List ℕ) (s : State) → Holds g t₀ i₀ s (whole c starts lens) t i → u ≡ f s .used
 
 -- what a function is given that takes e bytes: the elements in GL and GR are of the four, and there is room
-pub record Good (e : ℕ) (c : Core) : Type 0 where
+pub record MayTake (e : ℕ) (c : Core) : Type 0 where
   pub gl : c .gl < 4
   pub gr : c .gr < 4
   pub room : output.Room e e (c .out)

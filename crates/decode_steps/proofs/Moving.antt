@@ -11,7 +11,7 @@ use Rattle.decode_output.specs.Contracts as output
 use Rattle.reading.specs.State.{Given, State, Step, took, writes}
 use Rattle.decode_state.specs.declared.Core.{Core}
 use Rattle.decode_state.specs.declared.Stepped.{Stepped}
-use Rattle.decode_state.specs.Contracts.{whole, Holds, Good, Took, TookOver}
+use Rattle.decode_state.specs.Contracts.{whole, Holds, MayTake, Took, TookOver}
 use Rattle.decode_state.proofs.Lift.{withOut, holds-writes}
 
 -- a step that concerns no cell
@@ -39,7 +39,7 @@ took-as {r = r} {t′} {i′} q m =
     }
 
 -- one byte is used, and something is written
-pub took-writes : {n k : ℕ} {f : Output → Output} {c : Core} {t i : List ℕ} {o : Out} {t′ i′ : List ℕ} (b : List ℕ) (j : ℕ) → n ≤ 1 → k ≤ 1 → j < length b → Good 1 c
+pub took-writes : {n k : ℕ} {f : Output → Output} {c : Core} {t i : List ℕ} {o : Out} {t′ i′ : List ℕ} (b : List ℕ) (j : ℕ) → n ≤ 1 → k ≤ 1 → j < length b → MayTake 1 c
     → output.Wrote n k f (c .out) t i o t′ i′ → Took b j (λ s. took 1 (writes f s)) c t i (record { used = 1; core = withOut c o }) t′ i′
 took-writes {f = f} {c} {t} {i} {o} {t′} {i′} b j p q l h w =
     let v = w .grew in

@@ -8,10 +8,10 @@ use Rattle.reading.specs.Macros.{Run}
 use Rattle.reading.specs.Steps.{step, offset}
 use Rattle.decode_state.specs.declared.Core.{Core}
 use Rattle.decode_state.specs.declared.Stepped.{Stepped}
-use Rattle.decode_state.specs.Contracts.{whole, Good, Kept, TookOver, Stretch}
+use Rattle.decode_state.specs.Contracts.{whole, MayTake, Kept, TookOver, Stretch}
 use Rattle.decode_state.proofs.Steps.{goes-none, goes-on, goes-step}
 
-pub good-after : {e k : ℕ} {c r : Core} → Good (k + e) c → Kept k c r → Good e r
+pub good-after : {e k : ℕ} {c r : Core} → MayTake (k + e) c → Kept k c r → MayTake e r
 good-after h w = record {
   gl = w .gl;
   gr = w .gr;
@@ -37,7 +37,7 @@ kept-on v w = record {
 }
 
 module _ (cells : List ℕ) (base origin : ℕ) (b : List ℕ) where
-  pub stretch-start : {e : ℕ} (j : ℕ) (c : Core) (t i : List ℕ) → j ≤ length b → Good e c → Stretch cells base origin b j c t i j c t i
+  pub stretch-start : {e : ℕ} (j : ℕ) (c : Core) (t i : List ℕ) → j ≤ length b → MayTake e c → Stretch cells base origin b j c t i j c t i
   stretch-start j c t i h k = record {
     past = omega arith;
     within = h;

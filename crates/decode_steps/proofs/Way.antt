@@ -10,7 +10,7 @@ use Rattle.decode_state.specs.declared.Core.{Core}
 use Rattle.decode_state.specs.declared.Stepped.{Stepped}
 use Rattle.decode_steps.specs.declared.Stop.{Stop}
 use Rattle.decode_steps.specs.declared.Stop.the-variants.{End, Macro, Char, Shifted}
-use Rattle.decode_state.specs.Contracts.{Good, TookOver, Stretch}
+use Rattle.decode_state.specs.Contracts.{MayTake, TookOver, Stretch}
 use Rattle.decode_steps.specs.Contracts.{Verdict, StopAt}
 use Rattle.decode_steps.proofs.Stretches.{good-after, stretch-start, stretch-on, stretch-step}
 
@@ -21,14 +21,14 @@ pub record Way (cells : List ℕ) (base origin : ℕ) (b : List ℕ) (j : ℕ) (
   pub issues : length i′ ≡ length i
 
 module _ {cells : List ℕ} {base origin : ℕ} {b : List ℕ} {j : ℕ} {c : Core} {t i : List ℕ} where
-  pub way-start : {e : ℕ} → j ≤ length b → Good e c → Way cells base origin b j c t i j c t i
+  pub way-start : {e : ℕ} → j ≤ length b → MayTake e c → Way cells base origin b j c t i j c t i
   way-start h k = record { stretch = stretch-start cells base origin b j c t i h k; text = refl; issues = refl }
 
   -- the room that is left for the rest of the body
-  pub way-good : {j₁ : ℕ} {c₁ : Core} {t₁ i₁ : List ℕ} → Way cells base origin b j c t i j₁ c₁ t₁ i₁ → Good (length b - j) c → Good (length b - j₁) c₁
+  pub way-good : {j₁ : ℕ} {c₁ : Core} {t₁ i₁ : List ℕ} → Way cells base origin b j c t i j₁ c₁ t₁ i₁ → MayTake (length b - j) c → MayTake (length b - j₁) c₁
   way-good {j₁} {c₁} w h =
       let e : length b - j ≡ (j₁ - j) + (length b - j₁) = omega (arith, w .stretch .past, w .stretch .within) in
-      good-after {e = length b - j₁} (subst (λ (n : ℕ). Good n c) e h) (w .stretch .kept)
+      good-after {e = length b - j₁} (subst (λ (n : ℕ). MayTake n c) e h) (w .stretch .kept)
 
   -- a run of letters
   pub way-on : {j₁ : ℕ} {c₁ : Core} {t₁ i₁ : List ℕ} {j₂ : ℕ} {c₂ : Core} {t₂ : List ℕ} → Way cells base origin b j c t i j₁ c₁ t₁ i₁
@@ -45,7 +45,7 @@ module _ {cells : List ℕ} {base origin : ℕ} {b : List ℕ} {j : ℕ} {c : Co
       record { stretch = stretch-on cells base origin b (w .stretch) (stretch-step cells base origin b r n l); text = e ∙ w .text; issues = q ∙ w .issues }
 
 -- room for the next byte
-pub good-next : {n : ℕ} {c : Core} → Good n c → 1 ≤ n → Good 1 c
+pub good-next : {n : ℕ} {c : Core} → MayTake n c → 1 ≤ n → MayTake 1 c
 good-next h k = record {
   gl = h .gl;
   gr = h .gr;

@@ -17,7 +17,7 @@ ghost use Rattle.reading.specs.Macros.{Run};
 ghost use Rattle.reading.specs.State.{took, writes};
 ghost use Rattle.reading.specs.Steps.{step, offset, space};
 ghost use Rattle.decode_output.specs.Output.{newline};
-ghost use Rattle.decode_state.specs.Contracts.{Good, TookOver};
+ghost use Rattle.decode_state.specs.Contracts.{MayTake, TookOver};
 ghost use Rattle.decode_steps.specs.Contracts.{CharOf, ShiftOf, Verdict, Passes, Plain};
 
 /// Where a run of steps that concern no macro stops. The specs speak of the code elements; without
@@ -101,7 +101,7 @@ fn stop_at(b: &[u8], i: usize, s: Core) -> Stop
 
 /// SP. Table 7-14, Annex E.4.
 fn space(s: Core, text: &mut [u8]) -> Stepped
-    requires { ⌜ Good 1 s ⌝ }
+    requires { ⌜ MayTake 1 s ⌝ }
     ensures { λ r. ⌜ ((cells b i₁ : List ℕ) (i : ℕ) → i < length b → TookOver cells b i (λ g s. took 1 (space g s)) s (now (text .entry)) i₁ r (now (text .exit)) i₁) ⌝ }
 {
     let c = if decode_codes::is_narrow(s.annex, s.narrow) {
@@ -117,7 +117,7 @@ fn space(s: Core, text: &mut [u8]) -> Stepped
 
 /// APR. Table 7-15.
 fn newline(s: Core, text: &mut [u8], issues: &mut [u32]) -> Stepped
-    requires { ⌜ Good 1 s ⌝ }
+    requires { ⌜ MayTake 1 s ⌝ }
     ensures { λ r. ⌜ ((cells b : List ℕ) (i : ℕ) → i < length b → TookOver cells b i (λ g s. took 1 (writes newline s)) s (now (text .entry)) (now (issues .entry)) r
         (now (text .exit)) (now (issues .exit))) ⌝ }
 {
@@ -139,7 +139,7 @@ fn graphic(
     issues: &mut [u32],
 ) -> Stepped
     requires { ⌜ (i < length (now b)) × (e < 4) × (isGraphic (getD (now b) i 0) ≡ true) × (getD (s .sets) e 0 ≡ 15 → ⊥) ⌝ }
-    requires { ⌜ Good 1 s ⌝ }
+    requires { ⌜ MayTake 1 s ⌝ }
     ensures { λ r. ⌜ ((left : ℕ) (R : Run) → TookOver (now (cells .entry)) (now (b .entry)) i
         (λ g. graphicOf g left R (getD (s .sets) e 0) (getD (now (b .entry)) i 0) (drop (i + 1) (now (b .entry))) at) s (now (text .entry)) (now (issues .entry)) r
         (now (text .exit)) (now (issues .exit))) ⌝ }
@@ -160,7 +160,7 @@ fn simple(
     issues: &mut [u32],
 ) -> Stepped
     requires { ⌜ (i < length (now b)) × (length (now b) ≤ 65535) ⌝ }
-    requires { ⌜ Good 1 s ⌝ }
+    requires { ⌜ MayTake 1 s ⌝ }
     requires { ⌜ Passes (now b) i s ⌝ }
     ensures { λ r. ⌜ ((left : ℕ) (R : Run) → TookOver (now (cells .entry)) (now (b .entry)) i
         (λ g. step g left R (getD (now (b .entry)) i 0) (drop (i + 1) (now (b .entry))) place at) s (now (text .entry)) (now (issues .entry)) r (now (text .exit))
@@ -190,7 +190,7 @@ pub fn steps(
     issues: &mut [u32],
 ) -> Stretched
     requires { ⌜ (from ≤ length (now b)) × (length (now b) ≤ 65535) × (base ≤ 65535) ⌝ }
-    requires { ⌜ Good (length (now b) - from) core ⌝ }
+    requires { ⌜ MayTake (length (now b) - from) core ⌝ }
     ensures { λ r. ⌜ Plain (now (cells .entry)) base origin (now (b .entry)) from core (now (text .entry)) (now (issues .entry)) r (now (text .exit)) (now (issues .exit)) ⌝ }
 {
     let mut s = core;
@@ -233,7 +233,7 @@ pub fn plain(
     issues: &mut [u32],
 ) -> Stretched
     requires { ⌜ (from ≤ length (now b)) × (length (now b) ≤ 65535) × (base ≤ 65535) ⌝ }
-    requires { ⌜ Good (length (now b) - from) core ⌝ }
+    requires { ⌜ MayTake (length (now b) - from) core ⌝ }
     ensures { λ r. ⌜ Plain (now (cells .entry)) base origin (now (b .entry)) from core (now (text .entry)) (now (issues .entry)) r (now (text .exit)) (now (issues .exit)) ⌝ }
 {
     if from >= b.len() {

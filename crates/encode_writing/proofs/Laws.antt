@@ -9,7 +9,7 @@ use native.Mathlib.Omega.{arith}
 use lib.Dec.{eqb}
 use lib.ListN.{length, set, take, getD, length-append, length-take, replicate, length-replicate}
 use lib.Seq.{sets, set-comm, length-sets, take-suc, take-append-seam}
-use Rattle.sets.specs.Sets.{Holds, shiftBytes, designation, sequence, bytesPerChar, isDrcsForm, finalByte}
+use Rattle.sets.specs.Sets.{HoldsBytes, shiftBytes, designation, sequence, bytesPerChar, isDrcsForm, finalByte}
 use Rattle.sets.specs.declared.Sequence.{Sequence}
 use Rattle.sets.specs.declared.Shift.{Shift}
 use Rattle.sets.specs.declared.Shift.the-variants.{Ls0, Ls1, Ls2, Ls3, Ls1r, Ls2r, Ls3r, Ss2, Ss3}
@@ -57,10 +57,10 @@ pub further : (q : Sequence) {l m n : List ℕ} {i j k r : ℕ} → k < length (
     WritesAt l i (take (k + 1) (q .bytes)) n r
 further q {k = k} h p s = put-as (sym (ap (λ (z : ℕ). take z (q .bytes)) (add-one k) ∙ take-suc (q .bytes) k 0 h)) (put-then p s)
 
-pub held-length : (q : Sequence) (xs : List ℕ) → length xs ≤ 5 → Holds q xs → length (q .bytes) ≡ 5
+pub held-length : (q : Sequence) (xs : List ℕ) → length xs ≤ 5 → HoldsBytes q xs → length (q .bytes) ≡ 5
 held-length q xs l h = omega (arith, ap length (h .filled), length-append xs (replicate (5 - length xs) 0), length-replicate {A = ℕ} (5 - length xs) 0)
 
-pub ended : (q : Sequence) {l m : List ℕ} {i j k : ℕ} (xs : List ℕ) → k ≡ q .len → Holds q xs → WritesAt l i (take k (q .bytes)) m j → WritesAt l i xs m j
+pub ended : (q : Sequence) {l m : List ℕ} {i j k : ℕ} (xs : List ℕ) → k ≡ q .len → HoldsBytes q xs → WritesAt l i (take k (q .bytes)) m j → WritesAt l i xs m j
 ended q {k = k} xs e h p =
     put-as (ap (λ (z : ℕ). take z (q .bytes)) (e ∙ h .counted) ∙ ap (take (length xs)) (h .filled) ∙ take-append-seam xs _) p
 

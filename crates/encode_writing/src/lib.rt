@@ -8,7 +8,7 @@ ghost use mathlib.Core.List.{List, [], _∷_, map};
 ghost use Prim.Native.Nat.{ℕ, _+_, _/_, _%_, _≤_, _<_};
 ghost use lib.Dec.{eqb};
 ghost use lib.ListN.{length};
-ghost use Rattle.sets.specs.Sets.{Holds, setNumber, shiftBytes, designation};
+ghost use Rattle.sets.specs.Sets.{HoldsBytes, setNumber, shiftBytes, designation};
 ghost use Rattle.coding.specs.Candidates.{graphic, plain};
 ghost use Rattle.encode_states.specs.Packed.{setOf};
 ghost use Rattle.encode_states.specs.Written.{sizeControl, invocation, half, writtenBy};
@@ -31,7 +31,7 @@ fn put(coding: &mut [u8], at: usize, x: u8) -> usize
 /// Writes a sequence.
 fn put_sequence(coding: &mut [u8], at: usize, q: Sequence) -> usize
     requires { ⌜ (at ≤ 4294967340) × (q .len ≤ 5) × (length (q .bytes) ≡ 5) ⌝ }
-    ensures { λ r. ⌜ ((xs : List ℕ) → Holds q xs → WritesAt (now (coding .entry)) at xs (now (coding .exit)) r) ⌝ }
+    ensures { λ r. ⌜ ((xs : List ℕ) → HoldsBytes q xs → WritesAt (now (coding .entry)) at xs (now (coding .exit)) r) ⌝ }
 {
     let mut to = at;
     let mut k: usize = 0;

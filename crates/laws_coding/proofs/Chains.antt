@@ -13,7 +13,7 @@ use Rattle.coding.specs.Admissible.{Admissible}
 use Rattle.base.specs.Lists.{All}
 use Rattle.base.proofs.Every.{all-append, all-map, all-at}
 use Rattle.laws_coding.proofs.Layers.{byEach, reached, reach-flat, all-every, keep-every}
-use Rattle.laws_coding.proofs.Written.{Fine, Step, each-steps}
+use Rattle.laws_coding.proofs.Written.{OfTables, Step, each-steps}
 
 -- the i-th node; past the end one that wrote nothing
 abbrev pub at : List Node → ℕ → Node
@@ -30,7 +30,7 @@ pub data Chain (C : Type 0) (s : State) : List (List Cand) → List (List Node) 
   grows : {ks : List Cand} {css : List (List Cand)} {l : List Node} {ls : List (List Node)} → All (Link C ks (newest ls)) l → Chain C s css ls → Chain C s (ks ∷ css) (l ∷ ls)
 
 -- a layer that a search reaches is linked
-module _ (C : Type 0) (ks : List Cand) (fine : C → All Fine ks) (l : List Node) where
+module _ (C : Type 0) (ks : List Cand) (fine : C → All OfTables ks) (l : List Node) where
   node-links : (n : Node) (i : ℕ) → i < length l → at l i ≡ n → All (Link C ks l) (byEach n i ks)
   node-links n i h e =
       all-map (Step C ks n i) (Link C ks l) (byEach n i ks) (λ m s.
@@ -46,7 +46,7 @@ module _ (C : Type 0) (ks : List Cand) (fine : C → All Fine ks) (l : List Node
   layer-links : (top : ℕ) → All (Link C ks l) (keep top (reach ks l 0 []))
   layer-links top = rw reach-flat (keep-every (Link C ks l) top _ (all-every (Link C ks l) [] (reached ks l 0) tt (reached-links l 0 (λ j h. rw (zero-add j) (h, refl)))))
 
-pub run-chain : (C : Type 0) (s : State) (css : List (List Cand)) → (C → All (All Fine) css) → (done : List (List Cand)) (r : Run) → Chain C s done (r .layers) →
+pub run-chain : (C : Type 0) (s : State) (css : List (List Cand)) → (C → All (All OfTables) css) → (done : List (List Cand)) (r : Run) → Chain C s done (r .layers) →
     Chain C s (reverseAux css done) (run css r .layers)
 unfolding run layer
 run-chain C s [] fine done r c = c

@@ -24,59 +24,59 @@ use Rattle.coding.specs.Call.{Lent, ordering, choices, without}
 use Rattle.coding.specs.Admissible.{here}
 use Rattle.base.specs.Lists.{All, when}
 use Rattle.base.proofs.Every.{all-append}
-use Rattle.laws_coding.proofs.Written.{Fine}
+use Rattle.laws_coding.proofs.Written.{OfTables}
 use Rattle.laws_coding.proofs.Cheapest.{Filled}
 
-of-code : (x size : ℕ) → x < 15 → size ≤ 2 → (k : Code) → All Fine (ofCode x size k)
+of-code : (x size : ℕ) → x < 15 → size ≤ 2 → (k : Code) → All OfTables (ofCode x size k)
 unfolding ofCode
 of-code x size h z Nothing = tt
 of-code x size h z (Gl b) = ((h, omega arith, z), tt)
 
-of-place : (x size : ℕ) → x < 15 → size ≤ 2 → (p : Place) → All Fine (ofPlace x size p)
+of-place : (x size : ℕ) → x < 15 → size ≤ 2 → (p : Place) → All OfTables (ofPlace x size p)
 unfolding ofPlace
 of-place x size h z Nowhere = tt
 of-place x size h z (At row cell) = ((h, omega arith, z), tt)
 
-of-space : (b : Bool) (size : ℕ) → size ≤ 2 → All Fine (when b (plain 0x20 size))
+of-space : (b : Bool) (size : ℕ) → size ≤ 2 → All OfTables (when b (plain 0x20 size))
 of-space true size z = (z, tt)
 of-space false size z = tt
 
-of-fullwidth : (annexE : Bool) (c : ℕ) → All Fine (fullwidth annexE c)
+of-fullwidth : (annexE : Bool) (c : ℕ) → All OfTables (fullwidth annexE c)
 unfolding fullwidth
 of-fullwidth true c = tt
 of-fullwidth false c = of-code 1 2 (omega arith) (omega arith) (oneByteReverse Fullwidth c)
 
-of-wide-space : (annexE : Bool) (c : ℕ) → All Fine (cond annexE [] (when (eqb c 0x3000) (plain 0x20 2)))
+of-wide-space : (annexE : Bool) (c : ℕ) → All OfTables (cond annexE [] (when (eqb c 0x3000) (plain 0x20 2)))
 of-wide-space true c = tt
 of-wide-space false c = of-space (eqb c 0x3000) 2 (omega arith)
 
-letters-fine : (cells : List ℕ) (annexE : Bool) (c : ℕ) → All Fine (letters cells annexE c)
+letters-fine : (cells : List ℕ) (annexE : Bool) (c : ℕ) → All OfTables (letters cells annexE c)
 unfolding letters
 letters-fine cells annexE c =
-    all-append Fine (ofCode 2 2 (oneByteReverse Hiragana c)) _ (of-code 2 2 (omega arith) (omega arith) (oneByteReverse Hiragana c))
-    (all-append Fine (ofCode 3 2 (oneByteReverse Katakana c)) _ (of-code 3 2 (omega arith) (omega arith) (oneByteReverse Katakana c))
-    (all-append Fine (ofCode 1 1 (oneByteReverse Alphanumeric c)) _ (of-code 1 1 (omega arith) (omega arith) (oneByteReverse Alphanumeric c))
-    (all-append Fine (fullwidth annexE c) _ (of-fullwidth annexE c)
-    (all-append Fine (ofPlace 0 2 (kanjiReverse cells c)) _ (of-place 0 2 (omega arith) (omega arith) (kanjiReverse cells c))
-    (all-append Fine (ofPlace 14 2 (additionalReverse c)) _ (of-place 14 2 (omega arith) (omega arith) (additionalReverse c))
-    (all-append Fine (ofCode 11 1 (oneByteReverse JisX0201Katakana c)) _ (of-code 11 1 (omega arith) (omega arith) (oneByteReverse JisX0201Katakana c))
-    (all-append Fine (when (eqb c 0x20) (plain 0x20 1)) _ (of-space (eqb c 0x20) 1 (omega arith)) (of-wide-space annexE c))))))))
+    all-append OfTables (ofCode 2 2 (oneByteReverse Hiragana c)) _ (of-code 2 2 (omega arith) (omega arith) (oneByteReverse Hiragana c))
+    (all-append OfTables (ofCode 3 2 (oneByteReverse Katakana c)) _ (of-code 3 2 (omega arith) (omega arith) (oneByteReverse Katakana c))
+    (all-append OfTables (ofCode 1 1 (oneByteReverse Alphanumeric c)) _ (of-code 1 1 (omega arith) (omega arith) (oneByteReverse Alphanumeric c))
+    (all-append OfTables (fullwidth annexE c) _ (of-fullwidth annexE c)
+    (all-append OfTables (ofPlace 0 2 (kanjiReverse cells c)) _ (of-place 0 2 (omega arith) (omega arith) (kanjiReverse cells c))
+    (all-append OfTables (ofPlace 14 2 (additionalReverse c)) _ (of-place 14 2 (omega arith) (omega arith) (additionalReverse c))
+    (all-append OfTables (ofCode 11 1 (oneByteReverse JisX0201Katakana c)) _ (of-code 11 1 (omega arith) (omega arith) (oneByteReverse JisX0201Katakana c))
+    (all-append OfTables (when (eqb c 0x20) (plain 0x20 1)) _ (of-space (eqb c 0x20) 1 (omega arith)) (of-wide-space annexE c))))))))
 
-pub candidates-fine : (cells : List ℕ) (annexE : Bool) (c : ℕ) → All Fine (candidates cells annexE c)
+pub candidates-fine : (cells : List ℕ) (annexE : Bool) (c : ℕ) → All OfTables (candidates cells annexE c)
 unfolding candidates
 candidates-fine cells annexE c = go (eqb c 10) (hasCharacter nonSpacing c)
   where
-    go : (newline mark : Bool) → All Fine (elim newline [ true ↦ plain 0x0D 0 ∷ [] | false ↦ elim mark [ true ↦ ofPlace 0 0 (cellWith nonSpacing c) | false ↦ letters cells annexE c ] ])
+    go : (newline mark : Bool) → All OfTables (elim newline [ true ↦ plain 0x0D 0 ∷ [] | false ↦ elim mark [ true ↦ ofPlace 0 0 (cellWith nonSpacing c) | false ↦ letters cells annexE c ] ])
     go true mark = (omega arith, tt)
     go false true = of-place 0 0 (omega arith) (omega arith) (cellWith nonSpacing c)
     go false false = letters-fine cells annexE c
 
-all-fine : (cells : List ℕ) (annexE : Bool) (cs : List ℕ) → All (All Fine) (candidatesOf cells annexE cs)
+all-fine : (cells : List ℕ) (annexE : Bool) (cs : List ℕ) → All (All OfTables) (candidatesOf cells annexE cs)
 unfolding candidatesOf
 all-fine cells annexE [] = tt
 all-fine cells annexE (c ∷ cs) = (candidates-fine cells annexE c, all-fine cells annexE cs)
 
-pub choices-fine : (c : Lent) → All (All Fine) (choices c)
+pub choices-fine : (c : Lent) → All (All OfTables) (choices c)
 unfolding choices
 choices-fine c = all-fine (c .cells) (eqb (c .width) 1) (chars (ordering c))
 

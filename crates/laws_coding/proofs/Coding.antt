@@ -13,7 +13,7 @@ use Rattle.coding.specs.Call.{Lent, choices, coding, outcomeOf}
 use Rattle.base.specs.Lists.{All}
 use Rattle.laws_coding.specs.Coding.{NoShorter, CodingAdmissible, GapExact, NineBytes, returned, Accepted, StoreFree}
 use Rattle.base.proofs.Every.{all-map}
-use Rattle.laws_coding.proofs.Written.{Fine, Step, cand-steps}
+use Rattle.laws_coding.proofs.Written.{OfTables, Step, cand-steps}
 use Rattle.laws_coding.proofs.Choices.{candidates-fine, choices-fine, choices-length, scalars-most, choices-filled}
 use Rattle.laws_coding.proofs.Searches.{out-admissible, out-nine, gap-by, no-shorter-any}
 use Rattle.laws_coding.proofs.Answers.{Passes, passes, whatever-store}
@@ -34,7 +34,7 @@ nine-text : (c : Lent) → length (coding c .out) ≤ 9 * length (scalars (c .te
 unfolding coding
 nine-text c = rw (← choices-length c) (out-nine (choices c) (c .initial) (choices-fine c))
 
-nine-character : (n : Node) (i : ℕ) (ks : List Cand) → All Fine ks → All (λ k. All (λ m. m .cost ≤ n .cost + 9) (byCand n i k)) ks
+nine-character : (n : Node) (i : ℕ) (ks : List Cand) → All OfTables ks → All (λ k. All (λ m. m .cost ≤ n .cost + 9) (byCand n i k)) ks
 nine-character n i [] a = tt
 nine-character n i (k ∷ ks) a = (
   all-map (Step (Unit {0}) (k ∷ []) n i) (λ m. m .cost ≤ n .cost + 9) (byCand n i k) (λ m s. omega (arith, s .cost, s .nine tt))

@@ -15,7 +15,7 @@ use Rattle.laws_coding.proofs.Somewhere.{some-map, meet}
 use Rattle.laws_coding.proofs.Distance.{distance-none}
 use Rattle.laws_coding.proofs.Near.{Near, Invokes}
 use Rattle.laws_coding.proofs.Gap.{lowered, run-floor, floor-least, ends}
-use Rattle.laws_coding.proofs.Written.{Fine}
+use Rattle.laws_coding.proofs.Written.{OfTables}
 use Rattle.laws_coding.proofs.Chains.{Chain, begins, run-chain, back-length, back-writes, back-nine}
 use Rattle.laws_coding.proofs.Cheapest.{Filled, least-most, cheapest, run-filled}
 
@@ -30,7 +30,7 @@ module _ (css : List (List Cand)) (initial : ℕ) where
   abbrev sums : List ℕ
   sums = dropped css (node 0 0 (start initial) [] ∷ [])
 
-  chain : (C : Type 0) → (C → All (All Fine) css) → Chain C (start initial) (reverseAux css []) (ran .layers)
+  chain : (C : Type 0) → (C → All (All OfTables) css) → Chain C (start initial) (reverseAux css []) (ran .layers)
   unfolding begin
   chain C fine = run-chain C (start initial) css fine [] (begin initial) begins
 
@@ -44,14 +44,14 @@ module _ (css : List (List Cand)) (initial : ℕ) where
       let q = cheapest last (filled a) in
       omega (arith, back-length ⊥ (start initial) (chain ⊥ (λ x. absurd x)) (firstOf (least last) last) (q .0) [], q .1)
 
-  pub out-admissible : All (All Fine) css → All Filled css → Admissible (start initial) css (code css initial .out)
+  pub out-admissible : All (All OfTables) css → All Filled css → Admissible (start initial) css (code css initial .out)
   unfolding code finish start
   out-admissible fine a =
       let q = cheapest last (filled a) in
       subst (λ (x : List (List Cand)). Admissible (start initial) x (code css initial .out)) (reverseAux-reverseAux-nil css [])
       (back-writes (Unit {0}) (start initial) tt (omega arith) (chain (Unit {0}) (λ x. fine)) (firstOf (least last) last) (q .0) [] [] (done _))
 
-  pub out-nine : All (All Fine) css → length (code css initial .out) ≤ 9 * length css
+  pub out-nine : All (All OfTables) css → length (code css initial .out) ≤ 9 * length css
   unfolding code finish
   out-nine fine = omega (arith, back-nine (Unit {0}) (start initial) tt (chain (Unit {0}) (λ x. fine)) (firstOf (least last) last) [], length-reverseAux css [])
 

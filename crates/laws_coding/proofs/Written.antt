@@ -18,9 +18,9 @@ use Rattle.laws_coding.proofs.WaysWrite.{Leads, Writes, shown, ways-wri
 use Rattle.laws_coding.proofs.Layers.{byEach}
 
 -- a candidate as the coder has them: of a set that is neither the macro set nor a DRCS, of one or two bytes, of one of the three sizes
-abbrev pub Fine : Cand → Type 0
-Fine (graphic x code size) = (x < 15) × (length code ≤ 2) × (size ≤ 2)
-Fine (plain b size) = size ≤ 2
+abbrev pub OfTables : Cand → Type 0
+OfTables (graphic x code size) = (x < 15) × (length code ≤ 2) × (size ≤ 2)
+OfTables (plain b size) = size ≤ 2
 
 -- the size control before a candidate, from a state that is narrow or wide
 pub record Sizes (s : State) (size : ℕ) : Type 0 where
@@ -66,7 +66,7 @@ pub record Step (C : Type 0) (ks : List Cand) (n : Node) (i : ℕ) (m : Node) : 
   pub writes : C → n .state .narrow ≤ 1 → (css : List (List Cand)) (bs : List ℕ) → Admissible (m .state) css bs → Admissible (n .state) (ks ∷ css) (m .bytes ++ bs)
 
 module _ (C : Type 0) (ks : List Cand) (n : Node) (i : ℕ) where
-  ways-steps : (x : ℕ) (code : List ℕ) (size : ℕ) → (C → Fine (graphic x code size)) → Some (λ k. k ≡ graphic x code size) ks → (ws : List Way) →
+  ways-steps : (x : ℕ) (code : List ℕ) (size : ℕ) → (C → OfTables (graphic x code size)) → Some (λ k. k ≡ graphic x code size) ks → (ws : List Way) →
       (C → All (Writes x (sized (n .state) size)) ws) → All (Step C ks n i) (byWays (n .cost) i (sizeBytes (n .state) size) code ws)
   unfolding byWays
   ways-steps x code size fine k [] a = tt
@@ -84,7 +84,7 @@ module _ (C : Type 0) (ks : List Cand) (n : Node) (i : ℕ) where
     ways-steps x code size fine k ws (λ c. a c .1),
   )
 
-  pub cand-steps : (k : Cand) → (C → Fine k) → Some (λ j. j ≡ k) ks → All (Step C ks n i) (byCand n i k)
+  pub cand-steps : (k : Cand) → (C → OfTables k) → Some (λ j. j ≡ k) ks → All (Step C ks n i) (byCand n i k)
   unfolding byCand
   cand-steps (graphic x code size) fine k = ways-steps x code size fine k (ways (sized (n .state) size) x) (λ c. ways-write (sized (n .state) size) x (fine c .0))
   cand-steps (plain b size) fine k = (
@@ -100,7 +100,7 @@ module _ (C : Type 0) (ks : List Cand) (n : Node) (i : ℕ) where
     tt,
   )
 
-  pub each-steps : (js : List Cand) → (C → All Fine js) → ((k : Cand) → Some (λ j. j ≡ k) js → Some (λ j. j ≡ k) ks) → All (Step C ks n i) (byEach n i js)
+  pub each-steps : (js : List Cand) → (C → All OfTables js) → ((k : Cand) → Some (λ j. j ≡ k) js → Some (λ j. j ≡ k) ks) → All (Step C ks n i) (byEach n i js)
   unfolding byEach
   each-steps [] fine f = tt
   each-steps (k ∷ js) fine f = all-append (Step C ks n i) (byCand n i k) _ (cand-steps k (λ c. fine c .0) (f k (here refl))) (each-steps js (λ c. fine c .1) (λ j m. f j (there m)))

@@ -61,7 +61,7 @@ pub record Fit (input : List ℕ) (i : Issue) : Type 0 where
   pub shown : Shown input (i .kind)
 
 -- what holds between steps; the marks that wait have a first one's offset
-pub record Fine (input : List ℕ) (p : Part) : Type 0 where
+pub record Bounded (input : List ℕ) (p : Part) : Type 0 where
   pub charge : p .charged ≤ 64 * length input + 4096
   pub issues : All (Fit input) (p .out .issues)
   pub marks : p .out .marksAt + min 1 (length (p .out .marks)) ≤ length input
@@ -74,7 +74,7 @@ weight o = length (o .text) + length (o .marks) + (o .repeat - 21)
 
 -- what held holds, and 21 for each of u bytes and for each one charged pay what was written
 pub record Kept (input : List ℕ) (u : ℕ) (p q : Part) : Type 0 where
-  pub fine : Fine input q
+  pub fine : Bounded input q
   pub paid : weight (q .out) + 21 * p .charged ≤ weight (p .out) + 21 * (u + q .charged)
 
 -- u bytes lead from p to q: text and issues are only appended to; and where C is given (that the bytes are the input's, say) what held holds
@@ -83,7 +83,7 @@ pub record Change (C : Type 0) (input : List ℕ) (u : ℕ) (p q : Part) : Type 
   pub written : q .out .text ≡ p .out .text ++ text
   pub issues : List Issue
   pub reported : q .out .issues ≡ p .out .issues ++ issues
-  pub keeps : C → Fine input p → Kept input u p q
+  pub keeps : C → Bounded input p → Kept input u p q
 
 module _ (C : Type 0) (input : List ℕ) where
   pub stays : (u : ℕ) (p : Part) → Change C input u p p
@@ -134,7 +134,7 @@ module _ (C : Type 0) (input : List ℕ) where
 
   -- what is written where no issue is reported
   silent : (u : ℕ) (p : Part) (o : Output) (text : List ℕ) → o .text ≡ p .out .text ++ text → o .issues ≡ p .out .issues →
-      (C → Fine input p → (o .marksAt + min 1 (length (o .marks)) ≤ length input) × (o .repeat ≤ 63) × (weight o ≤ weight (p .out) + 21 * u)) → Change C input u p (puts o p)
+      (C → Bounded input p → (o .marksAt + min 1 (length (o .marks)) ≤ length input) × (o .repeat ≤ 63) × (weight o ≤ weight (p .out) + 21 * u)) → Change C input u p (puts o p)
   silent u p o text e i k =
       record {
         text = text;
@@ -177,7 +177,7 @@ module _ (C : Type 0) (input : List ℕ) where
   clears p = silent 0 p (setRepeat 0 (p .out)) [] (sym (append-nil _)) refl (λ c f. (f .marks, omega arith, omega arith))
 
 -- what held before may be used
-pub given : (C : Type 0) (input : List ℕ) (u : ℕ) (p q : Part) → Change (C × Fine input p) input u p q → Change C input u p q
+pub given : (C : Type 0) (input : List ℕ) (u : ℕ) (p q : Part) → Change (C × Bounded input p) input u p q → Change C input u p q
 given C input u p q a = record { text = a .text; written = a .written; issues = a .issues; reported = a .reported; keeps = λ c f. a .keeps (c, f) f }
 
 module _ (C : Type 0) (input : List ℕ) where
@@ -186,13 +186,13 @@ module _ (C : Type 0) (input : List ℕ) where
   unfolding release
   releases p = given C input 0 p (puts (release (p .out)) p) (go (p .out .marks) refl)
     where
-      go : (ms : List ℕ) → p .out .marks ≡ ms → Change (C × Fine input p) input 0 p (puts (releaseOf ms (p .out)) p)
-      go [] e = stays (C × Fine input p) input 0 p
+      go : (ms : List ℕ) → p .out .marks ≡ ms → Change (C × Bounded input p) input 0 p (puts (releaseOf ms (p .out)) p)
+      go [] e = stays (C × Bounded input p) input 0 p
       go (m ∷ ms) e =
-          follows (C × Fine input p) input 0 0 0 p _ _ (omega arith)
-          (silent (C × Fine input p) input 0 p (record { text = p .out .text ++ (m ∷ ms); marks = []; marksAt = 0; repeat = p .out .repeat; issues = p .out .issues }) (m ∷ ms)
+          follows (C × Bounded input p) input 0 0 0 p _ _ (omega arith)
+          (silent (C × Bounded input p) input 0 p (record { text = p .out .text ++ (m ∷ ms); marks = []; marksAt = 0; repeat = p .out .repeat; issues = p .out .issues }) (m ∷ ms)
           refl refl (λ c f. (omega arith, f .repeat, rw length-append (omega (arith, ap length e)))))
-          (reports (C × Fine input p) input (p .out .marksAt) DanglingNonSpacing _ (λ c. omega (arith, c .1 .marks, ap length e)) (λ c. tt))
+          (reports (C × Bounded input p) input (p .out .marksAt) DanglingNonSpacing _ (λ c. omega (arith, c .1 .marks, ap length e)) (λ c. tt))
 
   -- a newline follows them
   pub newlines : (p : Part) → Change C input 1 p (puts (newline (p .out)) p)

@@ -15,7 +15,7 @@ use Rattle.reading.specs.Macros.{Run, runMacro}
 use Rattle.reading.specs.Characters.{isGraphic, emitOr, cellOr, char2, letter, mosaic, char1, graphic2, graphic, singleShift}
 use Rattle.laws_reading.proofs.Changes.{part, Shown, follows, more, emits, marks, clears}
 use Rattle.base.proofs.Tests.{either}
-use Rattle.laws_reading.proofs.Controls.{To, Good, takes, issued, placed, tells, cut}
+use Rattle.laws_reading.proofs.Controls.{To, StepWithin, takes, issued, placed, tells, cut}
 use Rattle.laws_reading.proofs.Macros.{Runs, macro-to}
 
 module _ (C : Type 0) (g : Given) (at : ℕ) (inside : C → at < length (g .input)) where
@@ -48,11 +48,11 @@ module _ (C : Type 0) (g : Given) (at : ℕ) (inside : C → at < length (g .inp
             (clears C (g .input) _);
       }
 
-  graphic2-good : (number x : ℕ) (rest : List ℕ) (s : State) → Good C g rest s (graphic2 g number x rest at s)
+  graphic2-good : (number x : ℕ) (rest : List ℕ) (s : State) → StepWithin C g rest s (graphic2 g number x rest at s)
   unfolding graphic2
   graphic2-good number x [] s = cut C g at inside [] s 1 (omega arith)
   graphic2-good number x (y ∷ r) s =
-      either (Good C g (y ∷ r) s) (isGraphic y && eqb (x / 128) (y / 128))
+      either (StepWithin C g (y ∷ r) s) (isGraphic y && eqb (x / 128) (y / 128))
       (takes C g (y ∷ r) s 1 2 (char2 g number (x % 128) (y % 128) at s) (omega arith) (char2-to number (x % 128) (y % 128) s))
       (cut C g at inside (y ∷ r) s 1 (omega arith))
 
@@ -68,17 +68,17 @@ module _ (C : Type 0) (g : Given) (left : ℕ) (R : Run) (runs : Runs C g R) (at
       (either (To C g 1 s) (leb 17 number) (placed C g at inside (Drcs (number - 16) c) (λ c. tt) s)
       (emit-or C g at inside (UndefinedCode number c) (λ c. tt) (letter (isNarrow g s) number c) s)))
 
-  pub graphic-good : (element x : ℕ) (rest : List ℕ) (s : State) → Good C g rest s (graphic g left R element x rest at s)
+  pub graphic-good : (element x : ℕ) (rest : List ℕ) (s : State) → StepWithin C g rest s (graphic g left R element x rest at s)
   unfolding graphic
   graphic-good element x rest s =
       let number = getD (s .sets) element 0 in
-      either (Good C g rest s) (eqb (bytesPerChar number) 2) (graphic2-good C g at inside number x rest s)
+      either (StepWithin C g rest s) (eqb (bytesPerChar number) 2) (graphic2-good C g at inside number x rest s)
       (takes C g rest s 1 1 (char1 g left R number (x % 128) at s) (omega arith) (char1-to number (x % 128) s))
 
-  pub shift-good : (element : ℕ) (rest : List ℕ) (s : State) → Good C g rest s (singleShift g left R element rest at s)
+  pub shift-good : (element : ℕ) (rest : List ℕ) (s : State) → StepWithin C g rest s (singleShift g left R element rest at s)
   unfolding singleShift
   shift-good element [] s = cut C g at inside [] s 1 (omega arith)
-  shift-good element (y ∷ r) s = either (Good C g (y ∷ r) s) (isGraphic y) (shifted (graphic-good element y r s)) (tells C g at inside (y ∷ r) s 1 LoneSingleShift (λ c. tt) (omega arith))
+  shift-good element (y ∷ r) s = either (StepWithin C g (y ∷ r) s) (isGraphic y) (shifted (graphic-good element y r s)) (tells C g at inside (y ∷ r) s 1 LoneSingleShift (λ c. tt) (omega arith))
     where
-      shifted : {w : Step} → Good C g r s w → Good C g (y ∷ r) s (took (suc (w .used)) (w .to))
+      shifted : {w : Step} → StepWithin C g r s w → StepWithin C g (y ∷ r) s (took (suc (w .used)) (w .to))
       shifted {w} a = takes C g (y ∷ r) s (w .used) (suc (w .used)) (w .to) (omega arith) (a .to)

@@ -21,7 +21,7 @@ pub record To (C : Type 0) (g : Given) (u : ℕ) (s t : State) : Type 0 where
   pub change : Change C (g .input) u (part s) (part t)
 
 -- a step takes its first byte, and of the rest at most what there is
-pub record Good (C : Type 0) (g : Given) (rest : List ℕ) (s : State) (w : Step) : Type 0 where
+pub record StepWithin (C : Type 0) (g : Given) (rest : List ℕ) (s : State) (w : Step) : Type 0 where
   pub least : 1 ≤ w .used
   pub most : w .used ≤ suc (length rest)
   pub to : To C g (w .used) s (w .to)
@@ -34,13 +34,13 @@ leading-most low high (x ∷ l) =
     either (λ n. n ≤ suc (length l)) (leb low x && leb x high) (omega arith) (omega arith)
 
 module _ (C : Type 0) (g : Given) where
-  pub takes : (rest : List ℕ) (s : State) (u n : ℕ) (t : State) → (u ≤ n) × (1 ≤ n) × (n ≤ suc (length rest)) → To C g u s t → Good C g rest s (took n t)
+  pub takes : (rest : List ℕ) (s : State) (u n : ℕ) (t : State) → (u ≤ n) × (1 ≤ n) × (n ≤ suc (length rest)) → To C g u s t → StepWithin C g rest s (took n t)
   takes rest s u n t h a = record { least = h .1; most = h .2; to = record { change = more C (g .input) u n (part s) (part t) (h .0) (a .change) } }
 
   pub keeps : (s : State) → To C g 0 s s
   keeps s = record { change = stays C (g .input) 0 (part s) }
 
-  pub passes : (rest : List ℕ) (s : State) (n : ℕ) → (1 ≤ n) × (n ≤ suc (length rest)) → Good C g rest s (took n s)
+  pub passes : (rest : List ℕ) (s : State) (n : ℕ) → (1 ≤ n) × (n ≤ suc (length rest)) → StepWithin C g rest s (took n s)
   passes rest s n h = takes rest s 0 n s (omega arith) (keeps s)
 
   pub resized : (b : Bool) (s : State) → To C g 0 s (resize b s)
@@ -69,14 +69,14 @@ module _ (C : Type 0) (g : Given) (at : ℕ) (inside : C → at < length (g .inp
   placed kind shown s = record { change = follows C (g .input) 0 1 1 (part s) (part (issue at kind s)) _ (omega arith) (issued kind shown s .change) (emits C (g .input) 0xFFFD _) }
 
   -- bytes taken with an issue
-  pub tells : (rest : List ℕ) (s : State) (n : ℕ) (kind : IssueKind) → (C → Shown (g .input) kind) → (1 ≤ n) × (n ≤ suc (length rest)) → Good C g rest s (took n (issue at kind s))
+  pub tells : (rest : List ℕ) (s : State) (n : ℕ) (kind : IssueKind) → (C → Shown (g .input) kind) → (1 ≤ n) × (n ≤ suc (length rest)) → StepWithin C g rest s (took n (issue at kind s))
   tells rest s n kind shown h = takes C g rest s 0 n (issue at kind s) (omega arith) (issued kind shown s)
 
-  pub cut : (rest : List ℕ) (s : State) (n : ℕ) → (1 ≤ n) × (n ≤ suc (length rest)) → Good C g rest s (truncated n at s)
+  pub cut : (rest : List ℕ) (s : State) (n : ℕ) → (1 ≤ n) × (n ≤ suc (length rest)) → StepWithin C g rest s (truncated n at s)
   unfolding truncated
   cut rest s n h = tells rest s n Truncated (λ c. tt) h
 
-  pub szx-good : (rest : List ℕ) (s : State) → Good C g rest s (szx rest at s)
+  pub szx-good : (rest : List ℕ) (s : State) → StepWithin C g rest s (szx rest at s)
   unfolding szx
   szx-good [] s = cut [] s 1 (omega arith)
   szx-good (p ∷ r) s = takes C g (p ∷ r) s 0 2 (resize (eqb p 0x60) s) (omega arith) (resized C g (eqb p 0x60) s)
@@ -90,50 +90,50 @@ module _ (C : Type 0) (g : Given) (at : ℕ) (inside : C → at < length (g .inp
       }
   repeat-to (suc n) s h = record { change = repeats C (g .input) (suc n) (part s) h }
 
-  pub rpc-good : (rest : List ℕ) (s : State) → Good C g rest s (rpc rest at s)
+  pub rpc-good : (rest : List ℕ) (s : State) → StepWithin C g rest s (rpc rest at s)
   unfolding rpc
   rpc-good [] s = cut [] s 1 (omega arith)
   rpc-good (p ∷ r) s = takes C g (p ∷ r) s 2 2 (repeatBy (p % 64) at s) (omega arith) (repeat-to (p % 64) s (omega arith))
 
-  pub colour-good : (rest : List ℕ) (s : State) → Good C g rest s (colour rest at s)
+  pub colour-good : (rest : List ℕ) (s : State) → StepWithin C g rest s (colour rest at s)
   unfolding colour
   colour-good [] s = cut [] s 1 (omega arith)
-  colour-good (p ∷ []) s = either (Good C g (p ∷ []) s) (eqb p 0x20) (cut (p ∷ []) s 2 (omega arith)) (passes C g (p ∷ []) s 2 (omega arith))
-  colour-good (p ∷ (q ∷ r)) s = either (Good C g (p ∷ (q ∷ r)) s) (eqb p 0x20) (passes C g (p ∷ (q ∷ r)) s 3 (omega arith)) (passes C g (p ∷ (q ∷ r)) s 2 (omega arith))
+  colour-good (p ∷ []) s = either (StepWithin C g (p ∷ []) s) (eqb p 0x20) (cut (p ∷ []) s 2 (omega arith)) (passes C g (p ∷ []) s 2 (omega arith))
+  colour-good (p ∷ (q ∷ r)) s = either (StepWithin C g (p ∷ (q ∷ r)) s) (eqb p 0x20) (passes C g (p ∷ (q ∷ r)) s 3 (omega arith)) (passes C g (p ∷ (q ∷ r)) s 2 (omega arith))
 
-  ended-good : (rest : List ℕ) (strict : Bool) (code n : ℕ) (tail : List ℕ) (s : State) → (1 ≤ n) × (n + length tail ≤ suc (length rest)) → Good C g rest s (ended strict code n tail at s)
+  ended-good : (rest : List ℕ) (strict : Bool) (code n : ℕ) (tail : List ℕ) (s : State) → (1 ≤ n) × (n + length tail ≤ suc (length rest)) → StepWithin C g rest s (ended strict code n tail at s)
   unfolding ended
   ended-good rest strict code n [] s h = cut rest s n (omega arith)
   ended-good rest strict code n (f ∷ r) s h =
-      either (Good C g rest s) (leb 0x40 f && leb f 0x7E) (passes C g rest s (n + 1) (omega arith))
-      (either (Good C g rest s) strict (tells rest s n (MalformedControl code) (λ c. tt) (omega arith)) (passes C g rest s n (omega arith)))
+      either (StepWithin C g rest s) (leb 0x40 f && leb f 0x7E) (passes C g rest s (n + 1) (omega arith))
+      (either (StepWithin C g rest s) strict (tells rest s n (MalformedControl code) (λ c. tt) (omega arith)) (passes C g rest s n (omega arith)))
 
-  sequence-good : (rest : List ℕ) (strict : Bool) (code n : ℕ) (l : List ℕ) (s : State) → (1 ≤ n) × (n + length l ≤ suc (length rest)) → Good C g rest s (sequenceFrom strict code n l at s)
+  sequence-good : (rest : List ℕ) (strict : Bool) (code n : ℕ) (l : List ℕ) (s : State) → (1 ≤ n) × (n + length l ≤ suc (length rest)) → StepWithin C g rest s (sequenceFrom strict code n l at s)
   unfolding sequenceFrom
   sequence-good rest strict code n l s h = ended-good rest strict code _ (drop (leading 0x20 0x3F l) l) s (omega (arith, length-drop (leading 0x20 0x3F l) l, leading-most 0x20 0x3F l))
 
-  pub csi-good : (rest : List ℕ) (s : State) → Good C g rest s (csi rest at s)
+  pub csi-good : (rest : List ℕ) (s : State) → StepWithin C g rest s (csi rest at s)
   unfolding csi
   csi-good rest s = sequence-good rest true 0x9B 1 rest s (omega arith)
 
-  pub time-good : (rest : List ℕ) (s : State) → Good C g rest s (time rest at s)
+  pub time-good : (rest : List ℕ) (s : State) → StepWithin C g rest s (time rest at s)
   unfolding time
   time-good [] s = cut [] s 1 (omega arith)
   time-good (p ∷ r) s =
-      either (Good C g (p ∷ r) s) (eqb p 0x20 || eqb p 0x28) (three r)
-      (either (Good C g (p ∷ r) s) (eqb p 0x29) (sequence-good (p ∷ r) false 0x9D 2 r s (omega arith)) (tells (p ∷ r) s 2 (MalformedControl 0x9D) (λ c. tt) (omega arith)))
+      either (StepWithin C g (p ∷ r) s) (eqb p 0x20 || eqb p 0x28) (three r)
+      (either (StepWithin C g (p ∷ r) s) (eqb p 0x29) (sequence-good (p ∷ r) false 0x9D 2 r s (omega arith)) (tells (p ∷ r) s 2 (MalformedControl 0x9D) (λ c. tt) (omega arith)))
     where
-      three : (r : List ℕ) → Good C g (p ∷ r) s (cond (eqb (length r) 0) (truncated 2 at s) (took 3 s))
+      three : (r : List ℕ) → StepWithin C g (p ∷ r) s (cond (eqb (length r) 0) (truncated 2 at s) (took 3 s))
       three [] = cut (p ∷ []) s 2 (omega arith)
-      three (q ∷ r) = either (Good C g (p ∷ (q ∷ r)) s) (eqb (suc (length r)) 0) (cut (p ∷ (q ∷ r)) s 2 (omega arith)) (passes C g (p ∷ (q ∷ r)) s 3 (omega arith))
+      three (q ∷ r) = either (StepWithin C g (p ∷ (q ∷ r)) s) (eqb (suc (length r)) 0) (cut (p ∷ (q ∷ r)) s 2 (omega arith)) (passes C g (p ∷ (q ∷ r)) s 3 (omega arith))
 
-  fixed-of : (o : Option ℕ) (x : ℕ) (rest : List ℕ) (s : State) → Good C g rest s (fixedOf o x rest at s)
+  fixed-of : (o : Option ℕ) (x : ℕ) (rest : List ℕ) (s : State) → StepWithin C g rest s (fixedOf o x rest at s)
   unfolding fixedOf
   fixed-of none x rest s = tells rest s 1 (UndefinedControl x) (λ c. tt) (omega arith)
   fixed-of (some n) x rest s =
-      by-test (Good C g rest s) (leb n (length rest)) (λ e. passes C g rest s (n + 1) (omega (arith, leb-true n (length rest) e)))
+      by-test (StepWithin C g rest s) (leb n (length rest)) (λ e. passes C g rest s (n + 1) (omega (arith, leb-true n (length rest) e)))
       (λ e. cut rest s (length rest + 1) (omega arith))
 
-  pub fixed-good : (x : ℕ) (rest : List ℕ) (s : State) → Good C g rest s (fixed x rest at s)
+  pub fixed-good : (x : ℕ) (rest : List ℕ) (s : State) → StepWithin C g rest s (fixed x rest at s)
   unfolding fixed
   fixed-good x rest s = fixed-of (countOf x) x rest s

@@ -18,10 +18,10 @@ use Rattle.base.specs.Lists.{All}
 use Rattle.laws_reading.specs.Reading.{isIntermediate, isFinal, Escape}
 use Rattle.laws_reading.proofs.Changes.{part}
 use Rattle.base.proofs.Tests.{either, by-test}
-use Rattle.laws_reading.proofs.Controls.{To, Good, takes, invoked-left, invoked-right, designates, tells, cut}
+use Rattle.laws_reading.proofs.Controls.{To, StepWithin, takes, invoked-left, invoked-right, designates, tells, cut}
 
 -- the bytes xs stand at a place of the input
-pub record Stands (input : List ℕ) (place : ℕ) (xs : List ℕ) : Type 0 where
+pub record LiesAt (input : List ℕ) (place : ℕ) (xs : List ℕ) : Type 0 where
   pub after : List ℕ
   pub bytes : drop place input ≡ xs ++ after
 
@@ -38,7 +38,7 @@ leading-whole (x ∷ l) f r =
     (λ t e. let q : x ≡ f = cc in subst (λ b. isIntermediate b ≡ false) q t)
 
 -- the escape of n bytes that stands at a place
-module _ (input : List ℕ) (place : ℕ) (inter : List ℕ) (f : ℕ) (r : List ℕ) (s : Stands input place (0x1B ∷ (inter ++ (f ∷ r)))) where
+module _ (input : List ℕ) (place : ℕ) (inter : List ℕ) (f : ℕ) (r : List ℕ) (s : LiesAt input place (0x1B ∷ (inter ++ (f ∷ r)))) where
   at-place : drop place input ≡ 0x1B ∷ (inter ++ (f ∷ (r ++ s .after)))
   at-place = s .bytes ∙ ap (λ (l : List ℕ). 0x1B ∷ l) (append-assoc inter (f ∷ r) (s .after))
 
@@ -96,28 +96,28 @@ module _ (C : Type 0) (g : Given) (s : State) where
   applied-known (f ∷ []) = shift-known f
   applied-known (a ∷ (b ∷ r)) = designated-known (readDesignation (a ∷ (b ∷ r)))
 
-module _ (C : Type 0) (g : Given) (place at : ℕ) (inside : C → at < length (g .input)) (rest : List ℕ) (s : State) (stands : C → Stands (g .input) place (0x1B ∷ rest)) where
-  applied-or : (o : Option State) (n : ℕ) → Known C g s o → (1 ≤ n) × (n ≤ suc (length rest)) → (C → Escape (g .input) place n) → Good C g rest s (appliedOr o n place at s)
+module _ (C : Type 0) (g : Given) (place at : ℕ) (inside : C → at < length (g .input)) (rest : List ℕ) (s : State) (stands : C → LiesAt (g .input) place (0x1B ∷ rest)) where
+  applied-or : (o : Option State) (n : ℕ) → Known C g s o → (1 ≤ n) × (n ≤ suc (length rest)) → (C → Escape (g .input) place n) → StepWithin C g rest s (appliedOr o n place at s)
   unfolding appliedOr
   applied-or none n k h e = tells C g at inside rest s n (UnknownEscape place n) e h
   applied-or (some t) n k h e = takes C g rest s 0 n t (omega arith) k
 
   escape-at : (inter tail : List ℕ) → rest ≡ inter ++ tail → All (λ b. isIntermediate b ≡ true) inter → ((f : ℕ) (r : List ℕ) → tail ≡ f ∷ r → isIntermediate f ≡ false) →
-      Good C g rest s (escapeAt inter tail place at s)
+      StepWithin C g rest s (escapeAt inter tail place at s)
   unfolding escapeAt
   escape-at inter [] e a w = cut C g at inside rest s (length inter + 1) (omega (arith, ap length e, length-append inter []))
   escape-at inter (f ∷ r) e a w =
       let m = ap length e ∙ length-append inter (f ∷ r) in
-      by-test (Good C g rest s) (isFinal f)
+      by-test (StepWithin C g rest s) (isFinal f)
       (λ t. applied-or (applied (inter ++ (f ∷ [])) s) (length inter + 2) (applied-known C g s (inter ++ (f ∷ []))) (omega arith)
       (λ c. escape-of (g .input) place inter f r (here c) (length inter + 2) 1 (omega arith) (omega arith) (rw t) a (w f r refl)))
       (λ t. tells C g at inside rest s (length inter + 1) (UnknownEscape place (length inter + 1))
       (λ c. escape-of (g .input) place inter f r (here c) (length inter + 1) 0 (omega arith) (omega arith) (rw t) a (w f r refl)) (omega arith))
     where
-      here : C → Stands (g .input) place (0x1B ∷ (inter ++ (f ∷ r)))
-      here c = subst (λ (l : List ℕ). Stands (g .input) place (0x1B ∷ l)) e (stands c)
+      here : C → LiesAt (g .input) place (0x1B ∷ (inter ++ (f ∷ r)))
+      here c = subst (λ (l : List ℕ). LiesAt (g .input) place (0x1B ∷ l)) e (stands c)
 
-  pub escape-good : Good C g rest s (escape rest place at s)
+  pub escape-good : StepWithin C g rest s (escape rest place at s)
   unfolding escape
   escape-good =
       escape-at (take (leading 0x20 0x2F rest) rest) (drop (leading 0x20 0x2F rest) rest) (sym (take-append-drop (leading 0x20 0x2F rest) rest)) (leading-each rest)

@@ -13,12 +13,12 @@ use Rattle.reading.specs.State.{Given, State, define, charge}
 use Rattle.reading.specs.Macros.{Run, builtinSets, builtinOf, builtin, limit, runBody, runMacro, endOf, defined, definition, macroCmd}
 use Rattle.laws_reading.proofs.Changes.{part, stays, follows}
 use Rattle.base.proofs.Tests.{either, by-test}
-use Rattle.laws_reading.proofs.Controls.{To, Good, takes, passes, issued, tells, cut}
-use Rattle.laws_reading.proofs.Escapes.{Stands}
+use Rattle.laws_reading.proofs.Controls.{To, StepWithin, takes, passes, issued, tells, cut}
+use Rattle.laws_reading.proofs.Escapes.{LiesAt}
 
 -- a body is a part of the input, or built in
 abbrev pub Body : List ℕ → ℕ → List ℕ → Type 0
-Body input base b = Stands input base b ⊎ (k : ℕ) × (k < 16) × (b ≡ builtinOf (getD builtinSets k []))
+Body input base b = LiesAt input base b ⊎ (k : ℕ) × (k < 16) × (b ≡ builtinOf (getD builtinSets k []))
 
 -- what a run one deeper does
 abbrev pub Runs : Type 0 → Given → Run → Type 0
@@ -83,11 +83,11 @@ module _ (C : Type 0) (g : Given) (left : ℕ) (R : Run) (runs : Runs C g R) (at
         bytes = sym (take-append-drop (getD (s .lens) code 0) (drop (getD (s .starts) code 0) (g .input)));
       })))
 
-  defined-good : (rest : List ℕ) (p code n place : ℕ) (s : State) → n + 5 ≤ suc (length rest) → Good C g rest s (defined g left R p code n place at s)
+  defined-good : (rest : List ℕ) (p code n place : ℕ) (s : State) → n + 5 ≤ suc (length rest) → StepWithin C g rest s (defined g left R p code n place at s)
   unfolding defined
   defined-good rest p code n place s h =
       let t = define code (place + 3) n s in
-      either (Good C g rest s) (eqb p 0x41)
+      either (StepWithin C g rest s) (eqb p 0x41)
       (takes C g rest s 0 (n + 5) (runMacro g left R code at t) (omega arith)
       (record {
         change = follows C (g .input) 0 0 0 (part s) (part t) (part (runMacro g left R code at t)) (omega arith) (defines C g code (place + 3) n s .change)
@@ -95,17 +95,17 @@ module _ (C : Type 0) (g : Given) (left : ℕ) (R : Run) (runs : Runs C g R) (at
       }))
       (takes C g rest s 0 (n + 5) t (omega arith) (defines C g code (place + 3) n s))
 
-  definition-good : (p : ℕ) (r : List ℕ) (place : ℕ) (s : State) → Good C g (p ∷ r) s (definition g left R p r place at s)
+  definition-good : (p : ℕ) (r : List ℕ) (place : ℕ) (s : State) → StepWithin C g (p ∷ r) s (definition g left R p r place at s)
   unfolding definition
   definition-good p [] place s = cut C g at inside (p ∷ []) s 2 (omega arith)
   definition-good p (mc ∷ r) place s =
-      by-test (Good C g (p ∷ (mc ∷ r)) s) (ltb (endOf r) (length r))
+      by-test (StepWithin C g (p ∷ (mc ∷ r)) s) (ltb (endOf r) (length r))
       (λ e. defined-good (p ∷ (mc ∷ r)) p (mc % 128) (endOf r) place s (omega (arith, end-two r (ltb-true (endOf r) (length r) e))))
       (λ e. cut C g at inside (p ∷ (mc ∷ r)) s (length r + 3) (omega arith))
 
-  pub command-good : (rest : List ℕ) (place : ℕ) (s : State) → Good C g rest s (macroCmd g left R rest place at s)
+  pub command-good : (rest : List ℕ) (place : ℕ) (s : State) → StepWithin C g rest s (macroCmd g left R rest place at s)
   unfolding macroCmd
   command-good [] place s = cut C g at inside [] s 1 (omega arith)
   command-good (p ∷ r) place s =
-      either (Good C g (p ∷ r) s) (eqb p 0x4F) (passes C g (p ∷ r) s 2 (omega arith))
-      (either (Good C g (p ∷ r) s) (eqb p 0x40 || eqb p 0x41) (definition-good p r place s) (tells C g at inside (p ∷ r) s 2 (MalformedControl 0x95) (λ c. tt) (omega arith)))
+      either (StepWithin C g (p ∷ r) s) (eqb p 0x4F) (passes C g (p ∷ r) s 2 (omega arith))
+      (either (StepWithin C g (p ∷ r) s) (eqb p 0x40 || eqb p 0x41) (definition-good p r place s) (tells C g at inside (p ∷ r) s 2 (MalformedControl 0x95) (λ c. tt) (omega arith)))

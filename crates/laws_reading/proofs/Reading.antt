@@ -14,7 +14,7 @@ use Rattle.reading.specs.Steps.{step, steps, run, decode}
 use Rattle.reading.specs.Call.{Lent, reading, textBytes, issueList, fits}
 use Rattle.reading.specs.Examples.{rows}
 use Rattle.laws_reading.specs.Reading.{ChargeBound, OffsetsInside, CharactersBound, Escape, EscapesInside, Grown, Grows, IssuesOnlyGrow, Question89, TableOfTwelveReading}
-use Rattle.laws_reading.proofs.Changes.{part, Shown, Fit, Fine, Kept, releases}
+use Rattle.laws_reading.proofs.Changes.{part, Shown, Fit, Bounded, Kept, releases}
 use Rattle.base.proofs.Every.{all-map}
 use Rattle.laws_reading.proofs.Controls.{To}
 use Rattle.laws_reading.proofs.Macros.{Runs}
@@ -22,7 +22,7 @@ use Rattle.laws_reading.proofs.Steps.{step-good, steps-to, runs-to}
 
 -- what a decoding keeps, whole
 module _ (g : Given) (initial : ℕ) where
-  started : Fine (g .input) (part (start initial))
+  started : Bounded (g .input) (part (start initial))
   unfolding start nothing
   started = record { charge = omega arith; issues = tt; marks = omega arith; repeat = omega arith }
 

@@ -17,17 +17,17 @@ use Rattle.reading.specs.Macros.{Run, builtinSets, builtinOf}
 use Rattle.reading.specs.Steps.{space, control0, control1, step, offset, steps, run}
 use Rattle.base.specs.Lists.{All}
 use Rattle.base.proofs.Every.{all-at}
-use Rattle.laws_reading.proofs.Changes.{part, Fine, Kept, stays, follows, more, emits, newlines}
+use Rattle.laws_reading.proofs.Changes.{part, Bounded, Kept, stays, follows, more, emits, newlines}
 use Rattle.base.proofs.Tests.{either, by-test}
-use Rattle.laws_reading.proofs.Controls.{To, Good, takes, resized, invoked-left, szx-good, rpc-good, colour-good, csi-good, time-good, fixed-good}
-use Rattle.laws_reading.proofs.Escapes.{Stands, escape-good}
+use Rattle.laws_reading.proofs.Controls.{To, StepWithin, takes, resized, invoked-left, szx-good, rpc-good, colour-good, csi-good, time-good, fixed-good}
+use Rattle.laws_reading.proofs.Escapes.{LiesAt, escape-good}
 use Rattle.laws_reading.proofs.Macros.{Body, Runs, command-good}
 use Rattle.laws_reading.proofs.Characters.{graphic-good, shift-good}
 
 module _ (C : Type 0) (g : Given) (left : ℕ) (R : Run) (runs : Runs C g R) (x : ℕ) (rest : List ℕ) (place at : ℕ) (s : State) (inside : C → at < length (g .input))
-    (stands : C → Stands (g .input) place (x ∷ rest)) where
+    (stands : C → LiesAt (g .input) place (x ∷ rest)) where
   abbrev Well : Step → Type 0
-  Well w = Good C g rest s w
+  Well w = StepWithin C g rest s w
 
   control0-good : Well (control0 g left R x rest place at s)
   unfolding control0
@@ -37,7 +37,7 @@ module _ (C : Type 0) (g : Given) (left : ℕ) (R : Run) (runs : Runs C g R) (x 
       (either Well (eqb x 0x0E) (takes C g rest s 0 1 (invokeGL 1 s) (omega arith) (invoked-left C g 1 s))
       (either Well (eqb x 0x19) (shift-good C g left R runs at inside 2 rest s)
       (either Well (eqb x 0x1D) (shift-good C g left R runs at inside 3 rest s)
-      (by-test Well (eqb x 0x1B) (λ e. escape-good C g place at inside rest s (λ c. subst (λ (y : ℕ). Stands (g .input) place (y ∷ rest)) (eqb-true x 0x1B e) (stands c)))
+      (by-test Well (eqb x 0x1B) (λ e. escape-good C g place at inside rest s (λ c. subst (λ (y : ℕ). LiesAt (g .input) place (y ∷ rest)) (eqb-true x 0x1B e) (stands c)))
       (λ e. either Well (eqb x 0x0D) (takes C g rest s 1 1 (writes newline s) (omega arith) (record { change = newlines C (g .input) (part s) }))
       (fixed-good C g at inside x rest s)))))))
 
@@ -75,13 +75,13 @@ inside-next : (input : List ℕ) (origin i x : ℕ) (xs : List ℕ) → Inside i
 inside-next input zero i x xs h = omega arith
 inside-next input (suc at) i x xs h = h
 
-stands-next : (input : List ℕ) (base i x : ℕ) (xs : List ℕ) → Stands input (base + i) (x ∷ xs) → Stands input (base + (i + 1)) xs
+stands-next : (input : List ℕ) (base i x : ℕ) (xs : List ℕ) → LiesAt input (base + i) (x ∷ xs) → LiesAt input (base + (i + 1)) xs
 stands-next input base i x xs s =
     record { after = s .after; bytes = ap (λ (n : ℕ). drop n input) (sym (add-assoc base i 1)) ∙ (sym (drop-drop 1 (base + i) input) ∙ ap (drop 1) (s .bytes)) }
 
 -- the bytes of a body but those passed over
 pub steps-to : (C : Type 0) (g : Given) (left : ℕ) (R : Run) → Runs C g R → (base origin : ℕ) (xs : List ℕ) (i k : ℕ) (s : State) → (C → Inside (g .input) origin i xs) →
-    (C → Stands (g .input) (base + i) xs) → To C g (length xs - k) s (steps g left R base origin xs i k s)
+    (C → LiesAt (g .input) (base + i) xs) → To C g (length xs - k) s (steps g left R base origin xs i k s)
 unfolding steps
 steps-to C g left R runs base origin [] i k s a b = record { change = stays C (g .input) (0 - k) (part s) }
 steps-to C g left R runs base origin (x ∷ xs) i zero s a b =
@@ -109,7 +109,7 @@ body-to g left R runs C b base at s body inside =
     let grows = steps-to ⊥ g left R (runs ⊥) base (suc at) b 0 0 s (λ c. absurd c) (λ c. absurd c) .change in
     record { change = record { text = grows .text; written = grows .written; issues = grows .issues; reported = grows .reported; keeps = λ c f. kept (inside c) f (body c) } }
   where
-    kept : at < length (g .input) → Fine (g .input) (part s) → Body (g .input) base b → Kept (g .input) (length b) (part s) (part (steps g left R base (suc at) b 0 0 s))
+    kept : at < length (g .input) → Bounded (g .input) (part s) → Body (g .input) base b → Kept (g .input) (length b) (part s) (part (steps g left R base (suc at) b 0 0 s))
     kept h f (inl q) =
         let x = steps-to (Unit {0}) g left R (runs (Unit {0})) base (suc at) b 0 0 s (λ c. h) (λ c. rw add-zero q) .change .keeps tt f in
         record { fine = x .fine; paid = omega arith }

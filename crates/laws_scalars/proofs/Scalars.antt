@@ -7,10 +7,10 @@ use Rattle.decode_output.specs.Output.{nothing}
 use Rattle.reading.specs.State.{Given, State, start}
 use Rattle.reading.specs.Steps.{run, decode}
 use Rattle.laws_scalars.specs.Scalars.{Table, TextScalars, TextWellFormed}
-use Rattle.laws_scalars.proofs.Written.{Good, releases}
+use Rattle.laws_scalars.proofs.Written.{OfScalars, releases}
 use Rattle.laws_scalars.proofs.Steps.{runs-to}
 
-started : (initial : ℕ) → Good (start initial)
+started : (initial : ℕ) → OfScalars (start initial)
 unfolding start nothing areScalars
 started initial = record { text = tt; marks = tt }
 

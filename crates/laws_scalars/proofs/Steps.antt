@@ -53,28 +53,28 @@ use Rattle.reading.specs.Characters.{isGL, isGR, isGraphic, emitOr, cellOr, cha
 use Rattle.reading.specs.Steps.{space, control0, control1, step, offset, steps, run}
 use Rattle.laws_scalars.specs.Scalars.{Table}
 use Rattle.laws_scalars.proofs.Characters.{either, letter-scalar, symbol-is, kanji-is}
-use Rattle.laws_scalars.proofs.Written.{Good, emits, marked, issued, repeats, placed, newlines}
+use Rattle.laws_scalars.proofs.Written.{OfScalars, emits, marked, issued, repeats, placed, newlines}
 
 -- a step leads to what is of scalars
 abbrev To : Step → Type 0
-To w = Good (w .to)
+To w = OfScalars (w .to)
 
 -- ---- controls
 
-module _ (s : State) (k : Good s) where
+module _ (s : State) (k : OfScalars s) where
   cut : (n at : ℕ) → To (truncated n at s)
   unfolding truncated
   cut n at = issued s k at Truncated
 
-  sized : (b : Bool) → Good (resize b s)
+  sized : (b : Bool) → OfScalars (resize b s)
   unfolding resize
   sized b = record { text = k .text; marks = k .marks }
 
-  invoked-left : (n : ℕ) → Good (invokeGL n s)
+  invoked-left : (n : ℕ) → OfScalars (invokeGL n s)
   unfolding invokeGL
   invoked-left n = record { text = k .text; marks = k .marks }
 
-  invoked-right : (n : ℕ) → Good (invokeGR n s)
+  invoked-right : (n : ℕ) → OfScalars (invokeGR n s)
   unfolding invokeGR
   invoked-right n = record { text = k .text; marks = k .marks }
 
@@ -83,7 +83,7 @@ module _ (s : State) (k : Good s) where
   szx-to [] at = cut 1 at
   szx-to (p ∷ r) at = sized (eqb p 0x60)
 
-  repeat-to : (n at : ℕ) → Good (repeatBy n at s)
+  repeat-to : (n at : ℕ) → OfScalars (repeatBy n at s)
   unfolding repeatBy
   repeat-to zero at = repeats (issue at RepeatToEndOfLine s) (issued s k at RepeatToEndOfLine) 0
   repeat-to (suc n) at = repeats s k (suc n)
@@ -132,7 +132,7 @@ module _ (s : State) (k : Good s) where
 
   abbrev Known : Option State → Type 0
   Known none = Unit {0}
-  Known (some t) = Good t
+  Known (some t) = OfScalars t
 
   shift-known : (f : ℕ) → Known (lockingShift f s)
   unfolding lockingShift
@@ -176,38 +176,38 @@ module _ (s : State) (k : Good s) where
 
   -- ---- characters
 
-  emit-or : (kind : IssueKind) (c : ℕ) → T (isScalar c) → (at : ℕ) → Good (emitOr kind c at s)
+  emit-or : (kind : IssueKind) (c : ℕ) → T (isScalar c) → (at : ℕ) → OfScalars (emitOr kind c at s)
   unfolding emitOr
   emit-or kind zero h at = placed s k at kind
   emit-or kind (suc c) h at = emits s k (suc c) h
 
-  cell-or : (kind : IssueKind) (c : ℕ) → T (isScalar c) → (at : ℕ) → Good (cellOr kind c at s)
+  cell-or : (kind : IssueKind) (c : ℕ) → T (isScalar c) → (at : ℕ) → OfScalars (cellOr kind c at s)
   unfolding cellOr
-  cell-or kind c h at = either Good (hasCharacter nonSpacing c) (marked s k c at h) (emit-or kind c h at)
+  cell-or kind c h at = either OfScalars (hasCharacter nonSpacing c) (marked s k c at h) (emit-or kind c h at)
 
-  mosaic-to : (number c at : ℕ) → Good (mosaic number c at s)
+  mosaic-to : (number c at : ℕ) → OfScalars (mosaic number c at s)
   unfolding mosaic
   mosaic-to number c at = repeats (issue at (Mosaic number c) s) (issued s k at (Mosaic number c)) 0
 
-  space-to : (g : Given) → Good (space g s)
+  space-to : (g : Given) → OfScalars (space g s)
   unfolding space isScalar
   space-to g = go (isNarrow g s)
     where
-      go : (b : Bool) → Good (writes (emit (cond b 0x20 0x3000)) s)
+      go : (b : Bool) → OfScalars (writes (emit (cond b 0x20 0x3000)) s)
       go true = emits s k 0x20 tt
       go false = emits s k 0x3000 tt
 
   module _ (g : Given) (t : Table g) where
-    char2-to : (number a b at : ℕ) → Good (char2 g number a b at s)
+    char2-to : (number a b at : ℕ) → OfScalars (char2 g number a b at s)
     unfolding char2
     char2-to number a b at =
         let code = a * 256 + b in
         let row = a - 0x20 in
         let cell = b - 0x20 in
-        either Good (eqb number 0) (cell-or (UndefinedCode number code) (kanjiAt (g .cells) row cell) (kanji-is g t row cell) at)
-        (either Good (eqb number 14) (cell-or (UndefinedCode number code) (symbol row cell) (symbol-is row cell) at)
-        (either Good (eqb number 12 && leb row 84) (cell-or (UnsupportedCode number code) (kanjiAt (g .cells) row cell) (kanji-is g t row cell) at)
-        (either Good (eqb number 16) (placed s k at (Drcs 0 code)) (placed s k at (UnsupportedCode number code)))))
+        either OfScalars (eqb number 0) (cell-or (UndefinedCode number code) (kanjiAt (g .cells) row cell) (kanji-is g t row cell) at)
+        (either OfScalars (eqb number 14) (cell-or (UndefinedCode number code) (symbol row cell) (symbol-is row cell) at)
+        (either OfScalars (eqb number 12 && leb row 84) (cell-or (UnsupportedCode number code) (kanjiAt (g .cells) row cell) (kanji-is g t row cell) at)
+        (either OfScalars (eqb number 16) (placed s k at (Drcs 0 code)) (placed s k at (UnsupportedCode number code)))))
 
     graphic2-to : (number x : ℕ) (rest : List ℕ) (at : ℕ) → To (graphic2 g number x rest at s)
     unfolding graphic2
@@ -218,66 +218,66 @@ module _ (s : State) (k : Good s) where
 
 -- a run of a body keeps to scalars
 abbrev pub Runs : Run → Type 0
-Runs R = (b : List ℕ) (base origin : ℕ) (s : State) → Good s → Good (R b base origin s)
+Runs R = (b : List ℕ) (base origin : ℕ) (s : State) → OfScalars s → OfScalars (R b base origin s)
 
 module _ (g : Given) (t : Table g) (left : ℕ) (R : Run) (runs : Runs R) where
-  body-to : (body : List ℕ) (base at : ℕ) (s : State) → Good s → Good (runBody g left R body base at s)
+  body-to : (body : List ℕ) (base at : ℕ) (s : State) → OfScalars s → OfScalars (runBody g left R body base at s)
   unfolding runBody charge
   body-to body base at s k =
-      either Good (eqb left 0 || ltb (limit (g .input)) (s .charged + length body)) (issued s k at MacroLimit)
+      either OfScalars (eqb left 0 || ltb (limit (g .input)) (s .charged + length body)) (issued s k at MacroLimit)
       (runs body base (suc at) (charge (length body) s) (record { text = k .text; marks = k .marks }))
 
-  macro-to : (code at : ℕ) (s : State) → Good s → Good (runMacro g left R code at s)
+  macro-to : (code at : ℕ) (s : State) → OfScalars s → OfScalars (runMacro g left R code at s)
   unfolding runMacro
   macro-to code at s k =
-      either Good (eqb (getD (s .starts) code 0) 0)
-      (either Good (leb 0x60 code && leb code 0x6F) (body-to (builtin code) 0 at s k) (issued s k at (UndefinedMacro code)))
+      either OfScalars (eqb (getD (s .starts) code 0) 0)
+      (either OfScalars (leb 0x60 code && leb code 0x6F) (body-to (builtin code) 0 at s k) (issued s k at (UndefinedMacro code)))
       (body-to (take (getD (s .lens) code 0) (drop (getD (s .starts) code 0) (g .input))) (getD (s .starts) code 0) at s k)
 
-  defines : (code place n : ℕ) (s : State) → Good s → Good (define code place n s)
+  defines : (code place n : ℕ) (s : State) → OfScalars s → OfScalars (define code place n s)
   unfolding define
   defines code place n s k = record { text = k .text; marks = k .marks }
 
-  defined-to : (p code n place at : ℕ) (s : State) → Good s → To (defined g left R p code n place at s)
+  defined-to : (p code n place at : ℕ) (s : State) → OfScalars s → To (defined g left R p code n place at s)
   unfolding defined
   defined-to p code n place at s k =
       let d = defines code (place + 3) n s k in
       either To (eqb p 0x41) (macro-to code at (define code (place + 3) n s) d) d
 
-  definition-to : (p : ℕ) (r : List ℕ) (place at : ℕ) (s : State) → Good s → To (definition g left R p r place at s)
+  definition-to : (p : ℕ) (r : List ℕ) (place at : ℕ) (s : State) → OfScalars s → To (definition g left R p r place at s)
   unfolding definition
   definition-to p [] place at s k = cut s k 2 at
   definition-to p (mc ∷ r) place at s k = either To (ltb (endOf r) (length r)) (defined-to p (mc % 128) (endOf r) place at s k) (cut s k (length r + 3) at)
 
-  command-to : (rest : List ℕ) (place at : ℕ) (s : State) → Good s → To (macroCmd g left R rest place at s)
+  command-to : (rest : List ℕ) (place at : ℕ) (s : State) → OfScalars s → To (macroCmd g left R rest place at s)
   unfolding macroCmd
   command-to [] place at s k = cut s k 1 at
   command-to (p ∷ r) place at s k =
       either To (eqb p 0x4F) k
       (either To (eqb p 0x40 || eqb p 0x41) (definition-to p r place at s k) (issued s k at (MalformedControl 0x95)))
 
-  char1-to : (number c at : ℕ) (s : State) → Good s → Good (char1 g left R number c at s)
+  char1-to : (number c at : ℕ) (s : State) → OfScalars s → OfScalars (char1 g left R number c at s)
   unfolding char1
   char1-to number c at s k =
-      either Good (eqb number 15) (macro-to c at s k)
-      (either Good (leb 4 number && leb number 7) (mosaic-to s k number c at)
-      (either Good (leb 17 number) (placed s k at (Drcs (number - 16) c))
+      either OfScalars (eqb number 15) (macro-to c at s k)
+      (either OfScalars (leb 4 number && leb number 7) (mosaic-to s k number c at)
+      (either OfScalars (leb 17 number) (placed s k at (Drcs (number - 16) c))
       (emit-or s k (UndefinedCode number c) (letter (isNarrow g s) number c) (letter-scalar (isNarrow g s) number c) at)))
 
-  graphic-to : (element x : ℕ) (rest : List ℕ) (at : ℕ) (s : State) → Good s → To (graphic g left R element x rest at s)
+  graphic-to : (element x : ℕ) (rest : List ℕ) (at : ℕ) (s : State) → OfScalars s → To (graphic g left R element x rest at s)
   unfolding graphic graphicOf
   graphic-to element x rest at s k =
       let number = getD (s .sets) element 0 in
       either To (eqb (bytesPerChar number) 2) (graphic2-to s k g t number x rest at) (char1-to number (x % 128) at s k)
 
-  shift-to : (element : ℕ) (rest : List ℕ) (at : ℕ) (s : State) → Good s → To (singleShift g left R element rest at s)
+  shift-to : (element : ℕ) (rest : List ℕ) (at : ℕ) (s : State) → OfScalars s → To (singleShift g left R element rest at s)
   unfolding singleShift
   shift-to element [] at s k = cut s k 1 at
   shift-to element (y ∷ r) at s k = either To (isGraphic y) (graphic-to element y r at s k) (issued s k at LoneSingleShift)
 
   -- ---- a step, the steps of a body, and a run
 
-  control0-to : (x : ℕ) (rest : List ℕ) (place at : ℕ) (s : State) → Good s → To (control0 g left R x rest place at s)
+  control0-to : (x : ℕ) (rest : List ℕ) (place at : ℕ) (s : State) → OfScalars s → To (control0 g left R x rest place at s)
   unfolding control0
   control0-to x rest place at s k =
       either To (eqb x 0x20) (space-to s k g)
@@ -289,7 +289,7 @@ module _ (g : Given) (t : Table g) (left : ℕ) (R : Run) (runs : Runs R) where
       (either To (eqb x 0x0D) (newlines s k)
       (fixed-to s k x rest at)))))))
 
-  control1-to : (x : ℕ) (rest : List ℕ) (place at : ℕ) (s : State) → Good s → To (control1 g left R x rest place at s)
+  control1-to : (x : ℕ) (rest : List ℕ) (place at : ℕ) (s : State) → OfScalars s → To (control1 g left R x rest place at s)
   unfolding control1
   control1-to x rest place at s k =
       either To (eqb x 0x88 || eqb x 0x89) (sized s k true)
@@ -302,14 +302,14 @@ module _ (g : Given) (t : Table g) (left : ℕ) (R : Run) (runs : Runs R) where
       (either To (eqb x 0x95) (command-to rest place at s k)
       (fixed-to s k x rest at))))))))
 
-  step-to : (x : ℕ) (rest : List ℕ) (place at : ℕ) (s : State) → Good s → To (step g left R x rest place at s)
+  step-to : (x : ℕ) (rest : List ℕ) (place at : ℕ) (s : State) → OfScalars s → To (step g left R x rest place at s)
   unfolding step
   step-to x rest place at s k =
       either To (isGL x) (graphic-to (s .gl) x rest at s k)
       (either To (isGR x) (graphic-to (s .gr) x rest at s k)
       (either To (ltb x 0x80) (control0-to x rest place at s k) (control1-to x rest place at s k)))
 
-  steps-to : (base origin : ℕ) (b : List ℕ) (i n : ℕ) (s : State) → Good s → Good (steps g left R base origin b i n s)
+  steps-to : (base origin : ℕ) (b : List ℕ) (i n : ℕ) (s : State) → OfScalars s → OfScalars (steps g left R base origin b i n s)
   unfolding steps
   steps-to base origin [] i n s k = k
   steps-to base origin (x ∷ xs) i zero s k =

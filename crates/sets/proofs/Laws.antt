@@ -10,7 +10,7 @@ use borrow.Author.Tests.{ne-eqb, lt-ltb, le-ltb, le-leb, lt-leb}
 use lib.Dec.{T, eqb, leb, eqb→eq}
 use lib.ListN.{length, getD, drop, replicate}
 use Rattle.base.proofs.Table.{every, at}
-use Rattle.sets.specs.Sets.{bytesPerChar, isDrcsForm, finalBytes, finalByte, sequence, designation, hasFinal, firstFrom, fromDesignation, Designation, readDesignation, Holds}
+use Rattle.sets.specs.Sets.{bytesPerChar, isDrcsForm, finalBytes, finalByte, sequence, designation, hasFinal, firstFrom, fromDesignation, Designation, readDesignation, HoldsBytes}
 use Rattle.sets.specs.declared.Sequence.{Sequence}
 
 -- bytes a character and final bytes, by the ranges that the code tests
@@ -82,7 +82,7 @@ drcs-unknown f h m out =
 
 -- a sequence that holds a row of Table 7-2 holds the designation, by what the code knows of the set
 pub designates : {q : Sequence} {count : ℕ} {form : Bool} (s n f : ℕ) (two drcs : Bool) → f ≡ finalByte s → count ≡ bytesPerChar s → eqb count 2 ≡ two → form ≡ isDrcsForm s →
-    form ≡ drcs → Holds q (sequence two drcs n f) → Holds q (designation s n)
+    form ≡ drcs → HoldsBytes q (sequence two drcs n f) → HoldsBytes q (designation s n)
 unfolding designation
 designates s n f two drcs e p t d u h = rw (← p, ← d, ← e, t, u) h
 

@@ -141,7 +141,7 @@ designated (Set s) = some (setNumber s)
 designated Unknown = none
 
 -- a `Sequence` holds the bytes xs, at most five, and zeros after them
-pub record Holds (q : Sequence) (xs : List ℕ) : Type 0 where
+pub record HoldsBytes (q : Sequence) (xs : List ℕ) : Type 0 where
   pub filled : q .bytes ≡ xs ++ replicate (5 - length xs) 0
   pub counted : q .len ≡ length xs
 

@@ -14,7 +14,7 @@ ghost use Rattle.sets.specs.Sets.{
   designation,
   fromDesignation,
   designated,
-  Holds,
+  HoldsBytes,
   shiftBytes,
   shiftElement,
   Compared,
@@ -204,7 +204,7 @@ impl GraphicSet {
 
     /// The escape sequence that designates the set to Gn, n modulo 4: a row of Table 7-2 for each form.
     pub fn designation(self, n: u8) -> Sequence
-        ensures { λ r. ⌜ Holds r (designation (setNumber self) (n % 4)) ⌝ }
+        ensures { λ r. ⌜ HoldsBytes r (designation (setNumber self) (n % 4)) ⌝ }
     {
         let e = n % 4;
         let g = 0x28 + e;
@@ -321,7 +321,7 @@ pub enum Shift {
 impl Shift {
     /// The coded representation: Table 7-1.
     pub fn bytes(self) -> Sequence
-        ensures { λ r. ⌜ Holds r (shiftBytes self) ⌝ }
+        ensures { λ r. ⌜ HoldsBytes r (shiftBytes self) ⌝ }
     {
         match self {
             Shift::Ls0 => Sequence {

@@ -125,6 +125,6 @@ scalars t = scalarsFrom 0 t
 
 -- ---- what `put` promises: c's bytes from the place `at` on, as far as they fit, nothing else changed; and their count
 
-pub record Put (before : List ℕ) (at c : ℕ) (after : List ℕ) (r : ℕ) : Type 0 where
+pub record PutScalar (before : List ℕ) (at c : ℕ) (after : List ℕ) (r : ℕ) : Type 0 where
   pub bytes : after ≡ sets before at (utf8 c)
   pub count : r ≡ length (utf8 c)

@@ -17,7 +17,7 @@ ghost use Rattle.utf8.specs.Utf8.{
   sequence,
   scalarOf,
   firstFault,
-  Put,
+  PutScalar,
 };
 
 /// What stands at a place of a text.
@@ -105,7 +105,7 @@ fn put4(text: &mut [u8], at: usize, a: u8, b: u8, d: u8, e: u8)
 
 /// Writes the bytes of `c` from `at` on, those that fit, and answers how many `c` has: `char::encode_utf8`. Table 3-6.
 pub fn put(text: &mut [u8], at: usize, c: u32) -> usize
-    ensures { λ r. ⌜ Put (now (text .entry)) at c (now (text .exit)) r ⌝ }
+    ensures { λ r. ⌜ PutScalar (now (text .entry)) at c (now (text .exit)) r ⌝ }
 {
     if c < 0x80 {
         put1(text, at, c as u8);

@@ -42,8 +42,7 @@ same-length-2 c = search needs
 
 returns-2 : tie.Need-returns-2 Inv-loop μ-loop
 returns-2 c =
-    let at-place-2 = c .before .before .before .before .before .before in
-    let at-place = at-place-2 in
+    let at-place = c .before .before .before .before .before .before in
     let turn = at-place in
     let inv = turn .loop .inv in
     (inv .letters, omega (arith, inv .room, inv .as-long))
@@ -61,17 +60,14 @@ put3-requires c κs =
 
 add-m : tie.Need-add-m Inv-loop μ-loop
 add-m c =
-    let at-place-2 = c .before .before .before .before .before .before .before .before .before in
-    let at-place = at-place-2 in
-    let at-if1 = at-place in
+    let at-if1 = c .before .before .before .before .before .before .before .before .before in
     let turn = at-if1 .before in
     let inv = turn .loop .inv in
     omega (arith, inv .room, inv .as-long, inv .letters .within, at-if1 .if1 .left)
 
 add-i : tie.Need-add-i Inv-loop μ-loop
 add-i c =
-    let at-place-2 = c .before .before .before .before .before .before .before .before .before in
-    let at-place = at-place-2 in
+    let at-place = c .before .before .before .before .before .before .before .before .before in
     let at-if1 = at-place in
     let turn = at-if1 .before in
     let inv = turn .loop .inv in
@@ -79,8 +75,7 @@ add-i c =
 
 loop-less : tie.Need-loop-less Inv-loop μ-loop
 loop-less c =
-    let at-place-2 = c .before .before .before .before .before .before .before .before .before in
-    let at-place = at-place-2 in
+    let at-place = c .before .before .before .before .before .before .before .before .before in
     let at-if1 = at-place in
     let turn = at-if1 .before in
     let inv = turn .loop .inv in
@@ -130,17 +125,14 @@ put3-requires-2 c κs =
 
 add-m-2 : tie.Need-add-m-2 Inv-loop μ-loop
 add-m-2 c =
-    let at-place-2 = c .before .before .before .before .before .before .before .before .before in
-    let at-place = at-place-2 in
-    let at-if1 = at-place in
+    let at-if1 = c .before .before .before .before .before .before .before .before .before in
     let turn = at-if1 .before in
     let inv = turn .loop .inv in
     omega (arith, inv .room, inv .as-long, inv .letters .within, at-if1 .if1 .left)
 
 add-i-2 : tie.Need-add-i-2 Inv-loop μ-loop
 add-i-2 c =
-    let at-place-2 = c .before .before .before .before .before .before .before .before .before in
-    let at-place = at-place-2 in
+    let at-place = c .before .before .before .before .before .before .before .before .before in
     let at-if1 = at-place in
     let turn = at-if1 .before in
     let inv = turn .loop .inv in
@@ -148,8 +140,7 @@ add-i-2 c =
 
 loop-less-2 : tie.Need-loop-less-2 Inv-loop μ-loop
 loop-less-2 c =
-    let at-place-2 = c .before .before .before .before .before .before .before .before .before in
-    let at-place = at-place-2 in
+    let at-place = c .before .before .before .before .before .before .before .before .before in
     let at-if1 = at-place in
     let turn = at-if1 .before in
     let inv = turn .loop .inv in
@@ -182,8 +173,7 @@ same-length-3 c = search needs
 
 returns-3 : tie.Need-returns-3 Inv-loop μ-loop
 returns-3 c =
-    let at-place-2 = c .before .before .before .before .before .before .before in
-    let at-place = at-place-2 in
+    let at-place = c .before .before .before .before .before .before .before in
     let turn = at-place in
     let inv = turn .loop .inv in
     (inv .letters, omega (arith, inv .room, inv .as-long))
@@ -193,8 +183,7 @@ same-length-4 c = search needs
 
 returns-4 : tie.Need-returns-4 Inv-loop μ-loop
 returns-4 c =
-    let at-place-2 = c .before .before .before .before .before .before .before .before in
-    let at-place = at-place-2 in
+    let at-place = c .before .before .before .before .before .before .before .before in
     let turn = at-place in
     let inv = turn .loop .inv in
     (inv .letters, omega (arith, inv .room, inv .as-long))
@@ -204,8 +193,7 @@ cast-text c = search needs
 
 slice-write-text : tie.Need-slice-write-text Inv-loop μ-loop
 slice-write-text c =
-    let at-place-2 = c .before .before .before .before .before .before .before in
-    let at-place = at-place-2 in
+    let at-place = c .before .before .before .before .before .before .before in
     let at-if1 = at-place in
     let turn = at-if1 .before in
     let inv = turn .loop .inv in
@@ -213,17 +201,14 @@ slice-write-text c =
 
 add-m-3 : tie.Need-add-m-3 Inv-loop μ-loop
 add-m-3 c =
-    let at-place-2 = c .before .before .before .before .before .before .before in
-    let at-place = at-place-2 in
-    let at-if1 = at-place in
+    let at-if1 = c .before .before .before .before .before .before .before in
     let turn = at-if1 .before in
     let inv = turn .loop .inv in
     omega (arith, inv .room, inv .as-long, inv .letters .within, at-if1 .if1 .left)
 
 add-i-3 : tie.Need-add-i-3 Inv-loop μ-loop
 add-i-3 c =
-    let at-place-2 = c .before .before .before .before .before .before .before in
-    let at-place = at-place-2 in
+    let at-place = c .before .before .before .before .before .before .before in
     let at-if1 = at-place in
     let turn = at-if1 .before in
     let inv = turn .loop .inv in
@@ -231,8 +216,7 @@ add-i-3 c =
 
 loop-less-3 : tie.Need-loop-less-3 Inv-loop μ-loop
 loop-less-3 c =
-    let at-place-2 = c .before .before .before .before .before .before .before in
-    let at-place = at-place-2 in
+    let at-place = c .before .before .before .before .before .before .before in
     let at-if1 = at-place in
     let turn = at-if1 .before in
     let inv = turn .loop .inv in

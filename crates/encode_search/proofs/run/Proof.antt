@@ -63,16 +63,26 @@ same-length-2 c = omega arith
 
 returns : tie.Need-returns Inv-loop μ-loop
 returns c =
-    let at-store = c .before .before .before .before in
-    let at-turn = at-store .before in
-    let at-loop = at-turn .before .before .before .before .before .before .before in
-    let at-start = at-loop .before .before .before .before .before .before in
     λ initial b. record {
       inside = λ e. absurd (false≢true e);
-      full = λ cells cs h k e. going-full (at-start .args .chars .now) (at-start .args .kanji .now)
-          (at-start .args .symbols .now) (at-start .args .n) (at-start .args .annex) (at-start .args .rest) (at-start .args .store .now) (at-loop .loop .store)
-          (at-loop .loop .index) (at-loop .loop .j) (at-loop .loop .from) (at-loop .loop .count) (at-loop .loop .left) (at-loop .loop .floor) (at-loop .loop .inv) (omega arith)
-          _ (at-loop .loop .index) _ _ _ _ (at-store .store .given) (at-turn .turn .ensures) (not-true _ (c .if1 .taken)) cells cs h k initial b;
+      full = λ cells cs h k e. going-full
+          (c .before .before .before .before .before .before .before .before .before .before .before .before .before .before .before .before .before .before .args .chars .now)
+          (c .before .before .before .before .before .before .before .before .before .before .before .before .before .before .before .before .before .before .args .kanji .now)
+          (c .before .before .before .before .before .before .before .before .before .before .before .before .before .before .before .before .before .before .args .symbols .now)
+          (c .before .before .before .before .before .before .before .before .before .before .before .before .before .before .before .before .before .before .args .n)
+          (c .before .before .before .before .before .before .before .before .before .before .before .before .before .before .before .before .before .before .args .annex)
+          (c .before .before .before .before .before .before .before .before .before .before .before .before .before .before .before .before .before .before .args .rest)
+          (c .before .before .before .before .before .before .before .before .before .before .before .before .before .before .before .before .before .before .args .store .now)
+          (c .before .before .before .before .before .before .before .before .before .before .before .before .loop .store)
+          (c .before .before .before .before .before .before .before .before .before .before .before .before .loop .index)
+          (c .before .before .before .before .before .before .before .before .before .before .before .before .loop .j)
+          (c .before .before .before .before .before .before .before .before .before .before .before .before .loop .from)
+          (c .before .before .before .before .before .before .before .before .before .before .before .before .loop .count)
+          (c .before .before .before .before .before .before .before .before .before .before .before .before .loop .left)
+          (c .before .before .before .before .before .before .before .before .before .before .before .before .loop .floor)
+          (c .before .before .before .before .before .before .before .before .before .before .before .before .loop .inv) (omega arith) _
+          (c .before .before .before .before .before .before .before .before .before .before .before .before .loop .index) _ _ _ _
+          (c .before .before .before .before .store .given) (c .before .before .before .before .before .turn .ensures) (not-true _ (c .if1 .taken)) cells cs h k initial b;
       done = λ cells cs h k r e. absurd (false≢true e);
     }
 
@@ -87,14 +97,23 @@ loop-less c = omega arith
 
 loop-again : tie.Need-loop-again Inv-loop μ-loop
 loop-again c =
-    let at-index = c .before .before in
-    let at-store = at-index .before .before in
-    let at-turn = at-store .before in
-    let at-loop = at-turn .before .before .before .before .before .before .before in
-    let at-start = at-loop .before .before .before .before .before .before in
-    going-on (at-start .args .chars .now) (at-start .args .kanji .now) (at-start .args .symbols .now) (at-start .args .n) (at-start .args .annex) (at-start .args .rest)
-    (at-start .args .store .now) (at-loop .loop .store) (at-loop .loop .index) (at-loop .loop .j) (at-loop .loop .from) (at-loop .loop .count) (at-loop .loop .left)
-    (at-loop .loop .floor) (at-loop .loop .inv) (omega arith) _ _ _ _ _ _ (at-store .store .given) (at-turn .turn .ensures) (at-index .index .given)
+    going-on
+    (c .before .before .before .before .before .before .before .before .before .before .before .before .before .before .before .before .before .before .args .chars .now)
+    (c .before .before .before .before .before .before .before .before .before .before .before .before .before .before .before .before .before .before .args .kanji .now)
+    (c .before .before .before .before .before .before .before .before .before .before .before .before .before .before .before .before .before .before .args .symbols .now)
+    (c .before .before .before .before .before .before .before .before .before .before .before .before .before .before .before .before .before .before .args .n)
+    (c .before .before .before .before .before .before .before .before .before .before .before .before .before .before .before .before .before .before .args .annex)
+    (c .before .before .before .before .before .before .before .before .before .before .before .before .before .before .before .before .before .before .args .rest)
+    (c .before .before .before .before .before .before .before .before .before .before .before .before .before .before .before .before .before .before .args .store .now)
+    (c .before .before .before .before .before .before .before .before .before .before .before .before .loop .store)
+    (c .before .before .before .before .before .before .before .before .before .before .before .before .loop .index)
+    (c .before .before .before .before .before .before .before .before .before .before .before .before .loop .j)
+    (c .before .before .before .before .before .before .before .before .before .before .before .before .loop .from)
+    (c .before .before .before .before .before .before .before .before .before .before .before .before .loop .count)
+    (c .before .before .before .before .before .before .before .before .before .before .before .before .loop .left)
+    (c .before .before .before .before .before .before .before .before .before .before .before .before .loop .floor)
+    (c .before .before .before .before .before .before .before .before .before .before .before .before .loop .inv) (omega arith) _ _ _ _ _ _
+    (c .before .before .before .before .store .given) (c .before .before .before .before .before .turn .ensures) (c .before .before .index .given)
     (not-false _ (c .if1 .left))
 
 same-length-3 : tie.Need-same-length-3 Inv-loop μ-loop
