@@ -10,8 +10,8 @@ use borrow.Author.Tests.{eq-eqb, ne-eqb}
 use lib.Dec.{eqb}
 use lib.ListN.{length}
 use lib.Seq.{sets}
-use Rattle.lent.specs.Put.{PutScalar}
-use Rattle.utf8.specs.Utf8.{utf8, utf8s, PutScalar as utf8·Put}
+use Rattle.lent.specs.Put.{Put}
+use Rattle.utf8.specs.Utf8.{utf8, utf8s, PutScalar}
 use Rattle.key_text.specs.declared.Kept.the-variants.{Char, Nothing}
 use Rattle.key_text.specs.KeyText.{keyChar, kept, keyText}
 use Rattle.key_text.specs.Contracts.{keptOf}
@@ -47,11 +47,11 @@ first-bytes c cs = go (keyChar c)
 
 -- the code's answer for a character, and what is to be put for it
 module _ (before : List ℕ) (at c : ℕ) where
-  pub put-char : (x n : ℕ) (after : List ℕ) → keptOf (keyChar c) ≡ Char x → utf8·Put before at x after n → PutScalar before at (utf8s (kept (keyChar c) [])) after (at + n)
+  pub put-char : (x n : ℕ) (after : List ℕ) → keptOf (keyChar c) ≡ Char x → PutScalar before at x after n → Put before at (utf8s (kept (keyChar c) [])) after (at + n)
   unfolding kept utf8s
   put-char x n after e p = go (keyChar c) refl e
     where
-      go : (o : Option ℕ) → keyChar c ≡ o → keptOf o ≡ Char x → PutScalar before at (utf8s (kept (keyChar c) [])) after (at + n)
+      go : (o : Option ℕ) → keyChar c ≡ o → keptOf o ≡ Char x → Put before at (utf8s (kept (keyChar c) [])) after (at + n)
       go none q f = absurd (let z : _≡_ {A = ℕ} 0 1 = cc in omega arith)
       go (some y) q f =
           let same : y ≡ x = cc in
@@ -60,10 +60,10 @@ module _ (before : List ℕ) (at c : ℕ) where
             next = rw (q, append-nil, same) (ap (λ (k : ℕ). at + k) (p .count));
           }
 
-  pub put-nothing : keptOf (keyChar c) ≡ Nothing → PutScalar before at (utf8s (kept (keyChar c) [])) before at
+  pub put-nothing : keptOf (keyChar c) ≡ Nothing → Put before at (utf8s (kept (keyChar c) [])) before at
   unfolding kept utf8s
   put-nothing e = go (keyChar c) refl e
     where
-      go : (o : Option ℕ) → keyChar c ≡ o → keptOf o ≡ Nothing → PutScalar before at (utf8s (kept (keyChar c) [])) before at
+      go : (o : Option ℕ) → keyChar c ≡ o → keptOf o ≡ Nothing → Put before at (utf8s (kept (keyChar c) [])) before at
       go none q f = record { written = rw q; next = rw q (omega arith) }
       go (some y) q f = absurd (let z : _≡_ {A = ℕ} 0 1 = cc in omega arith)
