@@ -39,7 +39,8 @@ reported c at kind o t i i′ k w =
       kept = record { gl = k .gl; gr = k .gr; charged = refl; grew = record { ordered = w .grew .ordered; repeat = w .grew .repeat; text = omega (arith, w .grew .text); issues = w .grew .issues } };
     }
 
-pub moved-issue : {at : ℕ} {kind : IssueKind} {c : Core} {t i : List ℕ} {r : Core} {i′ : List ℕ} (n : ℕ) → Reported at kind c t i r i′ → Moved n (λ s. took n (issue at kind s)) c t i (stepped n r) t i′
+pub moved-issue : {at : ℕ} {kind : IssueKind} {c : Core} {t i : List ℕ} {r : Core} {i′ : List ℕ} (n : ℕ) → Reported at kind c t i r i′
+    → Moved n (λ s. took n (issue at kind s)) c t i (stepped n r) t i′
 moved-issue n w = record { moves = λ g. record { does = w .does g; used = λ starts lens t₀ i₀ s h. refl }; used = refl; kept = w .kept }
 
 module _ (c : Core) (t i : List ℕ) (k : Good 1 c) where
@@ -87,10 +88,11 @@ module _ (c : Core) (t i : List ℕ) (k : Good 1 c) where
   pub moved-wait : (u n : ℕ) → n ≤ 63 → Moved u (λ s. took u (writes (setRepeat n) s)) c t i (stepped u (withRepeat c n)) t i
   moved-wait u n p =
       let w = wrote-repeat n t i (k .room) p in
+      let v = k .room in
       record {
         moves = λ g. record { does = λ starts lens t₀ i₀ s h. holds-writes g starts lens t₀ i₀ s c t i h (setRepeat n) _ t i (w .does t₀ i₀ (s .out) (h .out)); used = λ starts lens t₀ i₀ s h. refl };
         used = refl;
-        kept = record { gl = k .gl; gr = k .gr; charged = refl; grew = record { ordered = k .room .ordered; repeat = p; text = omega (arith, k .room .text); issues = omega (arith, k .room .issues) } };
+        kept = record { gl = k .gl; gr = k .gr; charged = refl; grew = record { ordered = v .ordered; repeat = p; text = omega (arith, v .text); issues = omega (arith, v .issues) } };
       }
 
 -- a step that is another at every state

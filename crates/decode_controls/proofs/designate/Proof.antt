@@ -1,4 +1,4 @@
--- `controls::designate` meets its contract. Assumes nothing.
+-- `designate` meets its contract. Assumes nothing.
 use mathlib.Core.Path.{sym, ap, _∙_}
 use mathlib.Core.Option.{some}
 use native.Mathlib.Omega.{arith}
@@ -27,7 +27,9 @@ enum-told : tie.Need-enum-told
 enum-told c = search needs
 
 returns : tie.Need-returns
-returns c = means-set _ _ _ (c .before .before .before .before .before .pre) (sym (c .before .before .before .before .from-designation .ensures) ∙ ap designated (c .before .before .d .given .1) ∙ ap some (sym (c .number .ensures)))
+returns c =
+    let found = c .before .before .before .before .from-designation .ensures in
+    means-set _ _ _ (c .before .before .before .before .before .pre) (sym found ∙ ap designated (c .before .before .d .given .1) ∙ ap some (sym (c .number .ensures)))
 
 returns-2 : tie.Need-returns-2
 returns-2 c = means-none _ _ (sym (c .before .before .from-designation .ensures) ∙ ap designated (c .enum-told .given .1))

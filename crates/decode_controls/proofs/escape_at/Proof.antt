@@ -1,4 +1,4 @@
--- `controls::escape_at` meets its contract. Assumes nothing.
+-- `escape_at` meets its contract. Assumes nothing.
 use lib.ListN.{getD}
 use native.Mathlib.Omega.{arith}
 use Rattle.decode_controls.proofs.Escapes.{shift-bytes, means-shift, means-one, means-two, means-three, past-four, means-many}

@@ -40,7 +40,10 @@ returns c =
 returns-2 : tie.Need-returns-2
 returns-2 c =
     let a = c .before .before .before .before .before .before .before .before .args in
-    c .cut .ensures _ (λ place at s. fixed-cut (a .b .now) (a .i) at s (c .before .before .before .before .before .before .before .before .pre) _ (count-some _ _ (sym (c .before .before .before .before .before .fixed-params .ensures) ∙ c .before .before .before .params .given .1)) (c .before .if1 .left))
+    let inside = c .before .before .before .before .before .before .before .before .pre in
+    let answer = c .before .before .before .before .before .fixed-params .ensures in
+    let few = c .before .if1 .left in
+    c .cut .ensures _ (λ place at s. fixed-cut (a .b .now) (a .i) at s inside _ (count-some _ _ (sym answer ∙ c .before .before .before .params .given .1)) few)
 
 returns-3 : tie.Need-returns-3
 unfolding stepOf

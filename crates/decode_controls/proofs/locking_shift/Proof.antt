@@ -1,4 +1,4 @@
--- `controls::locking_shift` meets its contract. Assumes nothing.
+-- `locking_shift` meets its contract. Assumes nothing.
 use Rattle.decode_controls.proofs.Escapes.{not-final, is-final, shift-ls2, shift-ls3, shift-ls1r, shift-ls2r, shift-ls3r, shift-none}
 use borrow.Author.Needs.{needs}
 use Rattle.decode_controls.proofs.locking_shift.Statement.{statement}
@@ -36,9 +36,17 @@ returns-5 c = λ f e. shift-ls3r f (is-final f 0x7C e (c .before .is5 .ensures) 
 
 returns-6 : tie.Need-returns-6
 returns-6 c =
+    let at4 = c .before .before in
+    let at3 = at4 .before .before in
+    let at2 = at3 .before .before in
+    let at1 = at2 .before .before in
     λ f e.
-    shift-none f (not-final f 0x6E e (c .before .before .before .before .before .before .before .before .before .is .ensures) (c .before .before .before .before .before .before .before .before .if1 .left)) (not-final f 0x6F e (c .before .before .before .before .before .before .before .is2 .ensures) (c .before .before .before .before .before .before .if2 .left))
-    (not-final f 0x7E e (c .before .before .before .before .before .is3 .ensures) (c .before .before .before .before .if3 .left)) (not-final f 0x7D e (c .before .before .before .is4 .ensures) (c .before .before .if4 .left)) (not-final f 0x7C e (c .before .is5 .ensures) (c .if5 .left))
+    shift-none f
+    (not-final f 0x6E e (at1 .before .is .ensures) (at1 .if1 .left))
+    (not-final f 0x6F e (at2 .before .is2 .ensures) (at2 .if2 .left))
+    (not-final f 0x7E e (at3 .before .is3 .ensures) (at3 .if3 .left))
+    (not-final f 0x7D e (at4 .before .is4 .ensures) (at4 .if4 .left))
+    (not-final f 0x7C e (c .before .is5 .ensures) (c .if5 .left))
 
 pub locking-shift-spec : {M : Type 1} → statement M
 locking-shift-spec =

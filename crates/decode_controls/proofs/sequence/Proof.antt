@@ -53,7 +53,9 @@ returns-3 c =
     let led = c .before .before .before .before .before .leading in
     let more = c .before .before .before .before .if1 .left in
     reads-of _ _ (bounded refl refl) (omega (arith, led .ensures)) (omega (arith, led .ensures))
-    (λ place at s. sequence-malformed (a .strict) (a .code) (a .b .now) (a .i) (a .from) (led .result) at s (p .0) (p .1) (led .ensures) more (sym (c .before .before .is-final .ensures) ∙ c .before .if2 .left) (c .if3 .taken))
+    (λ place at s.
+    sequence-malformed (a .strict) (a .code) (a .b .now) (a .i) (a .from) (led .result) at s (p .0) (p .1) (led .ensures) more
+    (sym (c .before .before .is-final .ensures) ∙ c .before .if2 .left) (c .if3 .taken))
 
 sub-t7 : tie.Need-sub-t7
 sub-t7 c = search needs
@@ -65,7 +67,9 @@ returns-4 c =
     let led = c .before .before .before .before .before .leading in
     let more = c .before .before .before .before .if1 .left in
     reads-nothing _ (omega (arith, led .ensures)) (omega (arith, led .ensures))
-    (λ at s. sequence-other (a .strict) (a .code) (a .b .now) (a .i) (a .from) (led .result) at s (p .0) (p .1) (led .ensures) more (sym (c .before .before .is-final .ensures) ∙ c .before .if2 .left) (c .if3 .left))
+    (λ at s.
+    sequence-other (a .strict) (a .code) (a .b .now) (a .i) (a .from) (led .result) at s (p .0) (p .1) (led .ensures) more
+    (sym (c .before .before .is-final .ensures) ∙ c .before .if2 .left) (c .if3 .left))
 
 pub sequence-spec : {M : Type 1} → statement M
 sequence-spec =

@@ -18,7 +18,9 @@ same-length c = search needs
 returns : tie.Need-returns
 returns c =
     let a = c .before .before .before .before .before .before .before .args in
-    λ t. moved-as (λ σ. ap (λ (n : ℕ). took (a .used) (repeatBy n (a .at) σ)) (c .before .before .before .before .before .if1 .taken)) (moved-line (a .used) (c .before .before .before .before .before .before .before .pre .1) (c .before .before .before .issue .ensures t))
+    let zero = c .before .before .before .before .before .if1 .taken in
+    let issued = c .before .before .before .issue .ensures in
+    λ t. moved-as (λ σ. ap (λ (n : ℕ). took (a .used) (repeatBy n (a .at) σ)) zero) (moved-line (a .used) (c .before .before .before .before .before .before .before .pre .1) (issued t))
 
 returns-2 : tie.Need-returns-2
 returns-2 c =

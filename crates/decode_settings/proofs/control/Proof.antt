@@ -100,8 +100,10 @@ returns : tie.Need-returns
 unfolding step control0 isGL isGR
 returns c =
     let a = c .before .before .before .before .before .before .before .before .before .args in
-    λ g left R place at.
-    turns-as (λ s. ap (λ (x : ℕ). step g left R x (drop (a .i + 1) (a .b .now)) place at s) (c .before .before .before .before .before .match .keys1)) (c .before .before .apply .ensures _ _ _ (c .before .before .before .before .invoke .ensures (a .b .now) (a .i) (c .before .before .before .before .before .before .before .before .before .pre .0)) place at)
+    let is = c .before .before .before .before .before .match .keys1 in
+    let done = c .before .before .apply .ensures in
+    let read = c .before .before .before .before .invoke .ensures (a .b .now) (a .i) (c .before .before .before .before .before .before .before .before .before .pre .0) in
+    λ g left R place at. turns-as (λ s. ap (λ (x : ℕ). step g left R x (drop (a .i + 1) (a .b .now)) place at s) is) (done _ _ _ read place at)
 
 same-length-2 : tie.Need-same-length-2
 same-length-2 c = search needs
@@ -110,8 +112,10 @@ returns-2 : tie.Need-returns-2
 unfolding step control0 isGL isGR
 returns-2 c =
     let a = c .before .before .before .before .before .before .before .before .before .args in
-    λ g left R place at.
-    turns-as (λ s. ap (λ (x : ℕ). step g left R x (drop (a .i + 1) (a .b .now)) place at s) (c .before .before .before .before .before .match .keys2)) (c .before .before .apply2 .ensures _ _ _ (c .before .before .before .before .invoke2 .ensures (a .b .now) (a .i) (c .before .before .before .before .before .before .before .before .before .pre .0)) place at)
+    let is = c .before .before .before .before .before .match .keys2 in
+    let done = c .before .before .apply2 .ensures in
+    let read = c .before .before .before .before .invoke2 .ensures (a .b .now) (a .i) (c .before .before .before .before .before .before .before .before .before .pre .0) in
+    λ g left R place at. turns-as (λ s. ap (λ (x : ℕ). step g left R x (drop (a .i + 1) (a .b .now)) place at s) is) (done _ _ _ read place at)
 
 same-length-3 : tie.Need-same-length-3
 same-length-3 c = search needs
@@ -120,8 +124,10 @@ returns-3 : tie.Need-returns-3
 unfolding step control0 isGL isGR
 returns-3 c =
     let a = c .before .before .before .before .before .before .before .before .before .args in
-    λ g left R place at.
-    turns-as (λ s. ap (λ (x : ℕ). step g left R x (drop (a .i + 1) (a .b .now)) place at s) (c .before .before .before .before .before .match .keys3)) (c .before .before .apply3 .ensures _ _ _ (c .before .before .before .before .escape .ensures) place at)
+    let is = c .before .before .before .before .before .match .keys3 in
+    let done = c .before .before .apply3 .ensures in
+    let read = c .before .before .before .before .escape .ensures in
+    λ g left R place at. turns-as (λ s. ap (λ (x : ℕ). step g left R x (drop (a .i + 1) (a .b .now)) place at s) is) (done _ _ _ read place at)
 
 same-length-4 : tie.Need-same-length-4
 same-length-4 c = search needs
@@ -130,8 +136,10 @@ returns-4 : tie.Need-returns-4
 unfolding step control1 isGL isGR
 returns-4 c =
     let a = c .before .before .before .before .before .before .before .before .before .args in
-    λ g left R place at.
-    turns-as (λ s. ap (λ (x : ℕ). step g left R x (drop (a .i + 1) (a .b .now)) place at s) (c .before .before .before .before .before .match .keys4)) (c .before .before .apply4 .ensures _ _ _ (c .before .before .before .before .size .ensures (a .b .now) (a .i) (c .before .before .before .before .before .before .before .before .before .pre .0)) place at)
+    let is = c .before .before .before .before .before .match .keys4 in
+    let done = c .before .before .apply4 .ensures in
+    let read = c .before .before .before .before .size .ensures (a .b .now) (a .i) (c .before .before .before .before .before .before .before .before .before .pre .0) in
+    λ g left R place at. turns-as (λ s. ap (λ (x : ℕ). step g left R x (drop (a .i + 1) (a .b .now)) place at s) is) (done _ _ _ read place at)
 
 same-length-5 : tie.Need-same-length-5
 same-length-5 c = search needs
@@ -140,8 +148,10 @@ returns-5 : tie.Need-returns-5
 unfolding step control1 isGL isGR
 returns-5 c =
     let a = c .before .before .before .before .before .before .before .before .before .args in
-    λ g left R place at.
-    turns-as (λ s. ap (λ (x : ℕ). step g left R x (drop (a .i + 1) (a .b .now)) place at s) (c .before .before .before .before .before .match .keys5)) (c .before .before .apply5 .ensures _ _ _ (c .before .before .before .before .size2 .ensures (a .b .now) (a .i) (c .before .before .before .before .before .before .before .before .before .pre .0)) place at)
+    let is = c .before .before .before .before .before .match .keys5 in
+    let done = c .before .before .apply5 .ensures in
+    let read = c .before .before .before .before .size2 .ensures (a .b .now) (a .i) (c .before .before .before .before .before .before .before .before .before .pre .0) in
+    λ g left R place at. turns-as (λ s. ap (λ (x : ℕ). step g left R x (drop (a .i + 1) (a .b .now)) place at s) is) (done _ _ _ read place at)
 
 same-length-6 : tie.Need-same-length-6
 same-length-6 c = search needs
@@ -150,8 +160,10 @@ returns-6 : tie.Need-returns-6
 unfolding step control1 isGL isGR
 returns-6 c =
     let a = c .before .before .before .before .before .before .before .before .before .args in
-    λ g left R place at.
-    turns-as (λ s. ap (λ (x : ℕ). step g left R x (drop (a .i + 1) (a .b .now)) place at s) (c .before .before .before .before .before .match .keys6)) (c .before .before .apply6 .ensures _ _ _ (c .before .before .before .before .size3 .ensures (a .b .now) (a .i) (c .before .before .before .before .before .before .before .before .before .pre .0)) place at)
+    let is = c .before .before .before .before .before .match .keys6 in
+    let done = c .before .before .apply6 .ensures in
+    let read = c .before .before .before .before .size3 .ensures (a .b .now) (a .i) (c .before .before .before .before .before .before .before .before .before .pre .0) in
+    λ g left R place at. turns-as (λ s. ap (λ (x : ℕ). step g left R x (drop (a .i + 1) (a .b .now)) place at s) is) (done _ _ _ read place at)
 
 same-length-7 : tie.Need-same-length-7
 same-length-7 c = search needs
@@ -160,8 +172,10 @@ returns-7 : tie.Need-returns-7
 unfolding step control1 isGL isGR
 returns-7 c =
     let a = c .before .before .before .before .before .before .before .before .before .args in
-    λ g left R place at.
-    turns-as (λ s. ap (λ (x : ℕ). step g left R x (drop (a .i + 1) (a .b .now)) place at s) (c .before .before .before .before .before .match .keys7)) (c .before .before .apply7 .ensures _ _ _ (c .before .before .before .before .szx .ensures) place at)
+    let is = c .before .before .before .before .before .match .keys7 in
+    let done = c .before .before .apply7 .ensures in
+    let read = c .before .before .before .before .szx .ensures in
+    λ g left R place at. turns-as (λ s. ap (λ (x : ℕ). step g left R x (drop (a .i + 1) (a .b .now)) place at s) is) (done _ _ _ read place at)
 
 same-length-8 : tie.Need-same-length-8
 same-length-8 c = search needs
@@ -169,7 +183,9 @@ same-length-8 c = search needs
 returns-8 : tie.Need-returns-8
 returns-8 c =
     let a = c .before .before .before .before .before .before .before .before .before .args in
-    λ g left R place at. turns-as (λ s. step-colour g left R _ (drop (a .i + 1) (a .b .now)) place at s (c .before .before .before .before .before .match .keys8)) (c .before .before .apply8 .ensures _ _ _ (c .before .before .before .before .colour .ensures) place at)
+    let is = c .before .before .before .before .before .match .keys8 in
+    λ g left R place at.
+    turns-as (λ s. step-colour g left R _ (drop (a .i + 1) (a .b .now)) place at s is) (c .before .before .apply8 .ensures _ _ _ (c .before .before .before .before .colour .ensures) place at)
 
 same-length-9 : tie.Need-same-length-9
 same-length-9 c = search needs
@@ -178,8 +194,10 @@ returns-9 : tie.Need-returns-9
 unfolding step control1 isGL isGR
 returns-9 c =
     let a = c .before .before .before .before .before .before .before .before .before .args in
-    λ g left R place at.
-    turns-as (λ s. ap (λ (x : ℕ). step g left R x (drop (a .i + 1) (a .b .now)) place at s) (c .before .before .before .before .before .match .keys9)) (c .before .before .apply9 .ensures _ _ _ (c .before .before .before .before .csi .ensures) place at)
+    let is = c .before .before .before .before .before .match .keys9 in
+    let done = c .before .before .apply9 .ensures in
+    let read = c .before .before .before .before .csi .ensures in
+    λ g left R place at. turns-as (λ s. ap (λ (x : ℕ). step g left R x (drop (a .i + 1) (a .b .now)) place at s) is) (done _ _ _ read place at)
 
 same-length-10 : tie.Need-same-length-10
 same-length-10 c = search needs
@@ -188,14 +206,20 @@ returns-10 : tie.Need-returns-10
 unfolding step control1 isGL isGR
 returns-10 c =
     let a = c .before .before .before .before .before .before .before .before .before .args in
-    λ g left R place at.
-    turns-as (λ s. ap (λ (x : ℕ). step g left R x (drop (a .i + 1) (a .b .now)) place at s) (c .before .before .before .before .before .match .keys10)) (c .before .before .apply10 .ensures _ _ _ (c .before .before .before .before .time .ensures) place at)
+    let is = c .before .before .before .before .before .match .keys10 in
+    let done = c .before .before .apply10 .ensures in
+    let read = c .before .before .before .before .time .ensures in
+    λ g left R place at. turns-as (λ s. ap (λ (x : ℕ). step g left R x (drop (a .i + 1) (a .b .now)) place at s) is) (done _ _ _ read place at)
 
 returns-11 : tie.Need-returns-11
-returns-11 c = λ g left R place at. turns-none (c .before .before .before .before .pre .1) (c .before .before .before .before .pre .0)
+returns-11 c =
+    let p = c .before .before .before .before .pre in
+    λ g left R place at. turns-none (p .1) (p .0)
 
 returns-12 : tie.Need-returns-12
-returns-12 c = λ g left R place at. turns-none (c .before .before .before .before .before .before .pre .1) (c .before .before .before .before .before .before .pre .0)
+returns-12 c =
+    let p = c .before .before .before .before .before .before .pre in
+    λ g left R place at. turns-none (p .1) (p .0)
 
 returns-13 : tie.Need-returns-13
 returns-13 c =
@@ -224,7 +248,9 @@ returns-13 c =
     ∙ fixed-all (a .b .now) (a .i) at s inside 0 (colours x p q) (omega arith))
 
 returns-14 : tie.Need-returns-14
-returns-14 c = λ g left R place at. turns-none (c .before .before .before .before .before .before .before .before .before .before .pre .1) (c .before .before .before .before .before .before .before .before .before .before .pre .0)
+returns-14 c =
+    let p = c .before .before .before .before .before .before .before .before .before .before .pre in
+    λ g left R place at. turns-none (p .1) (p .0)
 
 same-length-11 : tie.Need-same-length-11
 same-length-11 c = search needs
@@ -236,9 +262,11 @@ returns-15 c =
     let m = c .before .before .before .before .before .before .match .rest in
     let came = c .before .before .before .before .before .if1 .came in
     let l : isGL x ≡ false =
-      ⊎-elim (λ w. gl-below x (omega (arith, w .taken))) (⊎-elim (λ w. gl-above x (w .1 .left)) (⊎-elim (λ w. gl-above x (w .1 .left)) (λ w. gl-above x (w .1 .left)))) came in
+    ⊎-elim (λ w. gl-below x (omega (arith, w .taken)))
+    (⊎-elim (λ w. gl-above x (w .1 .left)) (⊎-elim (λ w. gl-above x (w .1 .left)) (λ w. gl-above x (w .1 .left)))) came in
     let r : isGR x ≡ false =
-      ⊎-elim (λ w. gr-below x (omega (arith, w .taken))) (⊎-elim (λ w. gr-below x (omega (arith, w .2 .taken))) (⊎-elim (λ w. gr-below x (w .4 .taken)) (λ w. gr-above x (w .5 .left)))) came in
+    ⊎-elim (λ w. gr-below x (omega (arith, w .taken)))
+    (⊎-elim (λ w. gr-below x (omega (arith, w .2 .taken))) (⊎-elim (λ w. gr-below x (w .4 .taken)) (λ w. gr-above x (w .5 .left)))) came in
     λ g left R place at.
     turns-as
     (λ s.

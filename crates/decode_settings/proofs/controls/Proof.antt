@@ -35,7 +35,8 @@ loop-less c = search needs
 
 loop-again : tie.Need-loop-again Inv-loop μ-loop
 loop-again c =
-    controls-more (c .before .before .before .before .before .before .loop .inv) (c .before .before .before .control .ensures) (c .if1 .left) (c .before .before .before .before .before .loop-test .taken)
+    let at-control = c .before .before .before in
+    controls-more (at-control .before .before .before .loop .inv) (at-control .control .ensures) (c .if1 .left) (at-control .before .before .loop-test .taken)
 
 same-length-2 : tie.Need-same-length-2 Inv-loop μ-loop
 same-length-2 c = search needs

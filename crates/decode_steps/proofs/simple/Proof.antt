@@ -61,8 +61,10 @@ control-requires c κs =
     let x = getD (a .b .now) (a .i) 0 in
     let came = c .before .if1 .came in
     let other = c .before .before .match .rest in
-    let l : isGL x ≡ false = ⊎-elim (λ w. gl-below x (omega (arith, w .taken))) (⊎-elim (λ w. gl-above x (w .1 .left)) (λ w. gl-above x (w .1 .left))) came in
-    let r : isGR x ≡ false = ⊎-elim (λ w. gr-below x (omega (arith, w .taken))) (⊎-elim (λ w. gr-below x (w .2 .taken)) (λ w. gr-above x (w .3 .left))) came in
+    let l : isGL x ≡ false = ⊎-elim (λ w. gl-below x (omega (arith, w .taken)))
+    (⊎-elim (λ w. gl-above x (w .1 .left)) (λ w. gl-above x (w .1 .left))) came in
+    let r : isGR x ≡ false = ⊎-elim (λ w. gr-below x (omega (arith, w .taken)))
+    (⊎-elim (λ w. gr-below x (w .2 .taken)) (λ w. gr-above x (w .3 .left))) came in
     ((p .0 .0, p .0 .1, record { gl = l; gr = r; space = other .0 .0 .0 .1; newline = other .0 .0 .1; ss2 = other .0 .1; ss3 = other .1; macro = p .1 .1 .command }), p .1 .0)
 
 same-length : tie.Need-same-length
@@ -71,7 +73,10 @@ same-length c = search needs
 returns : tie.Need-returns
 returns c =
     let a = c .before .before .before .before .before .before .before .before .before .before .args in
-    λ left R. took-as (λ g starts lens t₀ i₀ s h. step-space g left R _ _ _ _ s (c .before .before .before .before .match .keys1)) (c .before .before .space .ensures (a .cells .now) (a .b .now) (a .issues .now) (a .i) (c .before .before .before .before .before .before .before .before .before .before .pre .0 .0))
+    let is = c .before .before .before .before .match .keys1 in
+    let inside = c .before .before .before .before .before .before .before .before .before .before .pre .0 .0 in
+    λ left R.
+    took-as (λ g starts lens t₀ i₀ s h. step-space g left R _ _ _ _ s is) (c .before .before .space .ensures (a .cells .now) (a .b .now) (a .issues .now) (a .i) inside)
 
 same-length-2 : tie.Need-same-length-2
 same-length-2 c = search needs
@@ -82,7 +87,10 @@ same-length-3 c = search needs
 returns-2 : tie.Need-returns-2
 returns-2 c =
     let a = c .before .before .before .before .before .before .before .before .before .before .before .before .before .args in
-    λ left R. took-as (λ g starts lens t₀ i₀ s h. step-newline g left R _ _ _ _ s (c .before .before .before .before .before .before .before .match .keys2)) (c .before .before .before .before .newline .ensures (a .cells .now) (a .b .now) (a .i) (c .before .before .before .before .before .before .before .before .before .before .before .before .before .pre .0 .0))
+    let is = c .before .before .before .before .before .before .before .match .keys2 in
+    let inside = c .before .before .before .before .before .before .before .before .before .before .before .before .before .pre .0 .0 in
+    λ left R.
+    took-as (λ g starts lens t₀ i₀ s h. step-newline g left R _ _ _ _ s is) (c .before .before .before .before .newline .ensures (a .cells .now) (a .b .now) (a .i) inside)
 
 same-length-4 : tie.Need-same-length-4
 same-length-4 c = search needs
@@ -92,7 +100,8 @@ same-length-5 c = search needs
 
 returns-3 : tie.Need-returns-3
 returns-3 c =
-    λ left R. took-as (λ g starts lens t₀ i₀ s h. sym (step-shift g left R _ _ _ _ s 2 (inl (c .before .before .before .before .before .before .before .match .keys3, refl)))) (c .before .before .before .before .single-shift .ensures left R)
+    let is = c .before .before .before .before .before .before .before .match .keys3 in
+    λ left R. took-as (λ g starts lens t₀ i₀ s h. sym (step-shift g left R _ _ _ _ s 2 (inl (is, refl)))) (c .before .before .before .before .single-shift .ensures left R)
 
 same-length-6 : tie.Need-same-length-6
 same-length-6 c = search needs
@@ -102,7 +111,8 @@ same-length-7 c = search needs
 
 returns-4 : tie.Need-returns-4
 returns-4 c =
-    λ left R. took-as (λ g starts lens t₀ i₀ s h. sym (step-shift g left R _ _ _ _ s 3 (inr (c .before .before .before .before .before .before .before .match .keys4, refl)))) (c .before .before .before .before .single-shift2 .ensures left R)
+    let is = c .before .before .before .before .before .before .before .match .keys4 in
+    λ left R. took-as (λ g starts lens t₀ i₀ s h. sym (step-shift g left R _ _ _ _ s 3 (inr (is, refl)))) (c .before .before .before .before .single-shift2 .ensures left R)
 
 same-length-8 : tie.Need-same-length-8
 same-length-8 c = search needs
