@@ -6,7 +6,7 @@ use mathlib.Core.Logic.{_⊎_, inl, inr}
 use mathlib.Core.List.{List}
 use native.Mathlib.Omega.{arith}
 use lib.Dec.{ltb}
-use borrow.Author.Tests.{ne-eqb, le-leb, lt-leb, lt-ltb, le-ltb}
+use borrow.Author.Tests.{ne-eqb, le-leb, lt-leb}
 use Rattle.reading.specs.State.{Given, State}
 use Rattle.reading.specs.Characters.{isGL, isGR}
 use Rattle.reading.specs.Controls.{colour, fixed}
@@ -64,25 +64,12 @@ pub record Plain1 (x : ℕ) : Type 0 where
   pub time : x ≡ 0x9D → ⊥
 
 module _ (g : Given) (left : ℕ) (R : Run) (x : ℕ) (rest : List ℕ) (place at : ℕ) (s : State) where
-  pub step-0 : isGL x ≡ false → x < 0x80 → step g left R x rest place at s ≡ control0 g left R x rest place at s
-  unfolding step
-  step-0 p l = let q : x < 0xA1 = omega arith in rw (p, gr-below x q, lt-ltb x 0x80 l)
-
-  pub step-1 : isGR x ≡ false → 0x80 ≤ x → step g left R x rest place at s ≡ control1 g left R x rest place at s
-  unfolding step
-  step-1 p l = let q : 0x7E < x = omega arith in rw (gl-above x q, p, le-ltb x 0x80 l)
-
-  pub control0-fixed : Plain0 x → control0 g left R x rest place at s ≡ fixed x rest at s
+  control0-fixed : Plain0 x → control0 g left R x rest place at s ≡ fixed x rest at s
   unfolding control0
   control0-fixed p =
       rw (ne-eqb x 0x20 (p .space), ne-eqb x 0x0F (p .ls0), ne-eqb x 0x0E (p .ls1), ne-eqb x 0x19 (p .ss2), ne-eqb x 0x1D (p .ss3), ne-eqb x 0x1B (p .esc), ne-eqb x 0x0D (p .newline))
 
-  pub control1-colour : (x ≡ 0x90) ⊎ (x ≡ 0x92) → control1 g left R x rest place at s ≡ colour rest at s
-  unfolding control1
-  control1-colour (inl e) = ap (λ (y : ℕ). control1 g left R y rest place at s) e
-  control1-colour (inr e) = ap (λ (y : ℕ). control1 g left R y rest place at s) e
-
-  pub control1-fixed : Plain1 x → control1 g left R x rest place at s ≡ fixed x rest at s
+  control1-fixed : Plain1 x → control1 g left R x rest place at s ≡ fixed x rest at s
   unfolding control1
   control1-fixed p =
       rw (

@@ -49,11 +49,10 @@ module _ (f : ℕ) where
 
   pub shift-none : (f ≡ 0x6E → ⊥) → (f ≡ 0x6F → ⊥) → (f ≡ 0x7E → ⊥) → (f ≡ 0x7D → ⊥) → (f ≡ 0x7C → ⊥) → Means (lockingShift f) UnknownEscape
   unfolding lockingShift appliedOr stepOf
-  shift-none a b c d e =
-      record {
-        says = λ n place at s. rw (ne-eqb f 0x6E a, ne-eqb f 0x6F b, ne-eqb f 0x7E c, ne-eqb f 0x7D d, ne-eqb f 0x7C e);
-        bounded = record { element = omega arith; count = omega arith };
-      }
+  shift-none a b c d e = record {
+    says = λ n place at s. rw (ne-eqb f 0x6E a, ne-eqb f 0x6F b, ne-eqb f 0x7E c, ne-eqb f 0x7D d, ne-eqb f 0x7C e);
+    bounded = record { element = omega arith; count = omega arith };
+  }
 
 -- ---- designations
 

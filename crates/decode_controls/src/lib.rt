@@ -42,7 +42,7 @@ ghost use Rattle.reading.specs.Controls.{
   time,
   fixed,
 };
-ghost use Rattle.reading.specs.Steps.{step, control0, control1};
+ghost use Rattle.reading.specs.Steps.{step};
 ghost use Rattle.decode_controls.specs.Controls.{Reads, Begins, Means, second};
 
 /// What a control does.
@@ -407,44 +407,23 @@ pub fn fixed(b: &[u8], i: usize) -> Control
     }
 }
 
-/// A code below 08/0.
-fn control0(b: &[u8], i: usize) -> Control
-    requires { ⌜ (i < length (now b)) × Begins (getD (now b) i 0) ⌝ }
-    ensures { λ r. ⌜ ((g : Given) (left : ℕ) (R : Run) → Reads (control0 g left R (getD (now (b .entry)) i 0) (drop (i + 1) (now (b .entry)))) (now (b .entry)) i r) ⌝ }
-{
-    match b[i] {
-        LS0 => invoke(0),
-        LS1 => invoke(1),
-        ESC => escape(b, i),
-        _ => fixed(b, i),
-    }
-}
-
-/// A code from 08/0 on. Table 7-16.
-fn control1(b: &[u8], i: usize) -> Control
-    requires { ⌜ (i < length (now b)) × Begins (getD (now b) i 0) ⌝ }
-    ensures { λ r. ⌜ ((g : Given) (left : ℕ) (R : Run) → Reads (control1 g left R (getD (now (b .entry)) i 0) (drop (i + 1) (now (b .entry)))) (now (b .entry)) i r) ⌝ }
-{
-    match b[i] {
-        SSZ => size(CharSize::Small),
-        MSZ => size(CharSize::Middle),
-        NSZ => size(CharSize::Normal),
-        SZX => szx(b, i),
-        COL | CDC => colour(b, i),
-        RPC => rpc(b, i),
-        CSI => csi(b, i),
-        TIME => time(b, i),
-        _ => fixed(b, i),
-    }
-}
-
 /// The control at the byte `i`.
 pub fn read(b: &[u8], i: usize) -> Control
     requires { ⌜ (i < length (now b)) × Begins (getD (now b) i 0) ⌝ }
     ensures { λ r. ⌜ ((g : Given) (left : ℕ) (R : Run) → Reads (step g left R (getD (now (b .entry)) i 0) (drop (i + 1) (now (b .entry)))) (now (b .entry)) i r) ⌝ }
 {
-    if b[i] < 0x80 {
-        return control0(b, i);
+    match b[i] {
+        LS0 => invoke(0),
+        LS1 => invoke(1),
+        ESC => escape(b, i),
+        SSZ => size(CharSize::Small),
+        MSZ => size(CharSize::Middle),
+        NSZ => size(CharSize::Normal),
+        SZX => szx(b, i),
+        COL | CDC => colour(b, i),
+        CSI => csi(b, i),
+        TIME => time(b, i),
+        RPC => rpc(b, i),
+        _ => fixed(b, i),
     }
-    control1(b, i)
 }

@@ -31,7 +31,8 @@ grew-none : (o : Out) → output.Room 1 1 o → output.Grew 1 1 o o
 grew-none o k = record { ordered = k .ordered; repeat = k .repeat; text = omega arith; issues = omega arith }
 
 -- an issue
-pub reported : (c : Core) (at : ℕ) (kind : IssueKind) (o : Out) (t i i′ : List ℕ) → MayTake 1 c → output.Wrote 0 1 (report at kind) (c .out) t i o t i′ → Reported at kind c t i (withOut c o) i′
+pub reported : (c : Core) (at : ℕ) (kind : IssueKind) (o : Out) (t i i′ : List ℕ) → MayTake 1 c → output.Wrote 0 1 (report at kind) (c .out) t i o t i′ →
+    Reported at kind c t i (withOut c o) i′
 unfolding issue
 reported c at kind o t i i′ k w =
     record {
@@ -46,8 +47,8 @@ reported c at kind o t i i′ k w =
           };
     }
 
-pub moved-issue : {at : ℕ} {kind : IssueKind} {c : Core} {t i : List ℕ} {r : Core} {i′ : List ℕ} (n : ℕ) → Reported at kind c t i r i′ →
-    Moved n (λ s. took n (issue at kind s)) c t i (stepped n r) t i′
+pub moved-issue : {at : ℕ} {kind : IssueKind} {c : Core} {t i : List ℕ} {r : Core} {i′ : List ℕ} (n : ℕ) → Reported at kind c t i r i′
+    → Moved n (λ s. took n (issue at kind s)) c t i (stepped n r) t i′
 moved-issue n w = record { moves = λ g. record { does = w .does g; used = λ starts lens t₀ i₀ s h. refl }; used = refl; kept = w .kept }
 
 module _ (c : Core) (t i : List ℕ) (k : MayTake 1 c) where
@@ -95,6 +96,7 @@ module _ (c : Core) (t i : List ℕ) (k : MayTake 1 c) where
   pub moved-wait : (u n : ℕ) → n ≤ 63 → Moved u (λ s. took u (writes (setRepeat n) s)) c t i (stepped u (withRepeat c n)) t i
   moved-wait u n p =
       let w = wrote-repeat n t i (k .room) p in
+      let v = k .room in
       record {
         moves =
             λ g. record {
@@ -102,14 +104,7 @@ module _ (c : Core) (t i : List ℕ) (k : MayTake 1 c) where
               used = λ starts lens t₀ i₀ s h. refl;
             };
         used = refl;
-        kept =
-            record {
-              gl = k .gl;
-              gr = k .gr;
-              charged = refl;
-              grew =
-                  record { ordered = k .room .ordered; repeat = p; text = omega (arith, k .room .text); issues = omega (arith, k .room .issues) };
-            };
+        kept = record { gl = k .gl; gr = k .gr; charged = refl; grew = record { ordered = v .ordered; repeat = p; text = omega (arith, v .text); issues = omega (arith, v .issues) } };
       }
 
 -- a step that is another at every state

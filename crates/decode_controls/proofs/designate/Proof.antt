@@ -1,4 +1,4 @@
--- `controls::designate` meets its contract. Assumes nothing.
+-- `designate` meets its contract. Assumes nothing.
 use mathlib.Core.Path.{sym, ap, _∙_}
 use mathlib.Core.Option.{some}
 use native.Mathlib.Omega.{arith}
@@ -31,7 +31,8 @@ returns c =
     let at-d = c .before .before in
     let at-from-designation = at-d .before .before in
     let at-start = at-from-designation .before in
-    means-set _ _ _ (at-start .pre) (sym (at-from-designation .from-designation .ensures) ∙ ap designated (at-d .d .given .1) ∙ ap some (sym (c .number .ensures)))
+    let found = at-from-designation .from-designation .ensures in
+    means-set _ _ _ (at-start .pre) (sym found ∙ ap designated (at-d .d .given .1) ∙ ap some (sym (c .number .ensures)))
 
 returns-2 : tie.Need-returns-2
 returns-2 c = means-none _ _ (sym (c .before .before .from-designation .ensures) ∙ ap designated (c .enum-told .given .1))

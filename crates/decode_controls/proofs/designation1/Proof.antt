@@ -1,4 +1,4 @@
--- `controls::designation1` meets its contract. Assumes nothing.
+-- `designation1` meets its contract. Assumes nothing.
 use Prim.Native.Nat.{_≤_}
 use native.Mathlib.Omega.{arith}
 use mathlib.Core.Logic.{inl, inr}

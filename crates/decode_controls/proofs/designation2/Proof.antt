@@ -1,4 +1,4 @@
--- `controls::designation2` meets its contract. Assumes nothing.
+-- `designation2` meets its contract. Assumes nothing.
 use mathlib.Core.Logic.{inl, inr}
 use Rattle.decode_controls.proofs.Escapes.{two-drcs, two-set, two-none-g, two-none}
 use borrow.Author.Needs.{needs}

@@ -1,4 +1,4 @@
--- `controls::designation3` meets its contract. Assumes nothing.
+-- `designation3` meets its contract. Assumes nothing.
 use mathlib.Core.Logic.{inl, inr}
 use Rattle.decode_controls.proofs.Escapes.{three-drcs, three-none-a, three-none-d, three-none-g}
 use borrow.Author.Needs.{needs}

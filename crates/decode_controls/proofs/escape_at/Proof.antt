@@ -1,4 +1,4 @@
--- `controls::escape_at` meets its contract. Assumes nothing.
+-- `escape_at` meets its contract. Assumes nothing.
 use lib.ListN.{getD}
 use native.Mathlib.Omega.{arith}
 use Rattle.decode_controls.proofs.Escapes.{shift-bytes, means-shift, means-one, means-two, means-three, past-four, means-many}
@@ -109,7 +109,8 @@ returns-3 c =
 
 returns-4 : tie.Need-returns-4
 returns-4 c =
-    let at-place-2 = c .before .before .before .before .before in
+    let at-place-3 = c .before .before .before .before .before in
+    let at-place-2 = at-place-3 in
     let at-match = at-place-2 in
     let at-place = at-match .before .before in
     let start = at-place in

@@ -47,8 +47,10 @@ returns-2 c =
     let at-fixed-params = at-params .before .before in
     let at-start = at-fixed-params .before .before .before in
     let a = at-start .args in
-    c .cut .ensures _ (λ place at s. fixed-cut (a .b .now) (a .i) at s (at-start .pre) _
-    (count-some _ _ (sym (at-fixed-params .fixed-params .ensures) ∙ at-params .params .given .1)) (at-if1 .if1 .left))
+    let inside = at-start .pre in
+    let answer = at-fixed-params .fixed-params .ensures in
+    let few = at-if1 .if1 .left in
+    c .cut .ensures _ (λ place at s. fixed-cut (a .b .now) (a .i) at s inside _ (count-some _ _ (sym answer ∙ at-params .params .given .1)) few)
 
 returns-3 : tie.Need-returns-3
 unfolding stepOf

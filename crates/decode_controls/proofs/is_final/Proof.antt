@@ -1,4 +1,4 @@
--- `controls::is_final` meets its contract. Assumes nothing.
+-- `is_final` meets its contract. Assumes nothing.
 use borrow.Author.Tests.{le-leb, lt-leb}
 use Rattle.decode_controls.proofs.is_final.Statement.{statement}
 use Rattle.decode_controls.proofs.is_final.Tie as tie

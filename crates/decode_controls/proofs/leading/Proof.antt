@@ -1,4 +1,4 @@
--- `controls::leading` meets its contract: what it passed lies in the range, so what leads from `from` on ends where what leads from `j` on does. Assumes nothing.
+-- `leading` meets its contract: what it passed lies in the range, so what leads from `from` on ends where what leads from `j` on does. Assumes nothing.
 use Prim.Native.Nat.{_+_, _-_, _≤_}
 use mathlib.Core.Path.{_≡_}
 use native.Mathlib.Omega.{arith}

@@ -1,4 +1,4 @@
--- `controls::locking_shift` meets its contract. Assumes nothing.
+-- `locking_shift` meets its contract. Assumes nothing.
 use Rattle.decode_controls.proofs.Escapes.{not-final, is-final, shift-ls2, shift-ls3, shift-ls1r, shift-ls2r, shift-ls3r, shift-none}
 use borrow.Author.Needs.{needs}
 use Rattle.decode_controls.proofs.locking_shift.Statement.{statement}
@@ -36,18 +36,17 @@ returns-5 c = λ f e. shift-ls3r f (is-final f 0x7C e (c .before .is5 .ensures) 
 
 returns-6 : tie.Need-returns-6
 returns-6 c =
-    let at-is5 = c .before in
-    let at-if4 = at-is5 .before in
-    let at-is4 = at-if4 .before in
-    let at-if3 = at-is4 .before in
-    let at-is3 = at-if3 .before in
-    let at-if2 = at-is3 .before in
-    let at-is2 = at-if2 .before in
-    let at-if1 = at-is2 .before in
-    let at-is = at-if1 .before in
+    let at4 = c .before .before in
+    let at3 = at4 .before .before in
+    let at2 = at3 .before .before in
+    let at1 = at2 .before .before in
     λ f e.
-    shift-none f (not-final f 0x6E e (at-is .is .ensures) (at-if1 .if1 .left)) (not-final f 0x6F e (at-is2 .is2 .ensures) (at-if2 .if2 .left))
-    (not-final f 0x7E e (at-is3 .is3 .ensures) (at-if3 .if3 .left)) (not-final f 0x7D e (at-is4 .is4 .ensures) (at-if4 .if4 .left)) (not-final f 0x7C e (at-is5 .is5 .ensures) (c .if5 .left))
+    shift-none f
+    (not-final f 0x6E e (at1 .before .is .ensures) (at1 .if1 .left))
+    (not-final f 0x6F e (at2 .before .is2 .ensures) (at2 .if2 .left))
+    (not-final f 0x7E e (at3 .before .is3 .ensures) (at3 .if3 .left))
+    (not-final f 0x7D e (at4 .before .is4 .ensures) (at4 .if4 .left))
+    (not-final f 0x7C e (c .before .is5 .ensures) (c .if5 .left))
 
 pub locking-shift-spec : {M : Type 1} → statement M
 locking-shift-spec =

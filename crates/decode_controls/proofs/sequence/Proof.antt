@@ -65,7 +65,8 @@ returns-3 c =
     let led = at-leading .leading in
     let more = at-if1 .if1 .left in
     reads-of _ _ (bounded refl refl) (omega (arith, led .ensures)) (omega (arith, led .ensures))
-    (λ place at s. sequence-malformed (a .strict) (a .code) (a .b .now) (a .i) (a .from) (led .result) at s (p .0) (p .1) (led .ensures) more
+    (λ place at s.
+    sequence-malformed (a .strict) (a .code) (a .b .now) (a .i) (a .from) (led .result) at s (p .0) (p .1) (led .ensures) more
     (sym (at-is-final .is-final .ensures) ∙ at-if2 .if2 .left) (c .if3 .taken))
 
 sub-t7 : tie.Need-sub-t7
@@ -83,7 +84,8 @@ returns-4 c =
     let led = at-leading .leading in
     let more = at-if1 .if1 .left in
     reads-nothing _ (omega (arith, led .ensures)) (omega (arith, led .ensures))
-    (λ at s. sequence-other (a .strict) (a .code) (a .b .now) (a .i) (a .from) (led .result) at s (p .0) (p .1) (led .ensures) more
+    (λ at s.
+    sequence-other (a .strict) (a .code) (a .b .now) (a .i) (a .from) (led .result) at s (p .0) (p .1) (led .ensures) more
     (sym (at-is-final .is-final .ensures) ∙ at-if2 .if2 .left) (c .if3 .left))
 
 pub sequence-spec : {M : Type 1} → statement M

@@ -21,7 +21,9 @@ returns c =
     let at-if1 = at-issue .before .before in
     let at-start = at-if1 .before .before in
     let a = at-start .args in
-    λ t. moved-as (λ σ. ap (λ (n : ℕ). took (a .used) (repeatBy n (a .at) σ)) (at-if1 .if1 .taken)) (moved-line (a .used) (at-start .pre .1) (at-issue .issue .ensures t))
+    let zero = at-if1 .if1 .taken in
+    let issued = at-issue .issue .ensures in
+    λ t. moved-as (λ σ. ap (λ (n : ℕ). took (a .used) (repeatBy n (a .at) σ)) zero) (moved-line (a .used) (at-start .pre .1) (issued t))
 
 returns-2 : tie.Need-returns-2
 returns-2 c =

@@ -114,9 +114,10 @@ returns c =
     let at-match = at-invoke .before in
     let at-start = at-match .before .before .before .before in
     let a = at-start .args in
-    λ g left R place at.
-    turns-as (λ s. ap (λ (x : ℕ). step g left R x (drop (a .i + 1) (a .b .now)) place at s) (at-match .match .keys1))
-    (at-apply .apply .ensures _ _ _ (at-invoke .invoke .ensures (a .b .now) (a .i) (at-start .pre .0)) place at)
+    let is = at-match .match .keys1 in
+    let done = at-apply .apply .ensures in
+    let read = at-invoke .invoke .ensures (a .b .now) (a .i) (at-start .pre .0) in
+    λ g left R place at. turns-as (λ s. ap (λ (x : ℕ). step g left R x (drop (a .i + 1) (a .b .now)) place at s) is) (done _ _ _ read place at)
 
 same-length-2 : tie.Need-same-length-2
 same-length-2 c = search needs
@@ -129,9 +130,10 @@ returns-2 c =
     let at-match = at-invoke2 .before in
     let at-start = at-match .before .before .before .before in
     let a = at-start .args in
-    λ g left R place at.
-    turns-as (λ s. ap (λ (x : ℕ). step g left R x (drop (a .i + 1) (a .b .now)) place at s) (at-match .match .keys2))
-    (at-apply2 .apply2 .ensures _ _ _ (at-invoke2 .invoke2 .ensures (a .b .now) (a .i) (at-start .pre .0)) place at)
+    let is = at-match .match .keys2 in
+    let done = at-apply2 .apply2 .ensures in
+    let read = at-invoke2 .invoke2 .ensures (a .b .now) (a .i) (at-start .pre .0) in
+    λ g left R place at. turns-as (λ s. ap (λ (x : ℕ). step g left R x (drop (a .i + 1) (a .b .now)) place at s) is) (done _ _ _ read place at)
 
 same-length-3 : tie.Need-same-length-3
 same-length-3 c = search needs
@@ -144,8 +146,10 @@ returns-3 c =
     let at-match = at-escape .before in
     let at-start = at-match .before .before .before .before in
     let a = at-start .args in
-    λ g left R place at.
-    turns-as (λ s. ap (λ (x : ℕ). step g left R x (drop (a .i + 1) (a .b .now)) place at s) (at-match .match .keys3)) (at-apply3 .apply3 .ensures _ _ _ (at-escape .escape .ensures) place at)
+    let is = at-match .match .keys3 in
+    let done = at-apply3 .apply3 .ensures in
+    let read = at-escape .escape .ensures in
+    λ g left R place at. turns-as (λ s. ap (λ (x : ℕ). step g left R x (drop (a .i + 1) (a .b .now)) place at s) is) (done _ _ _ read place at)
 
 same-length-4 : tie.Need-same-length-4
 same-length-4 c = search needs
@@ -158,9 +162,10 @@ returns-4 c =
     let at-match = at-size .before in
     let at-start = at-match .before .before .before .before in
     let a = at-start .args in
-    λ g left R place at.
-    turns-as (λ s. ap (λ (x : ℕ). step g left R x (drop (a .i + 1) (a .b .now)) place at s) (at-match .match .keys4))
-    (at-apply4 .apply4 .ensures _ _ _ (at-size .size .ensures (a .b .now) (a .i) (at-start .pre .0)) place at)
+    let is = at-match .match .keys4 in
+    let done = at-apply4 .apply4 .ensures in
+    let read = at-size .size .ensures (a .b .now) (a .i) (at-start .pre .0) in
+    λ g left R place at. turns-as (λ s. ap (λ (x : ℕ). step g left R x (drop (a .i + 1) (a .b .now)) place at s) is) (done _ _ _ read place at)
 
 same-length-5 : tie.Need-same-length-5
 same-length-5 c = search needs
@@ -173,9 +178,10 @@ returns-5 c =
     let at-match = at-size2 .before in
     let at-start = at-match .before .before .before .before in
     let a = at-start .args in
-    λ g left R place at.
-    turns-as (λ s. ap (λ (x : ℕ). step g left R x (drop (a .i + 1) (a .b .now)) place at s) (at-match .match .keys5))
-    (at-apply5 .apply5 .ensures _ _ _ (at-size2 .size2 .ensures (a .b .now) (a .i) (at-start .pre .0)) place at)
+    let is = at-match .match .keys5 in
+    let done = at-apply5 .apply5 .ensures in
+    let read = at-size2 .size2 .ensures (a .b .now) (a .i) (at-start .pre .0) in
+    λ g left R place at. turns-as (λ s. ap (λ (x : ℕ). step g left R x (drop (a .i + 1) (a .b .now)) place at s) is) (done _ _ _ read place at)
 
 same-length-6 : tie.Need-same-length-6
 same-length-6 c = search needs
@@ -188,9 +194,10 @@ returns-6 c =
     let at-match = at-size3 .before in
     let at-start = at-match .before .before .before .before in
     let a = at-start .args in
-    λ g left R place at.
-    turns-as (λ s. ap (λ (x : ℕ). step g left R x (drop (a .i + 1) (a .b .now)) place at s) (at-match .match .keys6))
-    (at-apply6 .apply6 .ensures _ _ _ (at-size3 .size3 .ensures (a .b .now) (a .i) (at-start .pre .0)) place at)
+    let is = at-match .match .keys6 in
+    let done = at-apply6 .apply6 .ensures in
+    let read = at-size3 .size3 .ensures (a .b .now) (a .i) (at-start .pre .0) in
+    λ g left R place at. turns-as (λ s. ap (λ (x : ℕ). step g left R x (drop (a .i + 1) (a .b .now)) place at s) is) (done _ _ _ read place at)
 
 same-length-7 : tie.Need-same-length-7
 same-length-7 c = search needs
@@ -203,8 +210,10 @@ returns-7 c =
     let at-match = at-szx .before in
     let at-start = at-match .before .before .before .before in
     let a = at-start .args in
-    λ g left R place at.
-    turns-as (λ s. ap (λ (x : ℕ). step g left R x (drop (a .i + 1) (a .b .now)) place at s) (at-match .match .keys7)) (at-apply7 .apply7 .ensures _ _ _ (at-szx .szx .ensures) place at)
+    let is = at-match .match .keys7 in
+    let done = at-apply7 .apply7 .ensures in
+    let read = at-szx .szx .ensures in
+    λ g left R place at. turns-as (λ s. ap (λ (x : ℕ). step g left R x (drop (a .i + 1) (a .b .now)) place at s) is) (done _ _ _ read place at)
 
 same-length-8 : tie.Need-same-length-8
 same-length-8 c = search needs
@@ -216,8 +225,9 @@ returns-8 c =
     let at-match = at-colour .before in
     let at-start = at-match .before .before .before .before in
     let a = at-start .args in
-    λ g left R place at. turns-as (λ s. step-colour g left R _ (drop (a .i + 1) (a .b .now)) place at s (at-match .match .keys8))
-    (at-apply8 .apply8 .ensures _ _ _ (at-colour .colour .ensures) place at)
+    let is = at-match .match .keys8 in
+    λ g left R place at.
+    turns-as (λ s. step-colour g left R _ (drop (a .i + 1) (a .b .now)) place at s is) (at-apply8 .apply8 .ensures _ _ _ (at-colour .colour .ensures) place at)
 
 same-length-9 : tie.Need-same-length-9
 same-length-9 c = search needs
@@ -230,8 +240,10 @@ returns-9 c =
     let at-match = at-csi .before in
     let at-start = at-match .before .before .before .before in
     let a = at-start .args in
-    λ g left R place at.
-    turns-as (λ s. ap (λ (x : ℕ). step g left R x (drop (a .i + 1) (a .b .now)) place at s) (at-match .match .keys9)) (at-apply9 .apply9 .ensures _ _ _ (at-csi .csi .ensures) place at)
+    let is = at-match .match .keys9 in
+    let done = at-apply9 .apply9 .ensures in
+    let read = at-csi .csi .ensures in
+    λ g left R place at. turns-as (λ s. ap (λ (x : ℕ). step g left R x (drop (a .i + 1) (a .b .now)) place at s) is) (done _ _ _ read place at)
 
 same-length-10 : tie.Need-same-length-10
 same-length-10 c = search needs
@@ -244,18 +256,21 @@ returns-10 c =
     let at-match = at-time .before in
     let at-start = at-match .before .before .before .before in
     let a = at-start .args in
-    λ g left R place at.
-    turns-as (λ s. ap (λ (x : ℕ). step g left R x (drop (a .i + 1) (a .b .now)) place at s) (at-match .match .keys10)) (at-apply10 .apply10 .ensures _ _ _ (at-time .time .ensures) place at)
+    let is = at-match .match .keys10 in
+    let done = at-apply10 .apply10 .ensures in
+    let read = at-time .time .ensures in
+    λ g left R place at. turns-as (λ s. ap (λ (x : ℕ). step g left R x (drop (a .i + 1) (a .b .now)) place at s) is) (done _ _ _ read place at)
 
 returns-11 : tie.Need-returns-11
 returns-11 c =
-    let at-start = c .before .before .before .before in
-    λ g left R place at. turns-none (at-start .pre .1) (at-start .pre .0)
+    let p = c .before .before .before .before .pre in
+    λ g left R place at. turns-none (p .1) (p .0)
 
 returns-12 : tie.Need-returns-12
 returns-12 c =
     let at-start = c .before .before .before .before .before .before in
-    λ g left R place at. turns-none (at-start .pre .1) (at-start .pre .0)
+    let p = at-start .pre in
+    λ g left R place at. turns-none (p .1) (p .0)
 
 returns-13 : tie.Need-returns-13
 returns-13 c =
@@ -288,7 +303,8 @@ returns-13 c =
 returns-14 : tie.Need-returns-14
 returns-14 c =
     let at-start = c .before .before .before .before .before .before .before .before .before .before in
-    λ g left R place at. turns-none (at-start .pre .1) (at-start .pre .0)
+    let p = at-start .pre in
+    λ g left R place at. turns-none (p .1) (p .0)
 
 same-length-11 : tie.Need-same-length-11
 same-length-11 c = search needs
@@ -305,10 +321,11 @@ returns-15 c =
     let m = at-match .match .rest in
     let came = at-if1 .if1 .came in
     let l : isGL x ≡ false =
-    ⊎-elim (λ w. gl-below x (omega (arith, w .taken))) (⊎-elim (λ w. gl-above x (w .1 .left)) (⊎-elim (λ w. gl-above x (w .1 .left)) (λ w. gl-above x (w .1 .left)))) came in
+    ⊎-elim (λ w. gl-below x (omega (arith, w .taken)))
+    (⊎-elim (λ w. gl-above x (w .1 .left)) (⊎-elim (λ w. gl-above x (w .1 .left)) (λ w. gl-above x (w .1 .left)))) came in
     let r : isGR x ≡ false =
-    ⊎-elim (λ w. gr-below x (omega (arith, w .taken))) (⊎-elim (λ w. gr-below x (omega (arith, w .2 .taken)))
-    (⊎-elim (λ w. gr-below x (w .4 .taken)) (λ w. gr-above x (w .5 .left)))) came in
+    ⊎-elim (λ w. gr-below x (omega (arith, w .taken)))
+    (⊎-elim (λ w. gr-below x (omega (arith, w .2 .taken))) (⊎-elim (λ w. gr-below x (w .4 .taken)) (λ w. gr-above x (w .5 .left)))) came in
     λ g left R place at.
     turns-as
     (λ s.

@@ -39,9 +39,7 @@ loop-less c = search needs
 loop-again : tie.Need-loop-again Inv-loop μ-loop
 loop-again c =
     let at-control = c .before .before .before in
-    let at-loop-test = at-control .before .before in
-    let at-loop = at-loop-test .before in
-    controls-more (at-loop .loop .inv) (at-control .control .ensures) (c .if1 .left) (at-loop-test .loop-test .taken)
+    controls-more (at-control .before .before .before .loop .inv) (at-control .control .ensures) (c .if1 .left) (at-control .before .before .loop-test .taken)
 
 same-length-2 : tie.Need-same-length-2 Inv-loop μ-loop
 same-length-2 c = search needs

@@ -11,7 +11,8 @@ use Rattle.decode_steps.proofs.plain.Tie as tie
 
 returns : tie.Need-returns
 returns c =
-    let at-place-2 = c .before .before .before .before .before in
+    let at-place-3 = c .before .before .before .before .before in
+    let at-place-2 = at-place-3 in
     let at-place = at-place-2 in
     let entry = at-place in
     record { stretch = stretch-start _ _ _ _ _ _ _ _ (entry .pre .0 .0) (entry .pre .1); stop = c .if1 .taken }

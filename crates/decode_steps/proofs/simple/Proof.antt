@@ -70,8 +70,10 @@ control-requires c κs =
     let x = getD (a .b .now) (a .i) 0 in
     let came = at-if1 .if1 .came in
     let other = at-match .match .rest in
-    let l : isGL x ≡ false = ⊎-elim (λ w. gl-below x (omega (arith, w .taken))) (⊎-elim (λ w. gl-above x (w .1 .left)) (λ w. gl-above x (w .1 .left))) came in
-    let r : isGR x ≡ false = ⊎-elim (λ w. gr-below x (omega (arith, w .taken))) (⊎-elim (λ w. gr-below x (w .2 .taken)) (λ w. gr-above x (w .3 .left))) came in
+    let l : isGL x ≡ false = ⊎-elim (λ w. gl-below x (omega (arith, w .taken)))
+    (⊎-elim (λ w. gl-above x (w .1 .left)) (λ w. gl-above x (w .1 .left))) came in
+    let r : isGR x ≡ false = ⊎-elim (λ w. gr-below x (omega (arith, w .taken)))
+    (⊎-elim (λ w. gr-below x (w .2 .taken)) (λ w. gr-above x (w .3 .left))) came in
     ((p .0 .0, p .0 .1, record { gl = l; gr = r; space = other .0 .0 .0 .1; newline = other .0 .0 .1; ss2 = other .0 .1; ss3 = other .1; macro = p .1 .1 .command }), p .1 .0)
 
 same-length : tie.Need-same-length
@@ -83,8 +85,10 @@ returns c =
     let at-match = at-space .before .before in
     let at-start = at-match .before .before .before .before .before .before in
     let a = at-start .args in
-    λ left R. took-as (λ g starts lens t₀ i₀ s h. step-space g left R _ _ _ _ s (at-match .match .keys1))
-    (at-space .space .ensures (a .cells .now) (a .b .now) (a .issues .now) (a .i) (at-start .pre .0 .0))
+    let is = at-match .match .keys1 in
+    let inside = at-start .pre .0 .0 in
+    λ left R.
+    took-as (λ g starts lens t₀ i₀ s h. step-space g left R _ _ _ _ s is) (at-space .space .ensures (a .cells .now) (a .b .now) (a .issues .now) (a .i) inside)
 
 same-length-2 : tie.Need-same-length-2
 same-length-2 c = search needs
@@ -98,8 +102,10 @@ returns-2 c =
     let at-match = at-newline .before .before .before in
     let at-start = at-match .before .before .before .before .before .before in
     let a = at-start .args in
-    λ left R. took-as (λ g starts lens t₀ i₀ s h. step-newline g left R _ _ _ _ s (at-match .match .keys2))
-    (at-newline .newline .ensures (a .cells .now) (a .b .now) (a .i) (at-start .pre .0 .0))
+    let is = at-match .match .keys2 in
+    let inside = at-start .pre .0 .0 in
+    λ left R.
+    took-as (λ g starts lens t₀ i₀ s h. step-newline g left R _ _ _ _ s is) (at-newline .newline .ensures (a .cells .now) (a .b .now) (a .i) inside)
 
 same-length-4 : tie.Need-same-length-4
 same-length-4 c = search needs
@@ -111,7 +117,8 @@ returns-3 : tie.Need-returns-3
 returns-3 c =
     let at-single-shift = c .before .before .before .before in
     let at-match = at-single-shift .before .before .before in
-    λ left R. took-as (λ g starts lens t₀ i₀ s h. sym (step-shift g left R _ _ _ _ s 2 (inl (at-match .match .keys3, refl)))) (at-single-shift .single-shift .ensures left R)
+    let is = at-match .match .keys3 in
+    λ left R. took-as (λ g starts lens t₀ i₀ s h. sym (step-shift g left R _ _ _ _ s 2 (inl (is, refl)))) (at-single-shift .single-shift .ensures left R)
 
 same-length-6 : tie.Need-same-length-6
 same-length-6 c = search needs
@@ -123,7 +130,8 @@ returns-4 : tie.Need-returns-4
 returns-4 c =
     let at-single-shift2 = c .before .before .before .before in
     let at-match = at-single-shift2 .before .before .before in
-    λ left R. took-as (λ g starts lens t₀ i₀ s h. sym (step-shift g left R _ _ _ _ s 3 (inr (at-match .match .keys4, refl)))) (at-single-shift2 .single-shift2 .ensures left R)
+    let is = at-match .match .keys4 in
+    λ left R. took-as (λ g starts lens t₀ i₀ s h. sym (step-shift g left R _ _ _ _ s 3 (inr (is, refl)))) (at-single-shift2 .single-shift2 .ensures left R)
 
 same-length-8 : tie.Need-same-length-8
 same-length-8 c = search needs

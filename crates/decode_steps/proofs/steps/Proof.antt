@@ -107,7 +107,8 @@ simple-requires c κs =
 
 add-i : tie.Need-add-i Inv-loop μ-loop
 add-i c =
-    let at-place-2 = c .before .before .before .before .before .before in
+    let at-place-3 = c .before .before .before .before .before .before in
+    let at-place-2 = at-place-3 in
     let at-place = at-place-2 in
     let at-simple = at-place in
     let at-test = at-simple .before .before .before .before .before .before .before in
@@ -116,7 +117,8 @@ add-i c =
 
 loop-less : tie.Need-loop-less Inv-loop μ-loop
 loop-less c =
-    let at-place-2 = c .before .before .before .before .before .before in
+    let at-place-3 = c .before .before .before .before .before .before in
+    let at-place-2 = at-place-3 in
     let at-simple = at-place-2 in
     let at-place = at-simple .before .before .before .before .before .before .before in
     let k = at-place in
@@ -128,7 +130,8 @@ loop-less c =
 
 loop-again : tie.Need-loop-again Inv-loop μ-loop
 loop-again c =
-    let at-place-2 = c .before .before .before .before .before .before in
+    let at-place-3 = c .before .before .before .before .before .before in
+    let at-place-2 = at-place-3 in
     let at-place = at-place-2 in
     let p = at-place in
     let o = p .before .before .before in
