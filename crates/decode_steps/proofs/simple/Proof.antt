@@ -141,11 +141,10 @@ same-length-9 c = search needs
 
 returns-5 : tie.Need-returns-5
 returns-5 c =
-    let at-graphic = c .before .before .before .before in
-    let at-start = at-graphic .before .before .before .before .before .before .before .before .before .before .before .before in
-    let a = at-start .args in
+    let a = c .before .before .before .before .before .before .before .before .before .before .before .before .before .before .before .before .args in
     let x = getD (a .b .now) (a .i) 0 in
     let k = gl-in x (omega arith) (omega arith) in
+    let at-graphic = c .before .before .before .before in
     λ left R. took-as (λ g starts lens t₀ i₀ s h. step-left g left R _ _ _ _ s _ (set-left h) k) (at-graphic .graphic .ensures left R)
 
 same-length-10 : tie.Need-same-length-10

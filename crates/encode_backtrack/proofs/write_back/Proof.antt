@@ -189,13 +189,14 @@ loop-again : tie.Need-loop-again Inv-loop μ-loop
 loop-again c =
     let at-put-character = c .before .before in
     let at-candidates = at-put-character .before .before in
-    let at-loop = at-candidates .before .before .before .before .before .before .before .before in
+    let at-loop-test = at-candidates .before .before .before .before .before .before .before in
+    let at-loop = at-loop-test .before in
     let at-start = at-loop .before .before .before .before .before .before in (
       omega arith,
       ap length (at-put-character .put-character .ensures) ∙ length-sets _ (costOf (at-start .args .store .now) (beforeOf (at-start .args .store .now) (at-loop .loop .p)))
           (written (candsOf (at-candidates .candidates .result)) (howOf (at-start .args .store .now) (at-loop .loop .p))) ∙ at-loop .loop .inv .1,
-      λ f. going-on (at-candidates .candidates .result) (at-loop .loop .k - 1) (omega arith) (f .chosen (at-loop .loop .k - 1) (omega arith)) (at-candidates .candidates .ensures)
-          (at-put-character .put-character .ensures) (at-loop .loop .inv .2 f),
+      λ f. going-on (at-candidates .candidates .result) (at-loop .loop .k - 1) (omega arith) (f .chosen (at-loop .loop .k - 1) (omega (arith, at-loop .loop .inv .0, at-loop-test .loop-test .taken)))
+          (at-candidates .candidates .ensures) (at-put-character .put-character .ensures) (at-loop .loop .inv .2 f),
     )
 
 same-length : tie.Need-same-length Inv-loop μ-loop
