@@ -148,6 +148,14 @@ module _ (kana : Kana) (fits : KanaFits kana) where
       off-them x
       (λ h. step 0x7E x (step 0x7D x (step 0x7C x (step 0x7B x (step 0x7A x (step 0x79 x (step 0x78 x (step 0x77 x h n0) n1) n2) n3) n4) n5) n6) n7)
 
+  -- a code with a character of the run is none of the signs'
+  pub in-run : (code : ℕ) → (runAt (kana .first) (kana .last) code ≡ 0 → ⊥) → runAt (kana .first) (kana .last) code ≡ kanaAt kana code
+  in-run code n =
+      let i = run-to (kana .first) (kana .last) code (runAt (kana .first) (kana .last) code) (omega (arith, n)) refl in
+      let j = i .1 in
+      let l = fits .last-to in
+      sym (off-them code (λ h. omega arith))
+
   pub kana-run : (c : ℕ) → ((k : ℕ) → getD (signs (kana .iteration)) k 0 ≡ c → c ≡ 0) → (r : Code) → Inverse (runAt (kana .first) (kana .last)) c r → Inverse (kanaAt kana) c r
   unfolding kanaAt
   kana-run c s (Gl code) p =

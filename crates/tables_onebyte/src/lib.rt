@@ -87,11 +87,15 @@ fn alphanumeric_at(c: u8) -> u32
     }
 }
 
-/// A kana set at a code.
+/// A kana set at a code. The run is tested first, since it has most characters of a text.
 fn kana_at(kana: Kana, c: u8) -> u32
     requires { ⌜ KanaFits kana ⌝ }
     ensures { λ r. ⌜ r ≡ kanaAt kana c ⌝ }
 {
+    let letter = run_at(kana.first, kana.last, c);
+    if letter != 0 {
+        return letter;
+    }
     match c {
         0x77 => kana.iteration,
         0x78 => kana.iteration + 1,
@@ -101,7 +105,7 @@ fn kana_at(kana: Kana, c: u8) -> u32
         0x7C => 0x300D,
         0x7D => 0x3001,
         0x7E => 0x30FB,
-        _ => run_at(kana.first, kana.last, c),
+        _ => 0,
     }
 }
 
