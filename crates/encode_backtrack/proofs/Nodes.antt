@@ -10,8 +10,7 @@ use borrow.Author.Tests.{eq-eqb, ne-eqb}
 use Rattle.coding.specs.State.{State, start}
 use Rattle.coding.specs.Candidates.{Cand}
 use Rattle.coding.specs.Search.{Node, node, newest, firstOf, nodeAt}
-use Rattle.encode_layer.specs.Entries.{entry, nodeOf, entriesOf, layerOf, entryAt}
-use Rattle.encode_layer.specs.declared.Entry.{Entry}
+use Rattle.encode_layer.specs.Entries.{Entry, entry, nodeOf, entriesOf, layerOf, entryAt}
 use Rattle.encode_layer.specs.Layer.{Sound}
 use Rattle.encode_search.specs.Layers.{Layers, first, behind}
 use Rattle.encode_layer.proofs.Entries.{length-of, entry-of}

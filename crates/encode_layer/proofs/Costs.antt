@@ -12,8 +12,7 @@ use Rattle.base.specs.Lists.{All}
 use Rattle.base.proofs.Every.{all-at}
 use Rattle.coding.specs.Candidates.{Cand}
 use Rattle.coding.specs.Search.{Node, least, lower, floorOf}
-use Rattle.encode_layer.specs.Entries.{nodeOf, entriesOf, layerOf}
-use Rattle.encode_layer.specs.declared.Entry.{Entry}
+use Rattle.encode_layer.specs.Entries.{Entry, nodeOf, entriesOf, layerOf}
 use Rattle.encode_layer.proofs.Entries.{length-of, entry-of}
 use Rattle.encode_layer.proofs.Pushing.{blank}
 

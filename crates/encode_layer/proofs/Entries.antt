@@ -5,8 +5,7 @@ use Prim.Native.Nat.{ℕ, zero, suc, _+_, _*_, _/_, _≤_, _<_}
 use native.Mathlib.Omega.{arith}
 use lib.ListN.{length, getD, set, take, drop, length-set, length-drop}
 use lib.Seq.{take-nil, length-take-le, getD-take, getD-drop, take-set-le}
-use Rattle.encode_layer.specs.Entries.{entry, entries, entriesOf, entryAt, setEntry}
-use Rattle.encode_layer.specs.declared.Entry.{Entry}
+use Rattle.encode_layer.specs.Entries.{Entry, entry, entries, entriesOf, entryAt, setEntry}
 
 four : ℕ → ℕ
 four zero = 0

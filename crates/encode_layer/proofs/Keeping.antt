@@ -12,8 +12,7 @@ use borrow.Author.Tests.{le-leb, lt-leb}
 use Rattle.base.specs.Lists.{All}
 use Rattle.coding.specs.Candidates.{Cand}
 use Rattle.coding.specs.Search.{Node, keep}
-use Rattle.encode_layer.specs.Entries.{nodeOf, entries, entriesOf, layerOf, entryAt, setEntry}
-use Rattle.encode_layer.specs.declared.Entry.{Entry}
+use Rattle.encode_layer.specs.Entries.{Entry, nodeOf, entries, entriesOf, layerOf, entryAt, setEntry}
 use Rattle.encode_layer.specs.Layer.{Sound}
 use Rattle.encode_layer.specs.Kept.{Kept}
 use Rattle.encode_layer.proofs.Entries.{length-entries, entries-set, length-of, entry-of, length-set-entry, before-set}

@@ -11,8 +11,7 @@ use Rattle.coding.specs.State.{sameState}
 use Rattle.coding.specs.Candidates.{Cand}
 use Rattle.coding.specs.Search.{Node, push, pushAll}
 use Rattle.encode_states.proofs.Same.{same-of, differ}
-use Rattle.encode_layer.specs.Entries.{entry, nodeOf}
-use Rattle.encode_layer.specs.declared.Entry.{Entry}
+use Rattle.encode_layer.specs.Entries.{Entry, entry, nodeOf}
 
 push-same : (m : Node) (ms : List Node) (n : Node) → sameState (m .state) (n .state) ≡ true → push (m ∷ ms) n ≡ cond (leb (m .cost) (n .cost)) m n ∷ ms
 unfolding push

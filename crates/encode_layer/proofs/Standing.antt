@@ -12,8 +12,7 @@ use Rattle.base.proofs.Every.{all-append, all-at, all-set}
 use Rattle.coding.specs.Candidates.{Cand}
 use Rattle.coding.specs.Search.{Node, push, pushAll}
 use Rattle.encode_states.proofs.Dense.{dense, spread, spread-dense, dense-small, below}
-use Rattle.encode_layer.specs.Entries.{entry, nodeOf, entries, entriesOf, layerOf, entryAt, setEntry}
-use Rattle.encode_layer.specs.declared.Entry.{Entry}
+use Rattle.encode_layer.specs.Entries.{Entry, entry, nodeOf, entries, entriesOf, layerOf, entryAt, setEntry}
 use Rattle.encode_layer.specs.Layer.{Sound, Indexed, Bounds, bounds, Held, Over, Represents, held, over, Changes, Pushes}
 use Rattle.encode_layer.proofs.Entries.{length-entries, entries-set, length-of, entry-of, before-set}
 use Rattle.encode_layer.proofs.Pigeonhole.{Hit, pigeonhole}

@@ -6,10 +6,14 @@ use Rattle.coding.specs.Candidates.{Cand}
 use Rattle.coding.specs.Search.{Node}
 use Rattle.encode_states.specs.Packed.{unpack}
 use Rattle.encode_states.specs.Written.{written}
-use Rattle.encode_layer.specs.declared.Entry.{Entry}
 
--- a node by its four numbers: the packed state, the cost, how it was written × 131,072 + its place before, and where the layer before begins, in
--- nodes
+-- the packed state, the cost, how it was written × 131,072 + its place before, and where the layer before begins, in nodes
+pub record Entry : Type 0 where
+  pub state : ℕ
+  pub cost : ℕ
+  pub link : ℕ
+  pub back : ℕ
+
 abbrev pub entry : ℕ → ℕ → ℕ → ℕ → Entry
 entry a b c d = record { state = a; cost = b; link = c; back = d }
 

@@ -7,8 +7,7 @@ use Rattle.base.specs.Lists.{All}
 use Rattle.coding.specs.Candidates.{Cand}
 use Rattle.coding.specs.Search.{Node, pushAll}
 use Rattle.encode_states.specs.Packed.{Proper}
-use Rattle.encode_layer.specs.Entries.{entry, entriesOf, layerOf}
-use Rattle.encode_layer.specs.declared.Entry.{Entry}
+use Rattle.encode_layer.specs.Entries.{Entry, entry, entriesOf, layerOf}
 
 -- a node of a state that the coder can reach, that costs at most `most`, and that tells where the layer before begins
 pub record Sound (back most : ℕ) (e : Entry) : Type 0 where

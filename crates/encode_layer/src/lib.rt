@@ -8,56 +8,49 @@ ghost use Rattle.base.specs.Lists.{All};
 ghost use Rattle.coding.specs.Candidates.{Cand};
 ghost use Rattle.coding.specs.Search.{least, lower, floorOf};
 ghost use Rattle.encode_states.specs.Packed.{Proper};
-ghost use Rattle.encode_layer.specs.Entries.{setEntry, nodeOf, entriesOf, layerOf};
+ghost use Rattle.encode_layer.specs.Entries.{entry, setEntry, nodeOf, entriesOf, layerOf};
 ghost use Rattle.encode_layer.specs.Layer.{bounds, HasRoom, Pushes};
 ghost use Rattle.encode_layer.specs.Kept.{Kept};
 
-/// A node: its packed state, its cost, how it was written × 131,072 + its place before, and where the layer before
-/// begins, in nodes.
-pub struct Entry {
-    pub state: u32,
-    pub cost: u32,
-    pub link: u32,
-    pub back: u32,
-}
-
-/// Where a layer is written: its first node's place, and how many nodes have room from there on.
-pub struct Area {
-    pub from: usize,
-    pub cap: usize,
-}
-
 /// Writes a node at a place.
-pub fn put_node(store: &mut [u32], place: usize, node: Entry)
+pub fn put_node(store: &mut [u32], place: usize, state: u32, cost: u32, link: u32, back: u32)
     requires { ⌜ place * 4 + 4 ≤ length (now store) ⌝ }
-    ensures { λ _. ⌜ now (store .exit) ≡ setEntry (now (store .entry)) place node ⌝ }
+    ensures { λ _. ⌜ now (store .exit) ≡ setEntry (now (store .entry)) place (entry state cost link back) ⌝ }
 {
     let at = place * 4;
-    store[at] = node.state;
-    store[at + 1] = node.cost;
-    store[at + 2] = node.link;
-    store[at + 3] = node.back;
+    store[at] = state;
+    store[at + 1] = cost;
+    store[at + 2] = link;
+    store[at + 3] = back;
 }
 
-/// Pushes a node into the layer, which has count nodes. Returns how many it has then: cap + 1 says that they are more
-/// than have room, and stays so.
-pub fn push(store: &mut [u32], index: &mut [u16], area: Area, count: usize, node: Entry) -> usize
-    requires { ⌜ HasRoom (area .from) (area .cap) (now store) (now index) × Proper (node .state) ⌝ }
-    ensures { λ r. ⌜ ((cs : List Cand) (most : ℕ) → node .cost ≤ most → Pushes cs (bounds (area .from) (area .cap) (node .back) most) (now (store .entry)) (now (index .entry))
-        count (now (store .exit)) (now (index .exit)) r (nodeOf cs node ∷ [])) ⌝ }
+/// Pushes a node into the layer of count nodes from the node from on, which has room for cap nodes.
+/// Returns how many it has then: cap + 1 says that they are more than have room, and stays so.
+pub fn push(
+    store: &mut [u32],
+    index: &mut [u16],
+    from: usize,
+    cap: usize,
+    count: usize,
+    state: u32,
+    cost: u32,
+    link: u32,
+    back: u32,
+) -> usize
+    requires { ⌜ HasRoom from cap (now store) (now index) × Proper state ⌝ }
+    ensures { λ r. ⌜ ((cs : List Cand) (most : ℕ) → cost ≤ most → Pushes cs (bounds from cap back most) (now (store .entry)) (now (index .entry)) count (now (store .exit))
+        (now (index .exit)) r (nodeOf cs (entry state cost link back) ∷ [])) ⌝ }
 {
-    let from = area.from;
-    let cap = area.cap;
     if cap < count {
         return count;
     }
-    let key = node.state as usize;
+    let key = state as usize;
     let place = index[key] as usize;
     if place < count {
         let at = (from + place) * 4;
-        if store[at] == node.state {
-            if node.cost < store[at + 1] {
-                put_node(store, from + place, node);
+        if store[at] == state {
+            if cost < store[at + 1] {
+                put_node(&mut *store, from + place, state, cost, link, back);
                 return count;
             }
             return count;
@@ -67,7 +60,7 @@ pub fn push(store: &mut [u32], index: &mut [u16], area: Area, count: usize, node
         return count + 1;
     }
     index[key] = count as u16;
-    put_node(store, from + count, node);
+    put_node(&mut *store, from + count, state, cost, link, back);
     count + 1
 }
 
@@ -137,13 +130,7 @@ pub fn keep(store: &mut [u32], from: usize, count: usize, most: u32) -> usize
             let state = store[at];
             let link = store[at + 2];
             let back = store[at + 3];
-            let node = Entry {
-                state,
-                cost,
-                link,
-                back,
-            };
-            put_node(&mut *store, from + kept, node);
+            put_node(&mut *store, from + kept, state, cost, link, back);
             kept += 1;
         }
         i += 1;

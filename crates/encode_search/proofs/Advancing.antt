@@ -9,8 +9,7 @@ use Rattle.base.specs.Lists.{All}
 use Rattle.base.proofs.Every.{all-map}
 use Rattle.coding.specs.Candidates.{Cand}
 use Rattle.coding.specs.Search.{Node, reach, least, keep, floorOf}
-use Rattle.encode_layer.specs.Entries.{nodeOf, entriesOf, layerOf}
-use Rattle.encode_layer.specs.declared.Entry.{Entry}
+use Rattle.encode_layer.specs.Entries.{Entry, nodeOf, entriesOf, layerOf}
 use Rattle.encode_layer.specs.Layer.{Sound, bounds, Held, Over, Represents, held, over}
 use Rattle.encode_layer.specs.Kept.{Kept}
 use Rattle.encode_layer.proofs.Entries.{length-of}

@@ -12,8 +12,7 @@ use Rattle.base.proofs.Every.{all-at}
 use Rattle.coding.specs.Candidates.{Cand}
 use Rattle.coding.specs.Search.{Node, byCands, reach}
 use Rattle.encode_states.specs.Packed.{unpack, Proper}
-use Rattle.encode_layer.specs.Entries.{entry, nodeOf, entriesOf, layerOf, entryAt}
-use Rattle.encode_layer.specs.declared.Entry.{Entry}
+use Rattle.encode_layer.specs.Entries.{Entry, entry, nodeOf, entriesOf, layerOf, entryAt}
 use Rattle.encode_layer.specs.Layer.{Sound, Bounds, bounds, Held, Represents, held}
 use Rattle.encode_layer.proofs.Entries.{length-of, entry-of}
 use Rattle.encode_layer.proofs.Pushing.{blank}

@@ -17,8 +17,7 @@ use Rattle.encode_candidates.specs.Packed.{packed}
 use Rattle.encode_tokens.specs.Contracts.{HoldCharacters}
 use Rattle.encode_states.specs.Packed.{Packs}
 use Rattle.encode_states.specs.Written.{written, writtenAt}
-use Rattle.encode_layer.specs.Entries.{entry, nodeOf, entriesOf, layerOf, setEntry}
-use Rattle.encode_layer.specs.declared.Entry.{Entry}
+use Rattle.encode_layer.specs.Entries.{Entry, entry, nodeOf, entriesOf, layerOf, setEntry}
 use Rattle.encode_layer.specs.Layer.{Sound}
 use Rattle.encode_layer.proofs.Entries.{same-entries}
 use Rattle.encode_layer.proofs.Standing.{of-new}

@@ -12,8 +12,7 @@ use Rattle.tables_reverse.specs.Reverse.{kanjiReverse, additionalReverse}
 use Rattle.encode_candidates.specs.Packed.{packed}
 use Rattle.encode_tokens.specs.Contracts.{HoldCharacters}
 use Rattle.encode_states.specs.Packed.{Proper}
-use Rattle.encode_layer.specs.Entries.{entriesOf, layerOf}
-use Rattle.encode_layer.specs.declared.Entry.{Entry}
+use Rattle.encode_layer.specs.Entries.{Entry, entriesOf, layerOf}
 use Rattle.encode_layer.specs.Layer.{Sound, bounds, Represents}
 use Rattle.encode_ways.specs.Turn.{MatchAll}
 

@@ -1,7 +1,5 @@
 // The search for the shortest coding, a layer of states for each character, in the lent store: the
 // loop of `encode_with` of encode.rs.
-use encode_layer::Area;
-use encode_layer::Entry;
 ghost use mathlib.Core.Path.{_≡_};
 ghost use mathlib.Core.List.{List, [], _∷_};
 ghost use Prim.Native.Nat.{ℕ, _+_, _-_, _*_, _/_, _%_, _≤_, _<_};
@@ -30,25 +28,22 @@ fn reach<'a>(
 {
     let from = pfrom + pcount;
     let back = pfrom as u32;
-    let area = Area { from, cap };
     let mut count: usize = 0;
     let mut i: usize = 0;
     while i < pcount {
         let at = (pfrom + i) * 4;
         let a = store[at];
         let cost = store[at + 1];
-        let node = Entry {
-            state: a,
-            cost,
-            link: i as u32,
-            back,
-        };
         count = encode_ways::by_candidates(
             &mut *store,
             &mut *index,
-            area,
+            from,
+            cap,
             count,
-            node,
+            a,
+            cost,
+            i as u32,
+            back,
             m,
             sets,
             codes,
@@ -272,13 +267,7 @@ pub fn search(
     }
     let mut index = [0u16; 98304];
     let a = encode_states::start(initial);
-    let node = Entry {
-        state: a,
-        cost: 0,
-        link: 0,
-        back: 0,
-    };
-    encode_layer::put_node(&mut *store, 0, node);
+    encode_layer::put_node(&mut *store, 0, a, 0, 0, 0);
     run(
         &mut *store,
         &mut index[..],

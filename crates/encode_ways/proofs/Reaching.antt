@@ -42,13 +42,13 @@ same-set s (suc (suc zero)) x e = λ i. record { g0 = s .g0; g1 = s .g1; g2 = sy
 same-set s (suc (suc (suc n))) x e = λ i. record { g0 = s .g0; g1 = s .g1; g2 = s .g2; g3 = sym e i; gl = s .gl; gr = s .gr; narrow = s .narrow }
 
 module _ (s : State) (n y x : ℕ) (c : Codes y (setIn s n)) where
-  pub stands-there : y ≡ x → byElement s (setOf x) n ≡ through [] (designate s n (setOf x)) n
+  stands-there : y ≡ x → byElement s (setOf x) n ≡ through [] (designate s n (setOf x)) n
   unfolding byElement
   stands-there e =
       let q : setIn s n ≡ setOf x = sym (c .is) ∙ ap setOf e in
       rw (same-set s n (setOf x) q, eq-eqb (setIn s n) (setOf x) q)
 
-  pub is-designated : (y ≡ x → ⊥) → byElement s (setOf x) n ≡ through (designation (setOf x) n) (designate s n (setOf x)) n
+  is-designated : (y ≡ x → ⊥) → byElement s (setOf x) n ≡ through (designation (setOf x) n) (designate s n (setOf x)) n
   unfolding byElement
   is-designated e = rw (ne-eqb (setIn s n) (setOf x) (λ q. e (one-set y x (c .is ∙ q))))
 
@@ -77,6 +77,18 @@ byWays-append : (t : Turn) (ws vs : List Way) → byWays (t .base) (t .place) (t
 unfolding byWays
 byWays-append t [] vs = refl
 byWays-append t (w ∷ ws) vs = ap (λ (l : List Node). reached t (w .pre) (w .to) (w .hi) ∷ l) (byWays-append t ws vs)
+
+-- the pushes through a code element are those of `byElement`
+module _ {cs : List Cand} {r : Bounds} {s ix s′ ix′ : List ℕ} {count count′ : ℕ} (t : Turn) (q : State) (n y x b : ℕ) (c : Codes y (setIn q n)) (e : unpack b ≡ designate q n (setOf x)) where
+  pub element-standing : y ≡ x → Pushes cs r s ix count s′ ix′ count′ (byWays (t .base) (t .place) (t .pre) (t .code) (through [] (unpack b) n)) →
+      Pushes cs r s ix count s′ ix′ count′ (byWays (t .base) (t .place) (t .pre) (t .code) (byElement q (setOf x) n))
+  element-standing h p = pushes-as _ _ (ap (byWays (t .base) (t .place) (t .pre) (t .code)) (ap (λ (z : State). through [] z n) e ∙ sym (stands-there q n y x c h))) p
+
+  pub element-designated : (y ≡ x → ⊥) → Pushes cs r s ix count s′ ix′ count′
+      (byWays (t .base) (t .place) (t .pre) (t .code) (through (designation (setOf x) n) (unpack b) n)) →
+      Pushes cs r s ix count s′ ix′ count′ (byWays (t .base) (t .place) (t .pre) (t .code) (byElement q (setOf x) n))
+  element-designated h p =
+      pushes-as _ _ (ap (byWays (t .base) (t .place) (t .pre) (t .code)) (ap (λ (z : State). through (designation (setOf x) n) z n) e ∙ sym (is-designated q n y x c h))) p
 
 -- no code element, and one more
 pub up-none : (cs : List Cand) (r : Bounds) (s ix : List ℕ) (count : ℕ) (t : Turn) (q : State) (x : ℕ) →

@@ -8,11 +8,10 @@ use lib.ListN.{length, getD}
 use Rattle.sets.specs.Sets.{designation}
 use Rattle.coding.specs.State.{State}
 use Rattle.coding.specs.Candidates.{Cand, graphic, plain}
-use Rattle.coding.specs.Ways.{Way, through, byElement}
+use Rattle.coding.specs.Ways.{Way, byElement}
 use Rattle.coding.specs.Search.{Node}
-use Rattle.encode_states.specs.Packed.{setOf, unpack, Proper}
+use Rattle.encode_states.specs.Packed.{setOf, unpack}
 use Rattle.encode_states.specs.Written.{sizeControl, written, invocation, half}
-use Rattle.encode_layer.specs.declared.Entry.{Entry}
 
 -- the code element n is invoked neither in GL nor in GR; the two that are
 pub record Apart (s : State) (n : ℕ) : Type 0 where
@@ -59,22 +58,6 @@ pub record By (cs : List Cand) (t : Turn) (x cost link : ℕ) : Type 0 where
   pub costs : cost ≡ t .base + (length (t .pre) + length (t .code))
   pub prev : (h : ℕ) → (link + h * 8388608) % 131072 ≡ t .place
   pub bytes : (e d v : ℕ) → e < 4 → d < 2 → written cs ((link + (e + 4 * (d + 2 * v)) * 8388608) / 131072) ≡ bytesOf t (prefix d x e) e v
-
--- the ways through the code element n to the set of code x are those of `through` after the bytes p, from the node r
-pub record ByElement (cs : List Cand) (t : Turn) (s : State) (n x : ℕ) (r : Entry) : Type 0 where
-  pub before : List ℕ
-  pub numbers : Through cs t before n (r .cost) (r .link)
-  pub same : through before (unpack (r .state)) n ≡ byElement s (setOf x) n
-
--- r is the node through the code element n, to which the set of code x is designated unless it stands there
-pub record Designated (node : Entry) (n x : ℕ) (r : Entry) : Type 0 where
-  pub proper : Proper (r .state)
-  pub sized : Sized (r .cost) (r .link)
-  pub few : r .cost ≤ node .cost + 4
-  pub back : r .back ≡ node .back
-  pub left : unpack (r .state) .gl ≡ unpack (node .state) .gl
-  pub right : unpack (r .state) .gr ≡ unpack (node .state) .gr
-  pub way : (cs : List Cand) (t : Turn) → By cs t x (node .cost) (node .link) → ByElement cs t (unpack (node .state)) n x r
 
 -- the ways through the code elements before n
 unfoldable pub upTo : State → ℕ → ℕ → List Way

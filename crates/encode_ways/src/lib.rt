@@ -1,8 +1,6 @@
 // The nodes that a node reaches by a candidate, pushed into the layer in the order of `ways` of
 // encode.rs. A node's link is that of its place before, to which each choice on the way adds its
 // part: specs/Turn.antt.
-use encode_layer::Area;
-use encode_layer::Entry;
 ghost use mathlib.Core.Path.{_≡_};
 ghost use mathlib.Core.List.{List, [], _∷_};
 ghost use Prim.Native.Nat.{ℕ, _+_, _*_, _/_, _%_, _≤_, _<_};
@@ -13,9 +11,8 @@ ghost use Rattle.coding.specs.Ways.{through, byElement, ways};
 ghost use Rattle.coding.specs.Search.{Node, sizeBytes, sized, byWays, byCand, byCands};
 ghost use Rattle.encode_states.specs.Packed.{setOf, unpack, Proper, Packs, Codes, Element};
 ghost use Rattle.encode_states.specs.Written.{sizeControl};
-ghost use Rattle.encode_layer.specs.Entries.{entry};
 ghost use Rattle.encode_layer.specs.Layer.{bounds, HasRoom, Changes, Pushes};
-ghost use Rattle.encode_ways.specs.Turn.{Apart, Invoked, Sized, Small, Turn, Through, By, Designated, upTo, Control, Is, Matches, lengthOf, MatchAll};
+ghost use Rattle.encode_ways.specs.Turn.{Apart, Invoked, Sized, Small, Turn, Through, By, upTo, Control, Is, Matches, lengthOf, MatchAll};
 
 /// What the invocations add to a link: as the code element stands in GR, by a locking shift to GL, by
 /// one to GR, by a single shift.
@@ -36,148 +33,224 @@ const ELEMENT: u32 = 8388608;
 
 const DESIGNATED: u32 = 33554432;
 
-/// Pushes the ways through the code element n of the node's state, in which it is not invoked.
+/// Pushes the ways through the code element n of the state a, in which it is not invoked.
 fn by_shift(
     store: &mut [u32],
     index: &mut [u16],
-    area: Area,
+    from: usize,
+    cap: usize,
     count: usize,
-    node: Entry,
+    a: u32,
     n: u32,
+    cost: u32,
+    link: u32,
+    back: u32,
 ) -> usize
-    requires { ⌜ HasRoom (area .from) (area .cap) (now store) (now index) × Proper (node .state) × Apart (unpack (node .state)) n × Sized (node .cost) (node .link) × (n < 4) ⌝ }
-    ensures { λ c. ⌜ ((cs : List Cand) (most : ℕ) (t : Turn) (p : List ℕ) → Through cs t p n (node .cost) (node .link) → node .cost + 2 ≤ most →
-        Pushes cs (bounds (area .from) (area .cap) (node .back) most) (now (store .entry)) (now (index .entry)) count (now (store .exit)) (now (index .exit)) c
-        (byWays (t .base) (t .place) (t .pre) (t .code) (through p (unpack (node .state)) n))) ⌝ }
+    requires { ⌜ HasRoom from cap (now store) (now index) × Proper a × Apart (unpack a) n × Sized cost link × (n < 4) ⌝ }
+    ensures { λ c. ⌜ ((cs : List Cand) (most : ℕ) (t : Turn) (p : List ℕ) → Through cs t p n cost link → cost + 2 ≤ most →
+        Pushes cs (bounds from cap back most) (now (store .entry)) (now (index .entry)) count (now (store .exit)) (now (index .exit)) c
+        (byWays (t .base) (t .place) (t .pre) (t .code) (through p (unpack a) n))) ⌝ }
 {
-    let left = Entry {
-        state: encode_states::to_gl(node.state, n),
-        cost: node.cost + encode_states::lock_length(n),
-        link: node.link + TO_GL,
-        back: node.back,
-    };
-    let c = encode_layer::push(&mut *store, &mut *index, area, count, left);
+    let left = encode_states::to_gl(a, n);
+    let lock = cost + encode_states::lock_length(n);
+    let c = encode_layer::push(
+        &mut *store,
+        &mut *index,
+        from,
+        cap,
+        count,
+        left,
+        lock,
+        link + TO_GL,
+        back,
+    );
     if n == 0 {
         return c;
     }
-    let right = Entry {
-        state: encode_states::to_gr(node.state, n),
-        cost: node.cost + 2,
-        link: node.link + TO_GR,
-        back: node.back,
-    };
-    let d = encode_layer::push(&mut *store, &mut *index, area, c, right);
+    let right = encode_states::to_gr(a, n);
+    let d = encode_layer::push(
+        &mut *store,
+        &mut *index,
+        from,
+        cap,
+        c,
+        right,
+        cost + 2,
+        link + TO_GR,
+        back,
+    );
     if n < 2 {
         return d;
     }
-    let single = Entry {
-        state: node.state,
-        cost: node.cost + 1,
-        link: node.link + SINGLE,
-        back: node.back,
-    };
-    encode_layer::push(store, index, area, d, single)
+    encode_layer::push(
+        &mut *store,
+        &mut *index,
+        from,
+        cap,
+        d,
+        a,
+        cost + 1,
+        link + SINGLE,
+        back,
+    )
 }
 
-/// The node through GR instead of GL.
-fn in_gr(node: Entry) -> Entry
-    requires { ⌜ node .link < 67108864 ⌝ }
-    ensures { λ r. ⌜ r ≡ entry (node .state) (node .cost) (node .link + 67108864) (node .back) ⌝ }
-{
-    Entry {
-        state: node.state,
-        cost: node.cost,
-        link: node.link + IN_GR,
-        back: node.back,
-    }
-}
-
-/// A code element, and those that are in GL and in GR.
-struct CodeElement {
-    n: u32,
-    left: u32,
-    right: u32,
-}
-
-/// Pushes the ways through a code element of the node's state.
+/// Pushes the ways through the code element n of the state a, in which l is in GL and r in GR.
 fn through(
     store: &mut [u32],
     index: &mut [u16],
-    area: Area,
+    from: usize,
+    cap: usize,
     count: usize,
-    node: Entry,
-    element: CodeElement,
+    a: u32,
+    l: u32,
+    r: u32,
+    n: u32,
+    cost: u32,
+    link: u32,
+    back: u32,
 ) -> usize
-    requires { ⌜ HasRoom (area .from) (area .cap) (now store) (now index) × Proper (node .state) × Invoked (unpack (node .state)) (element .left) (element .right) ×
-        Sized (node .cost) (node .link) × (element .n < 4) ⌝ }
-    ensures { λ c. ⌜ ((cs : List Cand) (most : ℕ) (t : Turn) (p : List ℕ) → Through cs t p (element .n) (node .cost) (node .link) → node .cost + 2 ≤ most →
-        Pushes cs (bounds (area .from) (area .cap) (node .back) most) (now (store .entry)) (now (index .entry)) count (now (store .exit)) (now (index .exit)) c
-        (byWays (t .base) (t .place) (t .pre) (t .code) (through p (unpack (node .state)) (element .n)))) ⌝ }
+    requires { ⌜ HasRoom from cap (now store) (now index) × Proper a × Invoked (unpack a) l r × Sized cost link × (n < 4) ⌝ }
+    ensures { λ c. ⌜ ((cs : List Cand) (most : ℕ) (t : Turn) (p : List ℕ) → Through cs t p n cost link → cost + 2 ≤ most →
+        Pushes cs (bounds from cap back most) (now (store .entry)) (now (index .entry)) count (now (store .exit)) (now (index .exit)) c
+        (byWays (t .base) (t .place) (t .pre) (t .code) (through p (unpack a) n))) ⌝ }
 {
-    if element.left == element.n {
-        let c = encode_layer::push(&mut *store, &mut *index, area, count, node);
-        if element.right == element.n {
-            return encode_layer::push(store, index, area, c, in_gr(node));
+    if l == n {
+        let c = encode_layer::push(
+            &mut *store,
+            &mut *index,
+            from,
+            cap,
+            count,
+            a,
+            cost,
+            link,
+            back,
+        );
+        if r == n {
+            return encode_layer::push(
+                &mut *store,
+                &mut *index,
+                from,
+                cap,
+                c,
+                a,
+                cost,
+                link + IN_GR,
+                back,
+            );
         }
         return c;
     }
-    if element.right == element.n {
-        return encode_layer::push(store, index, area, count, in_gr(node));
-    }
-    by_shift(store, index, area, count, node, element.n)
-}
-
-/// The node through the code element n, to which the set of code x is designated unless it stands there.
-fn designated(node: Entry, n: u32, x: u32) -> Entry
-    requires { ⌜ Proper (node .state) × Small (node .cost) (node .link) × (n < 4) × (x < 6) ⌝ }
-    ensures { λ r. ⌜ Designated node n x r ⌝ }
-{
-    let state = encode_states::designate(node.state, n, x);
-    let back = node.back;
-    let link = node.link + n * ELEMENT;
-    if encode_states::set_in(node.state, n) != x {
-        return Entry {
-            state,
-            cost: node.cost + encode_states::designation_length(x, n),
-            link: link + DESIGNATED,
+    if r == n {
+        return encode_layer::push(
+            &mut *store,
+            &mut *index,
+            from,
+            cap,
+            count,
+            a,
+            cost,
+            link + IN_GR,
             back,
-        };
+        );
     }
-    Entry {
-        state,
-        cost: node.cost,
+    by_shift(
+        &mut *store,
+        &mut *index,
+        from,
+        cap,
+        count,
+        a,
+        n,
+        cost,
         link,
         back,
+    )
+}
+
+/// Pushes the ways through the code element n, to which the set of code x is designated unless it
+/// stands there.
+fn by_element(
+    store: &mut [u32],
+    index: &mut [u16],
+    from: usize,
+    cap: usize,
+    count: usize,
+    a: u32,
+    l: u32,
+    r: u32,
+    n: u32,
+    x: u32,
+    cost: u32,
+    link: u32,
+    back: u32,
+) -> usize
+    requires { ⌜ HasRoom from cap (now store) (now index) × Proper a × Invoked (unpack a) l r × Small cost link × (n < 4) × (x < 6) ⌝ }
+    ensures { λ c. ⌜ ((cs : List Cand) (most : ℕ) (t : Turn) → By cs t x cost link → cost + 6 ≤ most →
+        Pushes cs (bounds from cap back most) (now (store .entry)) (now (index .entry)) count (now (store .exit)) (now (index .exit)) c
+        (byWays (t .base) (t .place) (t .pre) (t .code) (byElement (unpack a) (setOf x) n))) ⌝ }
+{
+    let b = encode_states::designate(a, n, x);
+    let mut more = cost;
+    let mut k = link + n * ELEMENT;
+    if encode_states::set_in(a, n) != x {
+        more = cost + encode_states::designation_length(x, n);
+        k = k + DESIGNATED;
     }
+    through(
+        &mut *store,
+        &mut *index,
+        from,
+        cap,
+        count,
+        b,
+        l,
+        r,
+        n,
+        more,
+        k,
+        back,
+    )
 }
 
 /// Pushes the ways through each code element.
 fn by_elements(
     store: &mut [u32],
     index: &mut [u16],
-    area: Area,
+    from: usize,
+    cap: usize,
     count: usize,
-    node: Entry,
+    a: u32,
     x: u32,
+    cost: u32,
+    link: u32,
+    back: u32,
 ) -> usize
-    requires { ⌜ HasRoom (area .from) (area .cap) (now store) (now index) × Proper (node .state) × Small (node .cost) (node .link) × (x < 6) ⌝ }
-    ensures { λ c. ⌜ ((cs : List Cand) (most : ℕ) (t : Turn) → By cs t x (node .cost) (node .link) → node .cost + 6 ≤ most →
-        Pushes cs (bounds (area .from) (area .cap) (node .back) most) (now (store .entry)) (now (index .entry)) count (now (store .exit)) (now (index .exit)) c
-        (byWays (t .base) (t .place) (t .pre) (t .code) (upTo (unpack (node .state)) (setOf x) 4))) ⌝ }
+    requires { ⌜ HasRoom from cap (now store) (now index) × Proper a × Small cost link × (x < 6) ⌝ }
+    ensures { λ c. ⌜ ((cs : List Cand) (most : ℕ) (t : Turn) → By cs t x cost link → cost + 6 ≤ most →
+        Pushes cs (bounds from cap back most) (now (store .entry)) (now (index .entry)) count (now (store .exit)) (now (index .exit)) c
+        (byWays (t .base) (t .place) (t .pre) (t .code) (upTo (unpack a) (setOf x) 4))) ⌝ }
 {
-    let left = encode_states::gl(node.state);
-    let right = encode_states::gr(node.state);
+    let l = encode_states::gl(a);
+    let r = encode_states::gr(a);
     let mut c = count;
     let mut n: u32 = 0;
     while n < 4 {
-        let to = designated(node, n, x);
-        c = through(
+        c = by_element(
             &mut *store,
             &mut *index,
-            area,
+            from,
+            cap,
             c,
-            to,
-            CodeElement { n, left, right },
+            a,
+            l,
+            r,
+            n,
+            x,
+            cost,
+            link,
+            back,
         );
         n += 1;
     }
@@ -188,29 +261,74 @@ fn by_elements(
 fn by_ways(
     store: &mut [u32],
     index: &mut [u16],
-    area: Area,
+    from: usize,
+    cap: usize,
     count: usize,
-    node: Entry,
+    a: u32,
     x: u32,
+    cost: u32,
+    link: u32,
+    back: u32,
 ) -> usize
-    requires { ⌜ HasRoom (area .from) (area .cap) (now store) (now index) × Proper (node .state) × Small (node .cost) (node .link) × (x < 6) ⌝ }
-    ensures { λ c. ⌜ ((cs : List Cand) (most : ℕ) (t : Turn) → By cs t x (node .cost) (node .link) → node .cost + 6 ≤ most →
-        Pushes cs (bounds (area .from) (area .cap) (node .back) most) (now (store .entry)) (now (index .entry)) count (now (store .exit)) (now (index .exit)) c
-        (byWays (t .base) (t .place) (t .pre) (t .code) (ways (unpack (node .state)) (setOf x)))) ⌝ }
+    requires { ⌜ HasRoom from cap (now store) (now index) × Proper a × Small cost link × (x < 6) ⌝ }
+    ensures { λ c. ⌜ ((cs : List Cand) (most : ℕ) (t : Turn) → By cs t x cost link → cost + 6 ≤ most →
+        Pushes cs (bounds from cap back most) (now (store .entry)) (now (index .entry)) count (now (store .exit)) (now (index .exit)) c
+        (byWays (t .base) (t .place) (t .pre) (t .code) (ways (unpack a) (setOf x)))) ⌝ }
 {
-    let left = encode_states::set_in(node.state, encode_states::gl(node.state));
-    let right = encode_states::set_in(node.state, encode_states::gr(node.state));
+    let left = encode_states::set_in(a, encode_states::gl(a));
+    let right = encode_states::set_in(a, encode_states::gr(a));
     if left == x {
-        let c = encode_layer::push(&mut *store, &mut *index, area, count, node);
+        let c = encode_layer::push(
+            &mut *store,
+            &mut *index,
+            from,
+            cap,
+            count,
+            a,
+            cost,
+            link,
+            back,
+        );
         if right == x {
-            return encode_layer::push(store, index, area, c, in_gr(node));
+            return encode_layer::push(
+                &mut *store,
+                &mut *index,
+                from,
+                cap,
+                c,
+                a,
+                cost,
+                link + IN_GR,
+                back,
+            );
         }
         return c;
     }
     if right == x {
-        return encode_layer::push(store, index, area, count, in_gr(node));
+        return encode_layer::push(
+            &mut *store,
+            &mut *index,
+            from,
+            cap,
+            count,
+            a,
+            cost,
+            link + IN_GR,
+            back,
+        );
     }
-    by_elements(store, index, area, count, node, x)
+    by_elements(
+        &mut *store,
+        &mut *index,
+        from,
+        cap,
+        count,
+        a,
+        x,
+        cost,
+        link,
+        back,
+    )
 }
 
 /// The size control before a candidate of a size: none (0), MSZ (1) or NSZ (2).
@@ -254,50 +372,56 @@ fn sized(a: u32, size: u32) -> u32
     encode_states::resize(a, 0)
 }
 
-/// A candidate: the code of its set, or 7, its size, and the bytes of a graphic one's code.
-struct Choice {
-    set: u32,
-    size: u32,
-    len: u32,
-}
-
-/// Pushes the nodes that a node reaches by a candidate. The link has the node's place and the candidate's.
+/// Pushes the nodes that the node of the state a and a cost reaches by a candidate: the code x of its
+/// set, or 7, its size, and the bytes of a graphic one's code. The link has the node's place and the candidate's.
 fn by_candidate(
     store: &mut [u32],
     index: &mut [u16],
-    area: Area,
+    from: usize,
+    cap: usize,
     count: usize,
-    node: Entry,
-    choice: Choice,
+    a: u32,
+    x: u32,
+    size: u32,
+    len: u32,
+    cost: u32,
+    link: u32,
+    back: u32,
 ) -> usize
-    requires { ⌜ HasRoom (area .from) (area .cap) (now store) (now index) × Proper (node .state) × (node .cost ≤ 65535) × (choice .len ≤ 2) × (node .link < 2097152) ⌝ }
-    ensures { λ c. ⌜ ((cs : List Cand) (k : Cand) (ks : List Cand) (most : ℕ) (n : Node) → drop (node .link / 131072) cs ≡ k ∷ ks →
-        Matches (choice .set) (choice .size) (choice .len) k → Is n (node .state) (node .cost) → node .cost + 9 ≤ most →
-        Pushes cs (bounds (area .from) (area .cap) (node .back) most) (now (store .entry)) (now (index .entry)) count (now (store .exit)) (now (index .exit)) c
-        (byCand n (node .link % 131072) k)) ⌝ }
+    requires { ⌜ HasRoom from cap (now store) (now index) × Proper a × (cost ≤ 65535) × (len ≤ 2) × (link < 2097152) ⌝ }
+    ensures { λ c. ⌜ ((cs : List Cand) (k : Cand) (ks : List Cand) (most : ℕ) (n : Node) → drop (link / 131072) cs ≡ k ∷ ks → Matches x size len k → Is n a cost →
+        cost + 9 ≤ most → Pushes cs (bounds from cap back most) (now (store .entry)) (now (index .entry)) count (now (store .exit)) (now (index .exit)) c
+        (byCand n (link % 131072) k)) ⌝ }
 {
-    let z = size_control(node.state, choice.size);
-    let state = sized(node.state, choice.size);
-    let control = node.cost + control_length(z);
-    let link = node.link + z * CONTROL;
-    let back = node.back;
-    if choice.set < 6 {
-        let cost = control + choice.len;
-        let sized = Entry {
-            state,
-            cost,
-            link,
+    let b = sized(a, size);
+    let z = size_control(a, size);
+    let control = cost + control_length(z);
+    let k = link + z * CONTROL;
+    if x < 6 {
+        return by_ways(
+            &mut *store,
+            &mut *index,
+            from,
+            cap,
+            count,
+            b,
+            x,
+            control + len,
+            k,
             back,
-        };
-        return by_ways(store, index, area, count, sized, choice.set);
+        );
     }
-    let plain = Entry {
-        state,
-        cost: control + 1,
-        link,
+    encode_layer::push(
+        &mut *store,
+        &mut *index,
+        from,
+        cap,
+        count,
+        b,
+        control + 1,
+        k,
         back,
-    };
-    encode_layer::push(store, index, area, count, plain)
+    )
 }
 
 /// The bytes of a code: one, or row and cell.
@@ -313,43 +437,49 @@ fn wide(x: u8) -> u32
     x as u32
 }
 
-/// Pushes the nodes that a node, whose link is its place, reaches by each of m candidates.
+/// Pushes the nodes that the i-th node, of the state a and a cost, reaches by each of m candidates.
 pub fn by_candidates<'a>(
     store: &mut [u32],
     index: &mut [u16],
-    area: Area,
+    from: usize,
+    cap: usize,
     count: usize,
-    node: Entry,
+    a: u32,
+    cost: u32,
+    i: u32,
+    back: u32,
     m: usize,
     sets: &'a [u8; 9],
     codes: &'a [u16; 9],
     sizes: &'a [u8; 9],
 ) -> usize
-    requires { ⌜ HasRoom (area .from) (area .cap) (now store) (now index) × Proper (node .state) × (node .cost ≤ 65535) × (node .link < 131072) × (m ≤ 9) ⌝ }
-    ensures kept { λ _. ⌜ take (area .from * 4) (now (store .exit)) ≡ take (area .from * 4) (now (store .entry)) ⌝ }
-    ensures reached { λ c. ⌜ ((cs : List Cand) (most : ℕ) (n : Node) → MatchAll cs m (now (sets .entry)) (now (codes .entry)) (now (sizes .entry)) →
-        Is n (node .state) (node .cost) → node .cost + 9 ≤ most → Changes cs (bounds (area .from) (area .cap) (node .back) most) (now (store .entry)) (now (index .entry))
-        count (now (store .exit)) (now (index .exit)) c (λ l. byCands n (node .link) l cs)) ⌝ }
+    requires { ⌜ HasRoom from cap (now store) (now index) × Proper a × (cost ≤ 65535) × (i < 131072) × (m ≤ 9) ⌝ }
+    ensures kept { λ _. ⌜ take (from * 4) (now (store .exit)) ≡ take (from * 4) (now (store .entry)) ⌝ }
+    ensures reached { λ c. ⌜ ((cs : List Cand) (most : ℕ) (n : Node) → MatchAll cs m (now (sets .entry)) (now (codes .entry)) (now (sizes .entry)) → Is n a cost →
+        cost + 9 ≤ most → Changes cs (bounds from cap back most) (now (store .entry)) (now (index .entry)) count (now (store .exit)) (now (index .exit)) c
+        (λ l. byCands n i l cs)) ⌝ }
 {
-    let state = node.state;
-    let cost = node.cost;
-    let back = node.back;
     let mut c = count;
     let mut k: usize = 0;
     while k < m {
-        let choice = Choice {
-            set: wide(sets[k]),
-            size: wide(sizes[k]),
-            len: code_length(codes[k]),
-        };
-        let link = node.link + (k as u32) * CANDIDATE;
-        let by = Entry {
-            state,
+        let x = wide(sets[k]);
+        let size = wide(sizes[k]);
+        let len = code_length(codes[k]);
+        let link = i + (k as u32) * CANDIDATE;
+        c = by_candidate(
+            &mut *store,
+            &mut *index,
+            from,
+            cap,
+            c,
+            a,
+            x,
+            size,
+            len,
             cost,
             link,
             back,
-        };
-        c = by_candidate(&mut *store, &mut *index, area, c, by, choice);
+        );
         k += 1;
     }
     c

@@ -1,8 +1,7 @@
--- `push` meets its contract: by where the index says that the state stands. Assumes nothing.
 use mathlib.Core.Path.{refl}
 use mathlib.Core.Logic.{⊎-elim}
 use native.Mathlib.Omega.{arith}
-use Rattle.encode_layer.specs.Layer.{Sound}
+use Rattle.encode_layer.specs.Entries.{entry}
 use Rattle.encode_layer.proofs.Standing.{full, stays, replaces, overflows, adds}
 use borrow.Author.Needs.{needs}
 use Rattle.encode_layer.proofs.push.Statement.{statement}
@@ -13,15 +12,11 @@ use Rattle.encode_layer.proofs.put_node.Reads as put-node-reads
 
 returns : tie.Need-returns
 returns c =
-    let start = c .before .before .before in
-    let area = start .args .area in
-    let node = start .args .node in
+    let at-start = c .before .before .before in
+    let a = at-start .args in
     λ cs most h.
-    let sound : Sound (node .back) most node = record { proper = start .pre .1; cheap = h; linked = refl } in
-    full cs (area .from) (area .cap) (node .back) most (start .args .store .now) (start .args .index .now) (start .args .count) node (start .pre .0 .store) sound (c .if1 .taken)
-
-cast-key : tie.Need-cast-key
-cast-key c = search needs
+    full cs (a .from) (a .cap) (a .back) most (a .store .now) (a .index .now) (a .count) (entry (a .state) (a .cost) (a .link) (a .back)) (at-start .pre .0 .store)
+    (record { proper = at-start .pre .1; cheap = h; linked = refl }) (c .if1 .taken)
 
 mul-place : tie.Need-mul-place
 mul-place c = search needs
@@ -30,9 +25,7 @@ slice-read-place : tie.Need-slice-read-place
 slice-read-place c = search needs
 
 cast-place : tie.Need-cast-place
-cast-place c =
-    let at-start = c .before .before .before .before .before in
-    omega (arith, c .slice-known3 .given (at-start .args .node .state))
+cast-place c = omega (arith, c .slice-known3 .given (c .before .before .before .before .args .state))
 
 add-at : tie.Need-add-at
 add-at c = search needs
@@ -68,32 +61,26 @@ returns-2 : tie.Need-returns-2
 returns-2 c =
     let at-put-node = c .before .before in
     let at-if4 = at-put-node .before .before in
-    let at-if3 = at-if4 .before .before .before in
-    let at-if2 = at-if3 .before .before .before in
-    let at-if1 = at-if2 .before .before .before in
-    let at-place = at-if1 .before .before .before in
-    let start = at-place in
-    let area = start .args .area in
-    let node = start .args .node in
+    let at-if3 = at-if4 .before .before in
+    let at-if2 = at-if3 .before .before in
+    let at-if1 = at-if2 .before .before in
+    let at-start = at-if1 .before .before .before in
+    let a = at-start .args in
     λ cs most h.
-    let sound : Sound (node .back) most node = record { proper = start .pre .1; cheap = h; linked = refl } in
-    replaces cs (area .from) (area .cap) (node .back) most (start .args .store .now) (start .args .index .now) (start .args .count) node (start .pre .0 .store) sound _
-    (at-if1 .if1 .left) refl
-    (at-if2 .if2 .taken) (at-if3 .if3 .taken) _ (at-put-node .put-node .ensures) (at-if4 .if4 .taken)
+    replaces cs (a .from) (a .cap) (a .back) most (a .store .now) (a .index .now) (a .count) (entry (a .state) (a .cost) (a .link) (a .back)) (at-start .pre .0 .store)
+    (record { proper = at-start .pre .1; cheap = h; linked = refl }) _ (at-if1 .if1 .left) refl (at-if2 .if2 .taken) (at-if3 .if3 .taken) _
+    (at-put-node .put-node .ensures) (at-if4 .if4 .taken)
 
 returns-3 : tie.Need-returns-3
 returns-3 c =
-    let at-if3 = c .before .before .before in
-    let at-if2 = at-if3 .before .before .before in
-    let at-if1 = at-if2 .before .before .before in
-    let at-place = at-if1 .before .before .before in
-    let start = at-place in
-    let area = start .args .area in
-    let node = start .args .node in
+    let at-if3 = c .before .before in
+    let at-if2 = at-if3 .before .before in
+    let at-if1 = at-if2 .before .before in
+    let at-start = at-if1 .before .before .before in
+    let a = at-start .args in
     λ cs most h.
-    let sound : Sound (node .back) most node = record { proper = start .pre .1; cheap = h; linked = refl } in
-    stays cs (area .from) (area .cap) (node .back) most (start .args .store .now) (start .args .index .now) (start .args .count) node (start .pre .0 .store) sound _ (at-if1 .if1 .left) refl
-    (at-if2 .if2 .taken) (at-if3 .if3 .taken) (c .if4 .left)
+    stays cs (a .from) (a .cap) (a .back) most (a .store .now) (a .index .now) (a .count) (entry (a .state) (a .cost) (a .link) (a .back)) (at-start .pre .0 .store)
+    (record { proper = at-start .pre .1; cheap = h; linked = refl }) _ (at-if1 .if1 .left) refl (at-if2 .if2 .taken) (at-if3 .if3 .taken) (c .if4 .left)
 
 add-result : tie.Need-add-result
 add-result c = search needs
@@ -101,16 +88,13 @@ add-result c = search needs
 returns-4 : tie.Need-returns-4
 returns-4 c =
     let at-if2 = c .before in
-    let at-if1 = at-if2 .before .before .before in
-    let at-place = at-if1 .before .before .before in
-    let start = at-place in
-    let area = start .args .area in
-    let node = start .args .node in
+    let at-if1 = at-if2 .before .before in
+    let at-start = at-if1 .before .before .before in
+    let a = at-start .args in
     λ cs most h.
-    let sound : Sound (node .back) most node = record { proper = start .pre .1; cheap = h; linked = refl } in
-    overflows cs (area .from) (area .cap) (node .back) most (start .args .store .now) (start .args .index .now) (start .args .count) node (start .pre .0 .store) sound _
-    (at-if1 .if1 .left) refl
-    (⊎-elim (λ w. λ x. w .3 .left) (λ w. λ x. absurd (omega arith)) (at-if2 .if2 .came)) (c .if5 .taken)
+    overflows cs (a .from) (a .cap) (a .back) most (a .store .now) (a .index .now) (a .count) (entry (a .state) (a .cost) (a .link) (a .back)) (at-start .pre .0 .store)
+    (record { proper = at-start .pre .1; cheap = h; linked = refl }) _ (at-if1 .if1 .left) refl
+    (⊎-elim (λ w. λ x. w .2 .left) (λ w. λ x. absurd (omega arith)) (at-if2 .if2 .came)) (c .if5 .taken)
 
 cast-index : tie.Need-cast-index
 cast-index c = search needs
@@ -140,22 +124,19 @@ returns-5 : tie.Need-returns-5
 returns-5 c =
     let at-put-node2 = c .before .before in
     let at-if2 = at-put-node2 .before .before .before in
-    let at-if1 = at-if2 .before .before .before in
-    let at-place = at-if1 .before .before .before in
-    let start = at-place in
-    let area = start .args .area in
-    let node = start .args .node in
+    let at-if1 = at-if2 .before .before in
+    let at-start = at-if1 .before .before .before in
+    let a = at-start .args in
     λ cs most h.
-    let sound : Sound (node .back) most node = record { proper = start .pre .1; cheap = h; linked = refl } in
-    adds cs (area .from) (area .cap) (node .back) most (start .args .store .now) (start .args .index .now) (start .args .count) node (start .pre .0 .store) sound _ (at-if1 .if1 .left) refl
-    (⊎-elim (λ w. λ x. w .3 .left) (λ w. λ x. absurd (omega arith)) (at-if2 .if2 .came)) _ _ (omega arith) (start .pre .0 .index) refl (at-put-node2 .put-node2 .ensures)
+    adds cs (a .from) (a .cap) (a .back) most (a .store .now) (a .index .now) (a .count) (entry (a .state) (a .cost) (a .link) (a .back)) (at-start .pre .0 .store)
+    (record { proper = at-start .pre .1; cheap = h; linked = refl }) _ (at-if1 .if1 .left) refl
+    (⊎-elim (λ w. λ x. w .2 .left) (λ w. λ x. absurd (omega arith)) (at-if2 .if2 .came)) _ _ (omega arith) (at-start .pre .0 .index) refl (at-put-node2 .put-node2 .ensures)
 
 pub push-spec : {M : Type 1} → statement M
 push-spec =
     tie.close
     (tie.spec
     returns
-    cast-key
     mul-place
     slice-read-place
     cast-place

@@ -20,13 +20,13 @@ use Rattle.encode_search.proofs.reach.Lts as lts
 use Rattle.encode_ways.proofs.by_candidates.Reads as by-candidates-reads
 
 abbrev Inv-loop : tie.InvT-loop
-Inv-loop store₀ index₀ pfrom pcount cap m sets codes sizes from back area count₀ i₀ store index count i =
+Inv-loop store₀ index₀ pfrom pcount cap m sets codes sizes from back count₀ i₀ store index count i =
     (i ≤ pcount) × (length store ≡ length store₀) × (length index ≡ length index₀) × (take ((pfrom + pcount) * 4) store ≡ take ((pfrom + pcount) * 4) store₀) ×
     ((cs cs₀ : List Cand) (b most : ℕ) → MatchAll cs m sets codes sizes → All (Able b) (entriesOf store₀ pfrom pcount) → b + 9 ≤ most →
     Represents cs (bounds (pfrom + pcount) cap pfrom most) store index count (reach cs (take i (layerOf cs₀ store₀ pfrom pcount)) 0 []))
 
 abbrev μ-loop : tie.MeasureT-loop
-μ-loop store₀ index₀ pfrom pcount cap m sets codes sizes from back area count₀ i₀ store index count i = pcount - i
+μ-loop store₀ index₀ pfrom pcount cap m sets codes sizes from back count₀ i₀ store index count i = pcount - i
 
 add-from : tie.Need-add-from Inv-loop μ-loop
 add-from c = omega arith
@@ -66,8 +66,8 @@ mul-cost c = omega arith
 slice-read-cost : tie.Need-slice-read-cost Inv-loop μ-loop
 slice-read-cost c = omega arith
 
-cast-t22 : tie.Need-cast-t22 Inv-loop μ-loop
-cast-t22 c = omega arith
+cast-by-candidates : tie.Need-cast-by-candidates Inv-loop μ-loop
+cast-by-candidates c = omega arith
 
 by-candidates-requires : tie.Need-by-candidates-requires Inv-loop μ-loop
 by-candidates-requires c κs =
@@ -147,7 +147,7 @@ reach-spec =
     add-cost
     mul-cost
     slice-read-cost
-    cast-t22
+    cast-by-candidates
     by-candidates-requires
     add-i
     loop-less

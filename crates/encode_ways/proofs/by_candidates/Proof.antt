@@ -1,41 +1,44 @@
--- `by_candidates` meets its contract: a candidate more at each turn of the loop. Assumes nothing.
 use mathlib.Core.Path.{_≡_, refl, ap, _∙_}
 use mathlib.Core.List.{List, []}
 use Prim.Native.Nat.{ℕ, suc, _+_, _*_, _/_, _-_, _≤_, _<_}
 use native.Mathlib.Decide.{decLt}
 use native.Mathlib.Omega.{arith}
+use borrow.Author.Needs.{needs}
 use lib.ListN.{length, getD, take, drop, replicate}
 use Rattle.coding.specs.Candidates.{Cand, plain}
-use Rattle.coding.specs.Search.{Node, pushAll, byCand, byCands}
+use Rattle.coding.specs.Search.{Node, node, pushAll, byCand, byCands}
 use Rattle.encode_states.specs.Packed.{unpack}
 use Rattle.encode_layer.specs.Layer.{bounds, Changes}
-use Rattle.encode_ways.specs.Turn.{Matches, MatchAll, Is}
+use Rattle.encode_ways.specs.Turn.{MatchAll, Is}
 use Rattle.encode_ways.proofs.Choosing.{any, any-matches, any-at}
 use Rattle.encode_ways.proofs.Trying.{few-bytes-code, changes-as, no-change, then, one-more, none-yet, all-of, at-link, place-link}
-use borrow.Author.Needs.{needs}
 use Rattle.encode_ways.proofs.by_candidates.Statement.{statement}
 use Rattle.encode_ways.proofs.by_candidates.Tie as tie
+use Rattle.encode_ways.proofs.by_candidates.Reads as reads
+use Rattle.encode_ways.proofs.by_candidates.Lts as lts
+use Rattle.encode_ways.proofs.by_candidate.Reads as by-candidate-reads
+use Rattle.encode_ways.proofs.code_length.Reads as code-length-reads
+use Rattle.encode_ways.proofs.wide.Reads as wide-reads
 
 abbrev Inv-loop : tie.InvT-loop
-Inv-loop store₀ index₀ area count node m sets codes sizes state cost back c₀ k₀ store index c k =
-    (k ≤ m) × (length store ≡ length store₀) × (length index ≡ length index₀) × (take (area .from * 4) store ≡ take (area .from * 4) store₀)
-    × ((cs : List Cand) (most : ℕ) (n : Node) → MatchAll cs m sets codes sizes → Is n (node .state) (node .cost) → node .cost + 9 ≤ most
-    → Changes cs (bounds (area .from) (area .cap) (node .back) most) store₀ index₀ count store index c (λ l. byCands n (node .link) l (take k cs)))
+Inv-loop store₀ index₀ from cap count a cost i back m sets codes sizes c₀ k₀ store index c k =
+    (k ≤ m) × (length store ≡ length store₀) × (length index ≡ length index₀) × (take (from * 4) store ≡ take (from * 4) store₀) ×
+    ((cs : List Cand) (most : ℕ) (n : Node) → MatchAll cs m sets codes sizes → Is n a cost → cost + 9 ≤ most →
+    Changes cs (bounds from cap back most) store₀ index₀ count store index c (λ l. byCands n i l (take k cs)))
 
 abbrev μ-loop : tie.MeasureT-loop
-μ-loop store₀ index₀ area count node m sets codes sizes state cost back c₀ k₀ store index c k = m - k
+μ-loop store₀ index₀ from cap count a cost i back m sets codes sizes c₀ k₀ store index c k = m - k
 
 loop-holds : tie.Need-loop-holds Inv-loop μ-loop
-loop-holds c =
-    let a = c .before .before .args in (
-      omega arith,
-      refl,
-      refl,
-      refl,
-      λ cs most n m i h.
-          changes-as (λ l. l) _ (none-yet n (a .node .link) cs)
-          (no-change cs (bounds (a .area .from) (a .area .cap) (a .node .back) most) (a .store .now) (a .index .now) (a .count)),
-    )
+loop-holds c = (
+  omega arith,
+  refl,
+  refl,
+  refl,
+  λ cs most n m i h. changes-as (λ l. l) _ (none-yet n (c .before .before .args .i) cs)
+      (no-change cs (bounds (c .before .before .args .from) (c .before .before .args .cap) (c .before .before .args .back) most) (c .before .before .args .store .now)
+      (c .before .before .args .index .now) (c .before .before .args .count)),
+)
 
 element-copy-out-wide : tie.Need-element-copy-out-wide Inv-loop μ-loop
 element-copy-out-wide c = search needs
@@ -69,15 +72,13 @@ add-link c = omega arith
 
 by-candidate-requires : tie.Need-by-candidate-requires Inv-loop μ-loop
 by-candidate-requires c κs =
-    let at-code-length = c .before .before .before in
+    let at-code-length = c .before .before in
     let at-loop = at-code-length .before .before .before .before .before .before .before in
-    let at-place = at-loop .before .before .before in
-    let start = at-place in
-    let len = few-bytes-code (getD (start .args .codes .now) (at-loop .loop .k) 0) in (
-      record { store = omega arith; index = omega arith; few = start .pre .0 .few },
-      start .pre .1,
-      start .pre .2,
-      omega (arith, at-code-length .code-length .ensures, len),
+    let at-start = at-loop .before .before .before in (
+      record { store = omega arith; index = omega arith; few = at-start .pre .0 .few },
+      at-start .pre .1,
+      at-start .pre .2,
+      omega (arith, at-code-length .code-length .ensures, few-bytes-code (getD (at-start .args .codes .now) (at-loop .loop .k) 0)),
       omega arith,
     )
 
@@ -90,38 +91,30 @@ loop-less c = omega arith
 loop-again : tie.Need-loop-again Inv-loop μ-loop
 loop-again c =
     let at-by-candidate = c .before .before .before .before in
-    let at-code-length = at-by-candidate .before .before .before .before in
+    let at-code-length = at-by-candidate .before .before .before in
     let at-wide2 = at-code-length .before .before in
     let at-wide = at-wide2 .before .before in
-    let at-loop-test = at-wide .before .before in
-    let at-loop = at-loop-test .before in
-    let at-place = at-loop .before .before .before in
-    let start = at-place in
-    let node = start .args .node in
-    let place = node .link in
-    let at = at-loop .loop in
-    let k = at .k in
-    let set = at-wide .wide in
-    let size = at-wide2 .wide2 in
-    let len = at-code-length .code-length in
-    let by = at-by-candidate .by-candidate .ensures in
-    let d = decLt (set .result) 6 in
-    let o : Cand = any (set .result) (size .result) (len .result) d in
-    let j : ℕ = (place + k * 131072) / 131072 in
-    let some : Node = record { state = unpack (node .state); cost = node .cost; prev = 0; bytes = [] } in
-    let q = by (replicate (suc j) o) o [] (node .cost + 9) some (any-at o j) (any-matches (set .result) (size .result) (len .result) d) (record { state = refl; costs = refl })
+    let at-loop = at-wide .before .before .before in
+    let at-start = at-loop .before .before .before in
+    let a = at-start .args in
+    let k = at-loop .loop .k in
+    let d = decLt (at-wide .wide .result) 6 in
+    let o : Cand = any (at-wide .wide .result) (at-wide2 .wide2 .result) (at-code-length .code-length .result) d in
+    let j : ℕ = (a .i + k * 131072) / 131072 in
+    let q = at-by-candidate .by-candidate .ensures (replicate (suc j) o) o [] (a .cost + 9) (record { state = unpack (a .a); cost = a .cost; prev = 0; bytes = [] })
+    (any-at o j) (any-matches (at-wide .wide .result) (at-wide2 .wide2 .result) (at-code-length .code-length .result) d) (record { state = refl; costs = refl })
     (omega arith) in (
-      omega (arith, at-loop-test .loop-test .taken),
       omega arith,
       omega arith,
-      q .before ∙ at .inv .3,
+      omega arith,
+      q .before ∙ at-loop .loop .inv .3,
       λ cs most n m i h.
-          let lt : k < length cs = omega (arith, m .many, at-loop-test .loop-test .taken) in
-          let each : Matches (set .result) (size .result) (len .result) (getD cs k (plain 0 0)) = rw (set .ensures, size .ensures, len .ensures)
-          (m .each k (at-loop-test .loop-test .taken)) in
-          let pushed = by cs (getD cs k (plain 0 0)) (drop (suc k) cs) most n (at-link cs place k (start .pre .3) lt) each i h in
-          changes-as _ _ (λ l. ap (λ (j : ℕ). pushAll (byCands n place l (take k cs)) (byCand n j (getD cs k (plain 0 0)))) (place-link place k (start .pre .3)) ∙ one-more n place cs k lt l)
-          (then _ _ (at .inv .4 cs most n m i h) pushed),
+          let lt : k < length cs = omega (arith, m .many) in
+          changes-as _ _ (λ l. ap (λ (j : ℕ). pushAll (byCands n (a .i) l (take k cs)) (byCand n j (getD cs k (plain 0 0)))) (place-link (a .i) k (at-start .pre .3)) ∙
+          one-more n (a .i) cs k lt l)
+          (then _ _ (at-loop .loop .inv .4 cs most n m i h) (at-by-candidate .by-candidate .ensures cs (getD cs k (plain 0 0)) (drop (suc k) cs) most n
+          (at-link cs (a .i) k (at-start .pre .3) lt) (rw (at-wide .wide .ensures, at-wide2 .wide2 .ensures, at-code-length .code-length .ensures)
+          (m .each k (omega arith))) i h)),
     )
 
 same-length : tie.Need-same-length Inv-loop μ-loop
@@ -133,8 +126,8 @@ same-length-2 c = c .before .loop .inv .2
 returns : tie.Need-returns Inv-loop μ-loop
 returns c = (
   c .before .loop .inv .3,
-  λ cs most n m i h. changes-as _ _
-      (all-of n (c .before .before .before .before .args .node .link) cs (c .before .loop .k) (omega (arith, m .many))) (c .before .loop .inv .4 cs most n m i h),
+  λ cs most n m i h. changes-as _ _ (all-of n (c .before .before .before .before .args .i) cs (c .before .loop .k) (omega (arith, m .many)))
+      (c .before .loop .inv .4 cs most n m i h),
 )
 
 pub by-candidates-spec : {M : Type 1} → statement M

@@ -1,64 +1,61 @@
--- `by_elements` meets its contract: a code element more at each turn of the loop. Assumes nothing.
-use mathlib.Core.Path.{_≡_, refl, sym, ap, _∙_}
-use mathlib.Core.List.{List}
+use mathlib.Core.Path.{_≡_, refl, _∙_}
+use mathlib.Core.List.{List, []}
 use Prim.Native.Nat.{ℕ, _+_, _-_, _≤_}
 use native.Mathlib.Omega.{arith}
+use borrow.Author.Needs.{needs}
 use lib.ListN.{length}
 use Rattle.coding.specs.Candidates.{Cand}
 use Rattle.coding.specs.Search.{byWays}
 use Rattle.encode_states.specs.Packed.{setOf, unpack}
 use Rattle.encode_layer.specs.Layer.{bounds, Pushes}
 use Rattle.encode_ways.specs.Turn.{Turn, By, upTo}
-use Rattle.encode_ways.proofs.Chain.{pushes-as}
+use Rattle.encode_ways.proofs.Chain.{none}
 use Rattle.encode_ways.proofs.Reaching.{up-one, up-none}
-use borrow.Author.Needs.{needs}
 use Rattle.encode_ways.proofs.by_elements.Statement.{statement}
 use Rattle.encode_ways.proofs.by_elements.Tie as tie
+use Rattle.encode_ways.proofs.by_elements.Reads as reads
+use Rattle.encode_ways.proofs.by_elements.Lts as lts
+use Rattle.encode_states.proofs.gl.Reads as gl-reads
+use Rattle.encode_states.proofs.gr.Reads as gr-reads
+use Rattle.encode_ways.proofs.by_element.Reads as by-element-reads
 
 abbrev Inv-loop : tie.InvT-loop
-Inv-loop store₀ index₀ area count node x left right c₀ n₀ store index c n =
-    (n ≤ 4) × (length store ≡ length store₀) × (length index ≡ length index₀)
-    × ((cs : List Cand) (most : ℕ) (t : Turn) → By cs t x (node .cost) (node .link) → node .cost + 6 ≤ most
-    → Pushes cs (bounds (area .from) (area .cap) (node .back) most) store₀ index₀ count store index c
-    (byWays (t .base) (t .place) (t .pre) (t .code) (upTo (unpack (node .state)) (setOf x) n)))
+Inv-loop store₀ index₀ from cap count a x cost link back l r c₀ n₀ store index c n =
+    (n ≤ 4) × (length store ≡ length store₀) × (length index ≡ length index₀) ×
+    ((cs : List Cand) (most : ℕ) (t : Turn) → By cs t x cost link → cost + 6 ≤ most →
+    Pushes cs (bounds from cap back most) store₀ index₀ count store index c (byWays (t .base) (t .place) (t .pre) (t .code) (upTo (unpack a) (setOf x) n)))
 
 abbrev μ-loop : tie.MeasureT-loop
-μ-loop store₀ index₀ area count node x left right c₀ n₀ store index c n = 4 - n
+μ-loop store₀ index₀ from cap count a x cost link back l r c₀ n₀ store index c n = 4 - n
 
 gl-requires : tie.Need-gl-requires Inv-loop μ-loop
-gl-requires c κs = omega arith
+gl-requires c κs = search needs
 
 gr-requires : tie.Need-gr-requires Inv-loop μ-loop
-gr-requires c κs = omega arith
+gr-requires c κs = search needs
 
 loop-holds : tie.Need-loop-holds Inv-loop μ-loop
 loop-holds c =
-    let a = c .before .before .before .before .args in (
+    let at-start = c .before .before .before .before in (
       omega arith,
       refl,
       refl,
-      λ cs most t w h. up-none cs (bounds (a .area .from) (a .area .cap) (a .node .back) most) (a .store .now) (a .index .now) (a .count) t
-          (unpack (a .node .state)) (setOf (a .x)),
+      λ cs most t w h. up-none cs (bounds (at-start .args .from) (at-start .args .cap) (at-start .args .back) most) (at-start .args .store .now)
+          (at-start .args .index .now) (at-start .args .count) t (unpack (at-start .args .a)) (setOf (at-start .args .x)),
     )
 
-designated-requires : tie.Need-designated-requires Inv-loop μ-loop
-designated-requires c κs =
-    let at-start = c .before .before .before .before .before .before in
-    (at-start .pre .1, at-start .pre .2, c .loop-test .taken, at-start .pre .3)
-
-through-requires : tie.Need-through-requires Inv-loop μ-loop
-through-requires c κs =
-    let at-designated = c .before .before in
-    let at-loop-test = at-designated .before in
+by-element-requires : tie.Need-by-element-requires Inv-loop μ-loop
+by-element-requires c κs =
+    let at-loop-test = c .before .before in
     let at-gr = at-loop-test .before .before in
     let at-gl = at-gr .before in
-    let at-start = at-gl .before .before .before in
-    let to = at-designated .designated .ensures in (
+    let at-start = at-gl .before .before .before in (
       record { store = omega arith; index = omega arith; few = at-start .pre .0 .few },
-      to .proper,
-      record { left = at-gl .gl .ensures .is ∙ sym (to .left); right = at-gr .gr .ensures .is ∙ sym (to .right) },
-      to .sized,
+      at-start .pre .1,
+      record { left = at-gl .gl .ensures .is; right = at-gr .gr .ensures .is },
+      at-start .pre .2,
       at-loop-test .loop-test .taken,
+      at-start .pre .3,
     )
 
 add-n : tie.Need-add-n Inv-loop μ-loop
@@ -69,23 +66,14 @@ loop-less c = omega arith
 
 loop-again : tie.Need-loop-again Inv-loop μ-loop
 loop-again c =
-    let at-through = c .before .before .before .before in
-    let at-designated = at-through .before .before .before in
-    let at-loop = at-designated .before .before in
-    let at-place = at-loop .before .before .before .before .before in
-    let start = at-place in
-    let state = unpack (start .args .node .state) in
-    let x = setOf (start .args .x) in
-    let at = at-loop .loop in
-    let to = at-designated .designated .ensures in (
+    let at-by-element = c .before .before .before .before in
+    let at-loop = at-by-element .before .before .before .before in
+    let at-start = at-loop .before .before .before .before .before in (
       omega arith,
       omega arith,
       omega arith,
-      λ cs most t w h.
-          let way = to .way cs t w in
-          let pushed = at-through .through .ensures cs most t (way .before) (way .numbers) (omega (arith, to .few, h)) in
-          up-one t state x (at .n) (at .inv .3 cs most t w h)
-          (rw (to .back) at (pushes-as _ _ (ap (byWays (t .base) (t .place) (t .pre) (t .code)) (way .same)) pushed)),
+      λ cs most t w h. up-one t (unpack (at-start .args .a)) (setOf (at-start .args .x)) (at-loop .loop .n)
+          (at-loop .loop .inv .3 cs most t w h) (at-by-element .by-element .ensures cs most t w h),
     )
 
 same-length : tie.Need-same-length Inv-loop μ-loop
@@ -106,8 +94,7 @@ by-elements-spec =
     gl-requires
     gr-requires
     loop-holds
-    designated-requires
-    through-requires
+    by-element-requires
     add-n
     loop-less
     loop-again

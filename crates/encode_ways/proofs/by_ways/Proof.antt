@@ -1,6 +1,5 @@
--- `by_ways` meets its contract: by where the set is invoked. Assumes nothing.
 use mathlib.Core.Path.{_≡_, sym}
-use mathlib.Core.List.{[], _∷_}
+use mathlib.Core.List.{List, [], _∷_}
 use native.Mathlib.Omega.{arith}
 use Rattle.encode_states.specs.Packed.{unpack}
 use Rattle.encode_ways.proofs.Chain.{and, pushes-as, renamed, reached, stands, stands-right}
@@ -8,6 +7,13 @@ use Rattle.encode_ways.proofs.Reaching.{codes-at, through-none, set-bot
 use borrow.Author.Needs.{needs}
 use Rattle.encode_ways.proofs.by_ways.Statement.{statement}
 use Rattle.encode_ways.proofs.by_ways.Tie as tie
+use Rattle.encode_ways.proofs.by_ways.Reads as reads
+use Rattle.encode_ways.proofs.by_ways.Lts as lts
+use Rattle.encode_layer.proofs.push.Reads as push-reads
+use Rattle.encode_states.proofs.gl.Reads as gl-reads
+use Rattle.encode_states.proofs.gr.Reads as gr-reads
+use Rattle.encode_states.proofs.set_in.Reads as set-in-reads
+use Rattle.encode_ways.proofs.by_elements.Reads as by-elements-reads
 
 gl-requires : tie.Need-gl-requires
 gl-requires c κs = search needs
@@ -24,13 +30,11 @@ set-in-requires-2 c κs = search needs
 push-requires : tie.Need-push-requires
 push-requires c κs = search needs
 
-in-gr-requires : tie.Need-in-gr-requires
-in-gr-requires c κs = search needs
+add-push : tie.Need-add-push
+add-push c = search needs
 
 push-requires-2 : tie.Need-push-requires-2
-push-requires-2 c κs =
-    let at-start = c .before .before .before .before .before .before .before .before .before .before .before .before .before .before .before .before .before .before in
-    (record { store = omega arith; index = omega arith; few = at-start .pre .0 .few }, rw (c .in-gr .ensures) (at-start .pre .1))
+push-requires-2 c κs = search needs
 
 same-length : tie.Need-same-length
 same-length c = search needs
@@ -41,31 +45,23 @@ same-length-2 c = search needs
 returns : tie.Need-returns
 returns c =
     let at-push2 = c .before .before .before .before in
-    let at-in-gr = at-push2 .before in
-    let at-if2 = at-in-gr .before .before .before in
+    let at-if2 = at-push2 .before .before .before in
     let at-push = at-if2 .before .before .before .before .before in
     let at-if1 = at-push .before .before .before in
     let at-set-in2 = at-if1 .before in
     let at-gr = at-set-in2 .before in
     let at-set-in = at-gr .before in
     let at-gl = at-set-in .before in
-    let at-place = at-gl .before .before .before in
-    let start = at-place in
-    let node = start .args .node in
-    let x = start .args .x in
-    let l = at-set-in .set-in in
-    let r = at-set-in2 .set-in2 in
-    let state = unpack (node .state) in
-    let cl = codes-at (l .result) (at-gl .gl .result) (state .gl) state (at-gl .gl .ensures .is) (l .ensures) in
-    let cr = codes-at (r .result) (at-gr .gr .result) (state .gr) state (at-gr .gr .ensures .is) (r .ensures) in
-    let b = unpack (node .state) in
+    let at-start = at-gl .before .before .before in
+    let a = at-start .args in
+    let b = unpack (a .a) in
+    let cl = codes-at (at-set-in .set-in .result) (at-gl .gl .result) (b .gl) b (at-gl .gl .ensures .is) (at-set-in .set-in .ensures) in
+    let cr = codes-at (at-set-in2 .set-in2 .result) (at-gr .gr .result) (b .gr) b (at-gr .gr .ensures .is) (at-set-in2 .set-in2 .ensures) in
     λ cs most t w h.
-    let v = through-none cs t x (node .cost) (node .link) w in
-    let p1 = renamed _ (reached t [] b 0) (stands cs t [] 0 (node .cost) (node .link) v (node .state) (node .back)) (at-push .push .ensures cs most (omega arith)) in
-    let pushed = rw (at-in-gr .in-gr .ensures) at (at-push2 .push2 .ensures cs most) in
-    let p2 = renamed _ (reached t [] b 128) (stands-right cs t [] 0 (node .cost) (node .link) v (node .state) (node .back)) (pushed (omega arith)) in
-    pushes-as _ _ (sym (set-both t b x (l .result) (r .result) cl cr (at-if1 .if1 .taken) (at-if2 .if2 .taken)))
-    (and (_ ∷ []) (_ ∷ []) p1 p2)
+    let v = through-none cs t (a .x) (a .cost) (a .link) w in
+    let p1 = renamed _ (reached t [] b 0) (stands cs t [] 0 (a .cost) (a .link) v (a .a) (a .back)) (at-push .push .ensures cs most (omega arith)) in
+    let p2 = renamed _ (reached t [] b 128) (stands-right cs t [] 0 (a .cost) (a .link) v (a .a) (a .back)) (at-push2 .push2 .ensures cs most (omega arith)) in
+    pushes-as _ _ (sym (set-both t b (a .x) (at-set-in .set-in .result) (at-set-in2 .set-in2 .result) cl cr (at-if1 .if1 .taken) (at-if2 .if2 .taken))) (and (_ ∷ []) (_ ∷ []) p1 p2)
 
 same-length-3 : tie.Need-same-length-3
 same-length-3 c = search needs
@@ -81,28 +77,21 @@ returns-2 c =
     let at-gr = at-set-in2 .before in
     let at-set-in = at-gr .before in
     let at-gl = at-set-in .before in
-    let at-place = at-gl .before .before .before in
-    let start = at-place in
-    let node = start .args .node in
-    let x = start .args .x in
-    let l = at-set-in .set-in in
-    let r = at-set-in2 .set-in2 in
-    let state = unpack (node .state) in
-    let cl = codes-at (l .result) (at-gl .gl .result) (state .gl) state (at-gl .gl .ensures .is) (l .ensures) in
-    let cr = codes-at (r .result) (at-gr .gr .result) (state .gr) state (at-gr .gr .ensures .is) (r .ensures) in
-    let b = unpack (node .state) in
+    let at-start = at-gl .before .before .before in
+    let a = at-start .args in
+    let b = unpack (a .a) in
+    let cl = codes-at (at-set-in .set-in .result) (at-gl .gl .result) (b .gl) b (at-gl .gl .ensures .is) (at-set-in .set-in .ensures) in
+    let cr = codes-at (at-set-in2 .set-in2 .result) (at-gr .gr .result) (b .gr) b (at-gr .gr .ensures .is) (at-set-in2 .set-in2 .ensures) in
     λ cs most t w h.
-    let v = through-none cs t x (node .cost) (node .link) w in
-    let p1 = renamed _ (reached t [] b 0) (stands cs t [] 0 (node .cost) (node .link) v (node .state) (node .back)) (at-push .push .ensures cs most (omega arith)) in
-    pushes-as _ _ (sym (set-left t b x (l .result) (r .result) cl cr (at-if1 .if1 .taken) (c .if2 .left))) p1
+    let v = through-none cs t (a .x) (a .cost) (a .link) w in
+    let p1 = renamed _ (reached t [] b 0) (stands cs t [] 0 (a .cost) (a .link) v (a .a) (a .back)) (at-push .push .ensures cs most (omega arith)) in
+    pushes-as _ _ (sym (set-left t b (a .x) (at-set-in .set-in .result) (at-set-in2 .set-in2 .result) cl cr (at-if1 .if1 .taken) (c .if2 .left))) p1
 
-in-gr-requires-2 : tie.Need-in-gr-requires-2
-in-gr-requires-2 c κs = search needs
+add-push-2 : tie.Need-add-push-2
+add-push-2 c = search needs
 
 push-requires-3 : tie.Need-push-requires-3
-push-requires-3 c κs =
-    let at-start = c .before .before .before .before .before .before .before .before .before .before .before in
-    (record { store = omega arith; index = omega arith; few = at-start .pre .0 .few }, rw (c .in-gr2 .ensures) (at-start .pre .1))
+push-requires-3 c κs = search needs
 
 same-length-5 : tie.Need-same-length-5
 same-length-5 c = search needs
@@ -113,28 +102,21 @@ same-length-6 c = search needs
 returns-3 : tie.Need-returns-3
 returns-3 c =
     let at-push3 = c .before .before .before .before in
-    let at-in-gr2 = at-push3 .before in
-    let at-if3 = at-in-gr2 .before .before .before in
+    let at-if3 = at-push3 .before .before .before in
     let at-if1 = at-if3 .before in
     let at-set-in2 = at-if1 .before in
     let at-gr = at-set-in2 .before in
     let at-set-in = at-gr .before in
     let at-gl = at-set-in .before in
-    let at-place = at-gl .before .before .before in
-    let start = at-place in
-    let node = start .args .node in
-    let x = start .args .x in
-    let l = at-set-in .set-in in
-    let r = at-set-in2 .set-in2 in
-    let state = unpack (node .state) in
-    let cl = codes-at (l .result) (at-gl .gl .result) (state .gl) state (at-gl .gl .ensures .is) (l .ensures) in
-    let cr = codes-at (r .result) (at-gr .gr .result) (state .gr) state (at-gr .gr .ensures .is) (r .ensures) in
-    let b = unpack (node .state) in
+    let at-start = at-gl .before .before .before in
+    let a = at-start .args in
+    let b = unpack (a .a) in
+    let cl = codes-at (at-set-in .set-in .result) (at-gl .gl .result) (b .gl) b (at-gl .gl .ensures .is) (at-set-in .set-in .ensures) in
+    let cr = codes-at (at-set-in2 .set-in2 .result) (at-gr .gr .result) (b .gr) b (at-gr .gr .ensures .is) (at-set-in2 .set-in2 .ensures) in
     λ cs most t w h.
-    let v = through-none cs t x (node .cost) (node .link) w in
-    let pushed = rw (at-in-gr2 .in-gr2 .ensures) at (at-push3 .push3 .ensures cs most) in
-    let p2 = renamed _ (reached t [] b 128) (stands-right cs t [] 0 (node .cost) (node .link) v (node .state) (node .back)) (pushed (omega arith)) in
-    pushes-as _ _ (sym (set-right t b x (l .result) (r .result) cl cr (at-if1 .if1 .left) (at-if3 .if3 .taken))) p2
+    let v = through-none cs t (a .x) (a .cost) (a .link) w in
+    let p2 = renamed _ (reached t [] b 128) (stands-right cs t [] 0 (a .cost) (a .link) v (a .a) (a .back)) (at-push3 .push3 .ensures cs most (omega arith)) in
+    pushes-as _ _ (sym (set-right t b (a .x) (at-set-in .set-in .result) (at-set-in2 .set-in2 .result) cl cr (at-if1 .if1 .left) (at-if3 .if3 .taken))) p2
 
 by-elements-requires : tie.Need-by-elements-requires
 by-elements-requires c κs = search needs
@@ -154,18 +136,14 @@ returns-4 c =
     let at-gr = at-set-in2 .before in
     let at-set-in = at-gr .before in
     let at-gl = at-set-in .before in
-    let at-place = at-gl .before .before .before in
-    let start = at-place in
-    let node = start .args .node in
-    let x = start .args .x in
-    let l = at-set-in .set-in in
-    let r = at-set-in2 .set-in2 in
-    let state = unpack (node .state) in
-    let cl = codes-at (l .result) (at-gl .gl .result) (state .gl) state (at-gl .gl .ensures .is) (l .ensures) in
-    let cr = codes-at (r .result) (at-gr .gr .result) (state .gr) state (at-gr .gr .ensures .is) (r .ensures) in
-    let b = unpack (node .state) in
+    let at-start = at-gl .before .before .before in
+    let a = at-start .args in
+    let b = unpack (a .a) in
+    let cl = codes-at (at-set-in .set-in .result) (at-gl .gl .result) (b .gl) b (at-gl .gl .ensures .is) (at-set-in .set-in .ensures) in
+    let cr = codes-at (at-set-in2 .set-in2 .result) (at-gr .gr .result) (b .gr) b (at-gr .gr .ensures .is) (at-set-in2 .set-in2 .ensures) in
     λ cs most t w h.
-    pushes-as _ _ (sym (set-apart t b x (l .result) (r .result) cl cr (at-if1 .if1 .left) (at-if3 .if3 .left)))
+    let v = through-none cs t (a .x) (a .cost) (a .link) w in
+    pushes-as _ _ (sym (set-apart t b (a .x) (at-set-in .set-in .result) (at-set-in2 .set-in2 .result) cl cr (at-if1 .if1 .left) (at-if3 .if3 .left)))
     (at-by-elements .by-elements .ensures cs most t w h)
 
 pub by-ways-spec : {M : Type 1} → statement M
@@ -177,7 +155,7 @@ by-ways-spec =
     gr-requires
     set-in-requires-2
     push-requires
-    in-gr-requires
+    add-push
     push-requires-2
     same-length
     same-length-2
@@ -185,7 +163,7 @@ by-ways-spec =
     same-length-3
     same-length-4
     returns-2
-    in-gr-requires-2
+    add-push-2
     push-requires-3
     same-length-5
     same-length-6
