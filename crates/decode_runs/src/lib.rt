@@ -154,13 +154,11 @@ fn runs_from(
 fn may_begin(out: Out, cells: usize, text: usize) -> bool
     ensures { λ r. ⌜ (r ≡ true → Begins out cells text) ⌝ }
 {
-    if out.repeat != 0 {
+    let waits = out.repeat as u64 + out.first as u64;
+    if waits != 0 {
         return false;
     }
     if out.len != out.end {
-        return false;
-    }
-    if out.first != 0 {
         return false;
     }
     if cells < 8836 {
