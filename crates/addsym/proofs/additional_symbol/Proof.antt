@@ -54,8 +54,7 @@ returns-5 : tie.Need-returns-5
 unfolding table719
 returns-5 c =
     let at-if4 = c .before in
-    let at-place = at-if4 .before .before .before .before in
-    let k = at-place in
+    let k = at-if4 .before .before .before .before in
     let a = k .before .args in
     found _ _ _ _ (entry (a .row) (a .cell) (k .row-place .result) (k .row-place .ensures) (omega arith) (omega arith) (omega arith) table719) (c .scalar .ensures) (at-if4 .if4 .left)
 

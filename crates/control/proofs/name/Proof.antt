@@ -34,8 +34,7 @@ wide-requires c κs = search needs
 sub-t14 : tie.Need-sub-t14
 unfolding lengthOf
 sub-t14 c =
-    let at-place = c .before .before .before .before .before .before in
-    let at-start = at-place in
+    let at-start = c .before .before .before .before .before .before in
     let e : c .wide .result ≡ 48 + lengthOf (at-start .args .code) = c .wide .ensures ∙ length-at (at-start .args .code) (omega arith) in
     omega arith
 

@@ -16,8 +16,7 @@ returns : tie.Need-returns
 unfolding issue
 returns c =
     let at-issue = c .before .before in
-    let at-place = at-issue .before .before .before .before in
-    let entry = at-place in
+    let entry = at-issue .before .before .before .before in
     let pre = entry .pre in
     let issue = at-issue .issue in
     λ cells t. did-writes cells (omega arith) (omega arith) (pre) (issue .ensures t)

@@ -17,8 +17,7 @@ returns : tie.Need-returns
 unfolding mosaic
 returns c =
     let at-issue = c .before .before in
-    let at-place = at-issue .before .before .before .before in
-    let entry = at-place in
+    let entry = at-issue .before .before .before .before in
     let issue = at-issue .issue in
     let pre = entry .pre in
     λ cells t. let w =

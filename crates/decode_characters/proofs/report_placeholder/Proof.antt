@@ -28,8 +28,7 @@ returns : tie.Need-returns
 unfolding placeholder
 returns c =
     let at-emit = c .before .before in
-    let at-place = at-emit .before .before .before .before in
-    let at-issue = at-place in
+    let at-issue = at-emit .before .before .before .before in
     let entry = at-issue .before .before .before .before .before in
     let pre = entry .pre in
     let a = entry .args in

@@ -14,8 +14,7 @@ same-length c = search needs
 returns : tie.Need-returns
 returns c =
     let at-emit = c .before .before in
-    let at-place = at-emit .before .before .before .before in
-    let entry = at-place in
+    let entry = at-emit .before .before .before .before in
     let pre = entry .pre in
     let emit = at-emit .emit in
     λ cells i. did-writes cells (omega arith) (omega arith) (pre) (emit .ensures i)

@@ -14,8 +14,7 @@ same-length c = search needs
 returns : tie.Need-returns
 returns c =
     let at-mark = c .before .before in
-    let at-place = at-mark .before .before .before .before in
-    let entry = at-place in
+    let entry = at-mark .before .before .before .before in
     let pre = entry .pre in
     let mark = at-mark .mark in
     λ cells i. did-writes cells (omega arith) (omega arith) (pre) (mark .ensures i)

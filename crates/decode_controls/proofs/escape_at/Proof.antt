@@ -90,8 +90,7 @@ returns c =
 returns-2 : tie.Need-returns-2
 returns-2 c =
     let at-match = c .before .before .before in
-    let at-place = at-match .before .before in
-    let start = at-place in
+    let start = at-match .before .before in
     let b = start .args .b .now in
     let i = start .args .i in
     let j = start .args .j in
@@ -100,8 +99,7 @@ returns-2 c =
 returns-3 : tie.Need-returns-3
 returns-3 c =
     let at-match = c .before .before .before .before in
-    let at-place = at-match .before .before in
-    let start = at-place in
+    let start = at-match .before .before in
     let b = start .args .b .now in
     let i = start .args .i in
     let j = start .args .j in
@@ -109,11 +107,8 @@ returns-3 c =
 
 returns-4 : tie.Need-returns-4
 returns-4 c =
-    let at-place-3 = c .before .before .before .before .before in
-    let at-place-2 = at-place-3 in
-    let at-match = at-place-2 in
-    let at-place = at-match .before .before in
-    let start = at-place in
+    let at-match = c .before .before .before .before .before in
+    let start = at-match .before .before in
     let b = start .args .b .now in
     let i = start .args .i in
     let j = start .args .j in

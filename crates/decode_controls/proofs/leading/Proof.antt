@@ -31,8 +31,7 @@ returns-2 c =
     let at-if1 = c .before in
     let at-loop-test = at-if1 .before .before in
     let at-loop = at-loop-test .before in
-    let at-place = at-loop .before in
-    let start = at-place in
+    let start = at-loop .before in
     let p : 0x20 ≤ getD (start .args .b .now) (at-loop .loop .j) 0 = omega (arith, at-if1 .if1 .left) in
     omega (arith, leading-high (start .args .high) (start .args .b .now) (at-loop .loop .j) (at-loop-test .loop-test .taken) p (c .if2 .taken))
 
@@ -47,8 +46,7 @@ loop-again c =
     let at-if1 = c .before in
     let at-loop-test = at-if1 .before .before in
     let at-loop = at-loop-test .before in
-    let at-place = at-loop .before in
-    let start = at-place in
+    let start = at-loop .before in
     let p : 0x20 ≤ getD (start .args .b .now) (at-loop .loop .j) 0 = omega (arith, at-if1 .if1 .left) in
     let q : getD (start .args .b .now) (at-loop .loop .j) 0 ≤ start .args .high = omega (arith, c .if2 .left) in
     omega (arith, leading-more (start .args .high) (start .args .b .now) (at-loop .loop .j) (at-loop-test .loop-test .taken) p q)

@@ -34,8 +34,7 @@ same-length c = search needs
 returns : tie.Need-returns
 returns c =
     let at-report-mosaic = c .before .before in
-    let at-place = at-report-mosaic .before .before .before in
-    let at-if1 = at-place in
+    let at-if1 = at-report-mosaic .before .before .before in
     let entry = at-if1 .before .before .before in
     let pre = entry .pre in
     let report-mosaic = at-report-mosaic .report-mosaic in

@@ -60,8 +60,7 @@ graphic-requires c κs =
 
 add-t25 : tie.Need-add-t25
 add-t25 c =
-    let at-place = c .before .before .before .before .before .before in
-    let at-graphic = at-place in
+    let at-graphic = c .before .before .before .before .before .before in
     let entry = at-graphic .before .before .before .before .before .before .before .before .before .before .before .before in
     let a = entry .args in
     let good = entry .good in
@@ -75,8 +74,7 @@ same-length-3 c = search needs
 
 returns-2 : tie.Need-returns-2
 returns-2 c =
-    let at-place = c .before .before .before .before .before .before in
-    let at-graphic = at-place in
+    let at-graphic = c .before .before .before .before .before .before in
     let at-if2 = at-graphic .before .before .before .before in
     let at-is-graphic = at-if2 .before in
     let at-if1 = at-is-graphic .before .before in

@@ -17,8 +17,7 @@ returns : tie.Need-returns
 unfolding truncated
 returns c =
     let at-report = c .before .before in
-    let at-place = at-report .before .before .before in
-    let entry = at-place in
+    let entry = at-report .before .before .before in
     let a = entry .args in
     let report = at-report .report in
     λ cells b t i h. took-did (λ g. truncated 1 (a .at)) 1 (omega arith) (omega arith) (λ g x. refl) (report .ensures cells t)

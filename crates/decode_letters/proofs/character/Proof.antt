@@ -14,22 +14,19 @@ space-requires c κs = search needs
 
 graphic-requires : tie.Need-graphic-requires
 graphic-requires c κs =
-    let at-place = c .before .before .before .before .before .before in
-    let entry = at-place in
+    let entry = c .before .before .before .before .before .before in
     (entry .pre .0, entry .pre .1, graphic-is _ (omega arith) (omega arith) (omega arith))
 
 graphic-requires-2 : tie.Need-graphic-requires-2
 graphic-requires-2 c κs =
     let at-shared-slice-known2 = c .before .before .before .before .before .before in
-    let at-place = at-shared-slice-known2 .before .before in
-    let entry = at-place in
+    let entry = at-shared-slice-known2 .before .before in
     (entry .pre .0, entry .pre .1, graphic-is _ (omega arith) (omega arith) (omega (arith, at-shared-slice-known2 .shared-slice-known2 .given (entry .args .i))))
 
 returns : tie.Need-returns
 returns c =
     let at-match = c .before in
-    let at-place = at-match .before .before .before .before in
-    let entry = at-place in
+    let entry = at-match .before .before .before .before in
     let a = entry .args in
     λ f. reads-space (a .cells .now) (a .b .now) (a .i) (a .to) (a .sets) (entry .pre .0) (at-match .match .keys1) (c .space .ensures)
 

@@ -29,8 +29,7 @@ is-second-requires c κs = search needs
 sub-row : tie.Need-sub-row
 sub-row c =
     let at-shared-slice-known2 = c .before .before .before .before .before in
-    let at-place = at-shared-slice-known2 .before .before in
-    let entry = at-place in
+    let entry = at-shared-slice-known2 .before .before in
     let a = entry .args in
     let x : getD (a .b .now) (a .i) 0 < 256 = omega (arith, at-shared-slice-known2 .shared-slice-known2 .given (a .i)) in
     omega (arith, in-area _ x (entry .pre .2) .low)

@@ -44,8 +44,7 @@ unfolding builtin
 put-body-requires c κs =
     let at-if2 = c .before .before .before .before in
     let at-if1 = at-if2 .before in
-    let at-place = at-if1 .before .before in
-    let t = at-place in
+    let t = at-if1 .before .before in
     room (t .args .body .now) (t .args .code) (at-if1 .if1 .left) (at-if2 .if2 .left) (t .pre)
 
 same-length : tie.Need-same-length

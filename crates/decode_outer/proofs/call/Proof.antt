@@ -18,8 +18,7 @@ same-length-2 c = search needs
 
 returns : tie.Need-returns
 returns c =
-    let at-place = c .before .before .before .before .before .before in
-    let at-call = at-place in
+    let at-call = c .before .before .before .before .before .before in
     let entry = at-call .before .before .before .before .before .before .before .before .before .before .before in
     λ e q. outer (c .with-core .ensures) (entry .pre .0 .inside) (at-call .graphic .ensures e q)
 

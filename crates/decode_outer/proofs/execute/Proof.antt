@@ -18,8 +18,7 @@ same-length-2 c = search needs
 
 returns : tie.Need-returns
 returns c =
-    let at-place = c .before .before .before .before .before in
-    let at-call = at-place in
+    let at-call = c .before .before .before .before .before in
     executed (c .with-core .ensures) (at-call .run-macro .ensures)
 
 pub execute-spec : {M : Type 1} → statement M

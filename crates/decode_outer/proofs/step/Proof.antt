@@ -41,8 +41,7 @@ call-requires-2 c κs =
 
 add-t20 : tie.Need-add-t20
 add-t20 c =
-    let at-place = c .before .before .before .before .before .before in
-    let at-call = at-place in
+    let at-call = c .before .before .before .before .before .before in
     let at-case = at-call .before .before .before in
     let entry = at-case .before .before .before .before .before .before in
     let h = told _ _ _ (at-case .enum-told3 .given .1) (entry .pre .1 .1) in
@@ -85,8 +84,7 @@ same-length-6 c = search needs
 
 returns-3 : tie.Need-returns-3
 returns-3 c =
-    let at-place = c .before .before .before .before .before .before in
-    let at-call = at-place in
+    let at-call = c .before .before .before .before .before .before in
     let at-case = at-call .before .before .before in
     let h = told _ _ _ (at-case .enum-told3 .given .1) (at-case .before .before .before .before .before .before .pre .1 .1) in
     outer-as (λ g s k. step-shift g _ _ _ _ _ _ s _ (h .shift) ∙ shift-char g _ _ _ _ _ _ s (h .within) (h .behind))
@@ -94,8 +92,7 @@ returns-3 c =
 
 returns-4 : tie.Need-returns-4
 returns-4 c =
-    let at-place = c .before .before .before .before .before .before in
-    let entry = at-place in
+    let entry = c .before .before .before .before .before .before in
     absurd (omega (arith, told _ _ _ (c .enum-told4 .given .1) (entry .pre .1 .1), entry .pre .1 .0))
 
 pub step-spec : {M : Type 1} → statement M

@@ -42,8 +42,7 @@ same-length-2 c = search needs
 
 returns : tie.Need-returns Inv-loop μ-loop
 returns c =
-    let at-place = c .before .before .before .before .before .before in
-    let at-steps = at-place in
+    let at-steps = c .before .before .before .before .before .before in
     let at-loop = at-steps .before .before .before .before in
     let w = along-stretch (at-loop .loop .inv .along) (at-steps .steps .ensures .stretch) (at-steps .steps .kept .1 .1 .1 .1 .1 .1 .0) (at-steps .steps .kept .1 .1 .1 .1 .1 .1 .1 .0) in
     along-end w (c .if1 .taken)
@@ -60,24 +59,21 @@ step-requires c κs =
 
 add-i : tie.Need-add-i Inv-loop μ-loop
 add-i c =
-    let at-place = c .before .before .before .before .before .before in
-    let at-step = at-place in
+    let at-step = c .before .before .before .before .before .before in
     let at-steps = at-step .before .before .before .before .before .before .before .before .before in
     let at-loop = at-steps .before .before .before .before in
     omega (arith, at-step .step .ensures .ran .most, at-loop .before .before .before .before .before .pre .short)
 
 loop-less : tie.Need-loop-less Inv-loop μ-loop
 loop-less c =
-    let at-place = c .before .before .before .before .before .before in
-    let at-step = at-place in
+    let at-step = c .before .before .before .before .before .before in
     let at-test = at-step .before .before .before in
     let at-steps = at-test .before .before .before .before .before .before in
     omega (arith, at-step .step .ensures .ran .some, at-step .step .ensures .ran .most, at-steps .steps .ensures .stretch .past, at-test .if1 .left)
 
 loop-again : tie.Need-loop-again Inv-loop μ-loop
 loop-again c =
-    let at-place = c .before .before .before .before .before .before in
-    let at-step = at-place in
+    let at-step = c .before .before .before .before .before .before in
     let at-test = at-step .before .before .before in
     let at-steps = at-test .before .before .before .before .before .before in
     let at-loop = at-steps .before .before .before .before in

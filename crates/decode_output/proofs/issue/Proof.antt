@@ -45,8 +45,7 @@ returns c =
     let at-put322 = at-put323 .before .before .before .before in
     let at-put32 = at-put322 .before .before .before .before in
     let at-numbers = at-put32 .before .before .before in
-    let at-place = at-numbers .before .before in
-    let start = at-place in
+    let start = at-numbers .before .before in
     let a = start .args in
     let p = start .pre in
     λ t.

@@ -21,8 +21,7 @@ same-length c = search needs
 returns : tie.Need-returns
 returns c =
     let at-put = c .before .before .before .before in
-    let at-place = at-put .before .before .before in
-    let start = at-place in
+    let start = at-put .before .before .before in
     let a = start .args in
     let p = start .pre in
     let w = at-put .put .ensures in
@@ -38,8 +37,7 @@ same-length-2 c = search needs
 returns-2 : tie.Need-returns-2
 returns-2 c =
     let at-put = c .before .before .before .before in
-    let at-place = at-put .before .before .before in
-    let start = at-place in
+    let start = at-put .before .before .before in
     let a = start .args in
     let p = start .pre in
     let w = at-put .put .ensures in

@@ -13,8 +13,7 @@ same-length c = search needs
 returns : tie.Need-returns
 returns c =
     let at-issue = c .before .before in
-    let at-place = at-issue .before .before .before .before in
-    let start = at-place in
+    let start = at-issue .before .before .before .before in
     λ t. reported (start .args .s) (start .args .at) (start .args .kind) (at-issue .issue .result) t (start .args .issues .now) _ (start .pre) (at-issue .issue .ensures t)
 
 pub issue-spec : {M : Type 1} → statement M

@@ -41,9 +41,7 @@ returns c =
 
 returns-2 : tie.Need-returns-2
 returns-2 c =
-    let at-place-2 = c .before .before .before .before .before .before in
-    let at-place = at-place-2 in
-    let entry = at-place in
+    let entry = c .before .before .before .before .before .before in
     λ base origin i. stretch-none base origin (entry .pre .0 .0) (entry .pre .1)
 
 pub letters-spec : {M : Type 1} → statement M

@@ -42,8 +42,7 @@ same-length-2 c = search needs
 
 returns-2 : tie.Need-returns-2 Inv-loop μ-loop
 returns-2 c =
-    let at-place = c .before .before .before .before .before .before in
-    let turn = at-place in
+    let turn = c .before .before .before .before .before .before in
     let inv = turn .loop .inv in
     (inv .letters, omega (arith, inv .room, inv .as-long))
 
@@ -51,8 +50,7 @@ put3-requires : tie.Need-put3-requires Inv-loop μ-loop
 put3-requires c κs =
     let at-if3 = c .before in
     let at-kanji-at = at-if3 .before in
-    let at-place = at-kanji-at .before .before .before .before in
-    let at-if1 = at-place in
+    let at-if1 = at-kanji-at .before .before .before .before in
     let turn = at-if1 .before in
     let inv = turn .loop .inv in
     let w = at-kanji-at .kanji-at .ensures (at-if3 .if3 .left) in
@@ -67,16 +65,14 @@ add-m c =
 
 add-i : tie.Need-add-i Inv-loop μ-loop
 add-i c =
-    let at-place = c .before .before .before .before .before .before .before .before .before in
-    let at-if1 = at-place in
+    let at-if1 = c .before .before .before .before .before .before .before .before .before in
     let turn = at-if1 .before in
     let inv = turn .loop .inv in
     omega (arith, inv .room, inv .as-long, inv .letters .within, at-if1 .if1 .left)
 
 loop-less : tie.Need-loop-less Inv-loop μ-loop
 loop-less c =
-    let at-place = c .before .before .before .before .before .before .before .before .before in
-    let at-if1 = at-place in
+    let at-if1 = c .before .before .before .before .before .before .before .before .before in
     let turn = at-if1 .before in
     let inv = turn .loop .inv in
     omega (arith, inv .room, inv .as-long, inv .letters .within, at-if1 .if1 .left)
@@ -132,16 +128,14 @@ add-m-2 c =
 
 add-i-2 : tie.Need-add-i-2 Inv-loop μ-loop
 add-i-2 c =
-    let at-place = c .before .before .before .before .before .before .before .before .before in
-    let at-if1 = at-place in
+    let at-if1 = c .before .before .before .before .before .before .before .before .before in
     let turn = at-if1 .before in
     let inv = turn .loop .inv in
     omega (arith, inv .room, inv .as-long, inv .letters .within, at-if1 .if1 .left)
 
 loop-less-2 : tie.Need-loop-less-2 Inv-loop μ-loop
 loop-less-2 c =
-    let at-place = c .before .before .before .before .before .before .before .before .before in
-    let at-if1 = at-place in
+    let at-if1 = c .before .before .before .before .before .before .before .before .before in
     let turn = at-if1 .before in
     let inv = turn .loop .inv in
     omega (arith, inv .room, inv .as-long, inv .letters .within, at-if1 .if1 .left)
@@ -173,8 +167,7 @@ same-length-3 c = search needs
 
 returns-3 : tie.Need-returns-3 Inv-loop μ-loop
 returns-3 c =
-    let at-place = c .before .before .before .before .before .before .before in
-    let turn = at-place in
+    let turn = c .before .before .before .before .before .before .before in
     let inv = turn .loop .inv in
     (inv .letters, omega (arith, inv .room, inv .as-long))
 
@@ -183,8 +176,7 @@ same-length-4 c = search needs
 
 returns-4 : tie.Need-returns-4 Inv-loop μ-loop
 returns-4 c =
-    let at-place = c .before .before .before .before .before .before .before .before in
-    let turn = at-place in
+    let turn = c .before .before .before .before .before .before .before .before in
     let inv = turn .loop .inv in
     (inv .letters, omega (arith, inv .room, inv .as-long))
 
@@ -193,8 +185,7 @@ cast-text c = search needs
 
 slice-write-text : tie.Need-slice-write-text Inv-loop μ-loop
 slice-write-text c =
-    let at-place = c .before .before .before .before .before .before .before in
-    let at-if1 = at-place in
+    let at-if1 = c .before .before .before .before .before .before .before in
     let turn = at-if1 .before in
     let inv = turn .loop .inv in
     omega (arith, inv .room, inv .as-long, inv .letters .within, at-if1 .if1 .left)
@@ -208,16 +199,14 @@ add-m-3 c =
 
 add-i-3 : tie.Need-add-i-3 Inv-loop μ-loop
 add-i-3 c =
-    let at-place = c .before .before .before .before .before .before .before in
-    let at-if1 = at-place in
+    let at-if1 = c .before .before .before .before .before .before .before in
     let turn = at-if1 .before in
     let inv = turn .loop .inv in
     omega (arith, inv .room, inv .as-long, inv .letters .within, at-if1 .if1 .left)
 
 loop-less-3 : tie.Need-loop-less-3 Inv-loop μ-loop
 loop-less-3 c =
-    let at-place = c .before .before .before .before .before .before .before in
-    let at-if1 = at-place in
+    let at-if1 = c .before .before .before .before .before .before .before in
     let turn = at-if1 .before in
     let inv = turn .loop .inv in
     omega (arith, inv .room, inv .as-long, inv .letters .within, at-if1 .if1 .left)

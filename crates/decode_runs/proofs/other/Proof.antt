@@ -17,9 +17,7 @@ character-requires c κs = search needs
 
 returns-2 : tie.Need-returns-2
 returns-2 c =
-    let at-place-2 = c .before .before .before .before .before .before in
-    let at-place = at-place-2 in
-    let entry = at-place in
+    let entry = c .before .before .before .before .before .before in
     (spelt-start (entry .pre .0) (entry .pre .2) .letters, entry .pre .2)
 
 put-requires : tie.Need-put-requires
@@ -27,9 +25,7 @@ put-requires c κs = search needs
 
 add-at : tie.Need-add-at
 add-at c =
-    let at-place-2 = c .before .before .before .before .before in
-    let at-place = at-place-2 in
-    let at-if2 = at-place in
+    let at-if2 = c .before .before .before .before .before in
     let at-character = at-if2 .before in
     let entry = at-character .before .before .before .before .before in
     let r = at-character .character .ensures (at-if2 .if2 .left) in

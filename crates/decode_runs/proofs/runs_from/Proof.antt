@@ -28,9 +28,7 @@ add-to c = search needs
 
 loop-holds : tie.Need-loop-holds Inv-loop μ-loop
 loop-holds c =
-    let at-place-2 = c .before .before .before .before .before in
-    let at-place = at-place-2 in
-    let entry = at-place in
+    let entry = c .before .before .before .before .before in
     let fits = c .fitting .ensures in
     running-start (entry .pre .0) (omega (arith, fits .0, entry .pre .2)) (entry .pre .3)
 

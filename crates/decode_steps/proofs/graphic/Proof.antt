@@ -8,9 +8,7 @@ array-read-graphic c = search needs
 
 graphic-requires : tie.Need-graphic-requires
 graphic-requires c κs =
-    let at-place-2 = c .before .before .before .before .before .before .before in
-    let at-place = at-place-2 in
-    let at-start = at-place in
+    let at-start = c .before .before .before .before .before .before .before in
     let p = at-start .pre in
     (p .1, (p .0 .0, p .0 .2, p .0 .3))
 

@@ -11,10 +11,7 @@ use Rattle.decode_steps.proofs.plain.Tie as tie
 
 returns : tie.Need-returns
 returns c =
-    let at-place-3 = c .before .before .before .before .before in
-    let at-place-2 = at-place-3 in
-    let at-place = at-place-2 in
-    let entry = at-place in
+    let entry = c .before .before .before .before .before in
     record { stretch = stretch-start _ _ _ _ _ _ _ _ (entry .pre .0 .0) (entry .pre .1); stop = c .if1 .taken }
 
 stop-at-requires : tie.Need-stop-at-requires
@@ -26,8 +23,7 @@ enum-told c = search needs
 returns-2 : tie.Need-returns-2
 returns-2 c =
     let at-place = c .before in
-    let at-place-2 = at-place .before .before .before .before .before .before in
-    let entry = at-place-2 in
+    let entry = at-place .before .before .before .before .before .before in
     let a = entry .args in
     let at-stop = at-place in
     let n : at-stop .stop-at .result ≡ End → ⊥ =

@@ -94,8 +94,7 @@ add-simple c =
 simple-requires : tie.Need-simple-requires Inv-loop μ-loop
 simple-requires c κs =
     let at-place = c .before .before .before in
-    let at-place-2 = at-place .before .before .before in
-    let k = at-place-2 in
+    let k = at-place .before .before .before in
     let l = k .before .before .before .before in
     let h = l .before .before in
     let a = h .before .before .before .before .before in
@@ -107,21 +106,15 @@ simple-requires c κs =
 
 add-i : tie.Need-add-i Inv-loop μ-loop
 add-i c =
-    let at-place-3 = c .before .before .before .before .before .before in
-    let at-place-2 = at-place-3 in
-    let at-place = at-place-2 in
-    let at-simple = at-place in
+    let at-simple = c .before .before .before .before .before .before in
     let at-test = at-simple .before .before .before .before .before .before .before in
     let entry = at-test .before .before .before .before .before .before .before .before .before .before .before in
     omega (arith, at-simple .simple .ensures 0 (λ b₁ base₁ origin₁ s₁. s₁) .within, entry .pre .0 .1)
 
 loop-less : tie.Need-loop-less Inv-loop μ-loop
 loop-less c =
-    let at-place-3 = c .before .before .before .before .before .before in
-    let at-place-2 = at-place-3 in
-    let at-simple = at-place-2 in
-    let at-place = at-simple .before .before .before .before .before .before .before in
-    let k = at-place in
+    let at-simple = c .before .before .before .before .before .before in
+    let k = at-simple .before .before .before .before .before .before .before in
     let l = k .before .before .before .before in
     let h = l .before .before in
     let a = h .before .before .before .before .before in
@@ -130,10 +123,7 @@ loop-less c =
 
 loop-again : tie.Need-loop-again Inv-loop μ-loop
 loop-again c =
-    let at-place-3 = c .before .before .before .before .before .before in
-    let at-place-2 = at-place-3 in
-    let at-place = at-place-2 in
-    let p = at-place in
+    let p = c .before .before .before .before .before .before in
     let o = p .before .before .before in
     let k = o .before .before .before .before in
     let l = k .before .before .before .before in

@@ -66,8 +66,7 @@ element-copy-out-if2 c = omega (arith, c .before .before .before .before .pre)
 returns-2 : tie.Need-returns-2 Inv-loop μ-loop
 returns-2 c =
     let at-loop-test = c .before .before .before .before in
-    let at-place = at-loop-test .before in
-    let l = at-place in
+    let l = at-loop-test .before in
     one (l .before .args .t1) (l .loop .i) (at-loop-test .loop-test .taken) (byte (l .before .args .t1) (l .loop .i) (c .if2 .taken))
 
 add-i : tie.Need-add-i Inv-loop μ-loop
@@ -82,8 +81,7 @@ loop-again : tie.Need-loop-again Inv-loop μ-loop
 unfolding candAt
 loop-again c =
     let at-if1 = c .before .before in
-    let at-place = at-if1 .before .before .before in
-    let l = at-place in
+    let l = at-if1 .before .before .before in
     let k = l .before .args .t1 in
     (omega arith, more k (l .loop .i) (l .loop .inv .1) (of-bytes _ _ _ (at-if1 .if1 .left) (c .if2 .left)))
 

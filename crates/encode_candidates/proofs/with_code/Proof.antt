@@ -32,8 +32,7 @@ unfolding ofCode
 returns c =
     let at-code = c .before .before in
     let at-one-byte-reverse = at-code .before .before in
-    let at-place = at-one-byte-reverse .before in
-    let z = at-place in
+    let z = at-one-byte-reverse .before in
     let e = sym (at-one-byte-reverse .one-byte-reverse .ensures) ∙ at-code .code .given .1 in
     let f = one-byte-found (z .args .table) (z .args .c) _ e in
     likewise (c .with .ensures)

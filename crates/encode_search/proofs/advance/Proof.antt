@@ -21,8 +21,7 @@ room-requires c κs = search needs
 reach-requires : tie.Need-reach-requires
 reach-requires c κs =
     let at-room = c .before .before in
-    let at-place = at-room .before .before .before in
-    let start = at-place in
+    let start = at-room .before .before .before in
     let capped = at-room .room .ensures in
     let layer = entriesOf (start .args .store .now) (start .args .pfrom) (start .args .pcount) in
     (record { store = capped .inside; index = omega arith; few = capped .few }, start .pre .2, start .pre .3, start .pre .4, abled 65526 65535 layer (omega arith) (start .pre .6))

@@ -48,8 +48,7 @@ shared-slice-read-s c = omega arith
 turn-requires : tie.Need-turn-requires Inv-loop μ-loop
 turn-requires c κs =
     let at-loop = c .before .before .before .before .before .before in
-    let at-place = at-loop .before .before .before .before .before .before in
-    let start = at-place in
+    let start = at-loop .before .before .before .before .before .before in
     let at = at-loop .loop in
     let layer = entriesOf (at .store) (at .from) (at .count) in
     let able = abled (9 * at .j) 65526 layer (omega (arith, start .pre .0 .few)) (at .inv .able) in

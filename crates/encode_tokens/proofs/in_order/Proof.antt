@@ -42,8 +42,7 @@ order-requires c κs = search needs
 
 append-requires : tie.Need-append-requires Inv-loop μ-loop
 append-requires c κs =
-    let at-place = c .before .before .before .before .before .before .before .before in
-    let k = at-place in
+    let k = c .before .before .before .before .before .before .before .before in
     loop-within (k .loop .inv) (k .before .before .before .before .before .before .before .before .before .before .pre)
 
 -- the character that was read
@@ -54,27 +53,23 @@ read-2 c = read-as _ _ _ _ (c .before .before .before .before .loop .inv .within
 
 same-length : tie.Need-same-length Inv-loop μ-loop
 same-length c =
-    let at-place = c .before .before .before .before .before .before .before in
-    let a = at-place in
+    let a = c .before .before .before .before .before .before .before in
     a .append .kept .1 .1 .1 .1 .0 ∙ a .before .before .before .before .before .before .before .before .before .loop .inv .chars
 
 same-length-2 : tie.Need-same-length-2 Inv-loop μ-loop
 same-length-2 c =
-    let at-place = c .before .before .before .before .before .before .before in
-    let a = at-place in
+    let a = c .before .before .before .before .before .before .before in
     a .append .kept .1 .1 .1 .1 .1 .0 ∙ a .before .before .before .before .before .before .before .before .before .loop .inv .kanji
 
 same-length-3 : tie.Need-same-length-3 Inv-loop μ-loop
 same-length-3 c =
-    let at-place = c .before .before .before .before .before .before .before in
-    let a = at-place in
+    let a = c .before .before .before .before .before .before .before in
     a .append .kept .1 .1 .1 .1 .1 .1 .0 ∙ a .before .before .before .before .before .before .before .before .before .loop .inv .symbols
 
 returns-2 : tie.Need-returns-2 Inv-loop μ-loop
 unfolding Ordering
 returns-2 c =
-    let at-place = c .before .before .before .before .before .before .before in
-    let a = at-place in
+    let a = c .before .before .before .before .before .before .before in
     let o = a .before .before .before .before in
     let k = o .before .before .before .before .before in
     let g = k .before .before .before .before .before .before .before .before .before .before in
@@ -82,36 +77,31 @@ returns-2 c =
 
 add-at : tie.Need-add-at Inv-loop μ-loop
 add-at c =
-    let at-place = c .before .before .before .before .before .before .before .before .before .before .before in
-    let o = at-place in
+    let o = c .before .before .before .before .before .before .before .before .before .before .before in
     let g = o .before .before .before .before .before .before .before .before .before .before .before .before .before .before .before in
     omega (arith, read-2 (o .before) .within, g .good)
 
 add-count : tie.Need-add-count Inv-loop μ-loop
 add-count c =
-    let at-place = c .before .before .before .before .before .before .before .before .before .before .before .before .before .before .before .before in
-    let k = at-place in
+    let k = c .before .before .before .before .before .before .before .before .before .before .before .before .before .before .before .before in
     let g = k .before .before .before .before .before .before .before .before .before .before in
     omega (arith, k .loop .inv .behind, k .loop .inv .within, g .good)
 
 add-rest : tie.Need-add-rest Inv-loop μ-loop
 add-rest c =
-    let at-place = c .before .before .before .before .before .before .before in
-    let a = at-place in
+    let a = c .before .before .before .before .before .before .before in
     let k = a .before .before .before .before .before .before .before .before .before in
     let g = k .before .before .before .before .before .before .before .before .before .before in
     omega (arith, k .loop .inv .behind, k .loop .inv .within, k .loop .inv .pass .short, a .append .ensures .short, g .good)
 
 loop-less : tie.Need-loop-less Inv-loop μ-loop
 loop-less c =
-    let at-place = c .before .before .before .before .before .before .before .before .before .before .before in
-    let o = at-place in
+    let o = c .before .before .before .before .before .before .before .before .before .before .before in
     omega (arith, read-2 (o .before) .least, read-2 (o .before) .within)
 
 loop-again : tie.Need-loop-again Inv-loop μ-loop
 loop-again c =
-    let at-place = c .before .before .before .before .before .before .before in
-    let a = at-place in
+    let a = c .before .before .before .before .before .before .before in
     let o = a .before .before .before .before in
     let k = o .before .before .before .before .before in
     let g = k .before .before .before .before .before .before .before .before .before .before in
@@ -119,33 +109,28 @@ loop-again c =
 
 append-requires-2 : tie.Need-append-requires-2 Inv-loop μ-loop
 append-requires-2 c κs =
-    let at-place = c .before .before .before .before .before in
-    let k = at-place in
+    let k = c .before .before .before .before .before in
     loop-within (k .loop .inv) (k .before .before .before .before .before .before .before .before .before .before .pre)
 
 same-length-4 : tie.Need-same-length-4 Inv-loop μ-loop
 same-length-4 c =
-    let at-place = c .before .before .before .before .before .before .before in
-    let a = at-place in
+    let a = c .before .before .before .before .before .before .before in
     a .append2 .kept .1 .1 .1 .1 .0 ∙ a .before .before .before .before .before .before .loop .inv .chars
 
 same-length-5 : tie.Need-same-length-5 Inv-loop μ-loop
 same-length-5 c =
-    let at-place = c .before .before .before .before .before .before .before in
-    let a = at-place in
+    let a = c .before .before .before .before .before .before .before in
     a .append2 .kept .1 .1 .1 .1 .1 .0 ∙ a .before .before .before .before .before .before .loop .inv .kanji
 
 same-length-6 : tie.Need-same-length-6 Inv-loop μ-loop
 same-length-6 c =
-    let at-place = c .before .before .before .before .before .before .before in
-    let a = at-place in
+    let a = c .before .before .before .before .before .before .before in
     a .append2 .kept .1 .1 .1 .1 .1 .1 .0 ∙ a .before .before .before .before .before .before .loop .inv .symbols
 
 returns-3 : tie.Need-returns-3 Inv-loop μ-loop
 unfolding Ordering
 returns-3 c =
-    let at-place = c .before .before .before .before .before .before .before in
-    let a = at-place in
+    let a = c .before .before .before .before .before .before .before in
     let k = a .before .before .before .before .before .before in
     let g = k .before .before .before .before .before .before .before .before .before .before in
     last-missing (k .loop .inv) (g .pre) (from-end _ _ (a .before .before .before .before .before .read2 .ensures) (a .before .before .before .before .match2 .keys2))
@@ -153,42 +138,36 @@ returns-3 c =
 
 add-t35 : tie.Need-add-t35 Inv-loop μ-loop
 add-t35 c =
-    let at-place = c .before .before .before .before .before .before .before .before .before .before .before .before .before in
-    let k = at-place in
+    let k = c .before .before .before .before .before .before .before .before .before .before .before .before .before in
     let g = k .before .before .before .before .before .before .before .before .before .before in
     omega (arith, k .loop .inv .behind, k .loop .inv .within, g .good)
 
 add-t36 : tie.Need-add-t36 Inv-loop μ-loop
 add-t36 c =
-    let at-place = c .before .before .before .before .before .before .before in
-    let a = at-place in
+    let a = c .before .before .before .before .before .before .before in
     let k = a .before .before .before .before .before .before in
     let g = k .before .before .before .before .before .before .before .before .before .before in
     omega (arith, k .loop .inv .behind, k .loop .inv .within, k .loop .inv .pass .short, a .append2 .ensures .short, g .good)
 
 same-length-7 : tie.Need-same-length-7 Inv-loop μ-loop
 same-length-7 c =
-    let at-place = c .before .before .before .before .before .before .before in
-    let a = at-place in
+    let a = c .before .before .before .before .before .before .before in
     a .append2 .kept .1 .1 .1 .1 .0 ∙ a .before .before .before .before .before .before .loop .inv .chars
 
 same-length-8 : tie.Need-same-length-8 Inv-loop μ-loop
 same-length-8 c =
-    let at-place = c .before .before .before .before .before .before .before in
-    let a = at-place in
+    let a = c .before .before .before .before .before .before .before in
     a .append2 .kept .1 .1 .1 .1 .1 .0 ∙ a .before .before .before .before .before .before .loop .inv .kanji
 
 same-length-9 : tie.Need-same-length-9 Inv-loop μ-loop
 same-length-9 c =
-    let at-place = c .before .before .before .before .before .before .before in
-    let a = at-place in
+    let a = c .before .before .before .before .before .before .before in
     a .append2 .kept .1 .1 .1 .1 .1 .1 .0 ∙ a .before .before .before .before .before .before .loop .inv .symbols
 
 returns-4 : tie.Need-returns-4 Inv-loop μ-loop
 unfolding Ordering
 returns-4 c =
-    let at-place = c .before .before .before .before .before .before .before in
-    let a = at-place in
+    let a = c .before .before .before .before .before .before .before in
     let k = a .before .before .before .before .before .before in
     let g = k .before .before .before .before .before .before .before .before .before .before in
     last-ready (k .loop .inv) (g .pre) (from-end _ _ (a .before .before .before .before .before .read2 .ensures) (a .before .before .before .before .match2 .keys2))

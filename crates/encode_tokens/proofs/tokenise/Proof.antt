@@ -45,8 +45,7 @@ same-length-3 c = search needs
 
 returns-3 : tie.Need-returns-3
 returns-3 c =
-    let at-place = c .before .before .before .before .before .before in
-    let o = at-place in
+    let o = c .before .before .before .before .before .before in
     let m = o .before .before .before .before in
     let f = m .before .before .before in
     answer6 _ _ _ _ _ _ _ (sym (f .before .before .first-fault .ensures) ∙ f .enum-told .given .1) (sym (m .before .before .baseless .ensures) ∙ m .enum-told2 .given .1)

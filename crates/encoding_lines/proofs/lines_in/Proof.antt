@@ -58,8 +58,7 @@ few c =
 
 long : (c : tie.After-gap) → length (c .before .before .before .before .before .before .before .before .encode-with .last .1 .1 .1 .1 .1 .0) ≡ 65529
 long c =
-    let at-place = c .before .before .before .before .before .before .before .before in
-    let at-call = at-place in
+    let at-call = c .before .before .before .before .before .before .before .before in
     at-call .encode-with .kept .1 .1 .1 .1 .1 .0 ∙ length-replicate {A = ℕ} 65529 0
 
 array-share-prefix-coding : tie.Need-array-share-prefix-coding

@@ -19,8 +19,7 @@ put-requires c κs = search needs
 add-result : tie.Need-add-result
 add-result c =
     let at-put = c .before .before in
-    let at-place = at-put .before .before .before in
-    let at-k = at-place in
+    let at-k = at-put .before .before .before in
     let at-start = at-k .before .before .before .before in
     omega (arith, at-put .put .ensures .count, length-utf8 (at-k .k .given .0 .0), at-start .good, at-start .pre)
 
@@ -33,8 +32,7 @@ same-length c = search needs
 returns : tie.Need-returns
 returns c =
     let at-put = c .before .before in
-    let at-place = at-put .before .before .before in
-    let at-k = at-place in
+    let at-k = at-put .before .before .before in
     let at-key-char = at-k .before .before in
     put-char _ _ _ _ _ _ (sym (at-key-char .key-char .ensures) ∙ at-k .k .given .1) (at-put .put .ensures)
 

@@ -32,8 +32,7 @@ enum-known-s c = search needs
 
 put-requires : tie.Need-put-requires Inv-loop μ-loop
 put-requires c κs =
-    let at-place = c .before .before .before .before .before .before in
-    let at-loop = at-place in
+    let at-loop = c .before .before .before .before .before .before in
     omega (arith, at-loop .loop .inv .order, at-loop .loop .inv .within, at-loop .loop .inv .long)
 
 -- where no scalar was read

@@ -25,8 +25,7 @@ size : (c : tie.After-room-for)
     ≡ roomFor (length (take (c .before .before .before .before .before .before .before .put-title .result)
     (c .before .before .before .before .before .before .before .put-title .last .1 .1 .0)))
 size c =
-    let at-place = c .before .before .before .before .before .before .before in
-    let at-title = at-place in
+    let at-title = c .before .before .before .before .before .before .before in
     c .room-for .ensures ∙ ap roomFor (sym (length-take-le _ _ (at-title .put-title .ensures .inside)))
 
 lent-size : (c : tie.After-room-for)
@@ -83,8 +82,7 @@ len-requires c κs = search needs
 
 put-answer-requires : tie.Need-put-answer-requires
 put-answer-requires c κs =
-    let at-place = c .before .before .before .before .before in
-    let at-key = at-place in
+    let at-key = c .before .before .before .before .before in
     let at-room = at-key .before .before .before in
     let at-number = at-room .before .before .before in
     let number = at-number .put-number .ensures in

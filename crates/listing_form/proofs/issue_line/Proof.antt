@@ -48,8 +48,7 @@ shared-slice-read-decimal-2 c = search needs
 
 cast-decimal-2 : tie.Need-cast-decimal-2 Inv-loop μ-loop
 cast-decimal-2 c =
-    let at-place = c .before .before .before .before .before .before .before .before in
-    let at-loop = at-place in
+    let at-loop = c .before .before .before .before .before .before .before .before in
     omega (arith, c .shared-slice-known3 .given (at-loop .loop .i))
 
 decimal-requires-2 : tie.Need-decimal-requires-2 Inv-loop μ-loop

@@ -19,8 +19,7 @@ slice-aggregate-decode-checked-2 c = search needs
 
 decode-checked-requires : tie.Need-decode-checked-requires
 decode-checked-requires c κs =
-    let at-place = c .before .before .before .before .before in
-    let at-start = at-place in
+    let at-start = c .before .before .before .before .before in
     passes-more (at-start .args .cells .now) (at-start .args .input .now) (at-start .pre)
 
 number-requires : tie.Need-number-requires
@@ -55,21 +54,18 @@ few : (c : tie.After-charged) → Within (c .before .before .before .text3 .resu
 few c =
     let at-issues3 = c .before .before in
     let at-text3 = at-issues3 .before in
-    let at-place = at-text3 .before .before .before .before .before in
-    let at-call = at-place in
+    let at-call = at-text3 .before .before .before .before .before in
     let at-start = at-call .before .before .before .before .before .before in
     within _ _ (at-start .pre) (answered-as _ _ (at-call .decode-checked .ensures)) (at-text3 .text3 .ensures) (at-issues3 .issues3 .ensures) (c .charged .ensures)
 
 text-long : (c : tie.After-charged) → length (c .before .before .before .before .before .before .before .before .decode-checked .last .1 .1 .1 .1 .0) ≡ 65536
 text-long c =
-    let at-place = c .before .before .before .before .before .before .before .before in
-    let at-call = at-place in
+    let at-call = c .before .before .before .before .before .before .before .before in
     at-call .decode-checked .kept .1 .1 .1 .1 .0 ∙ length-replicate {A = ℕ} 65536 0
 
 issues-long : (c : tie.After-charged) → length (c .before .before .before .before .before .before .before .before .decode-checked .last .1 .1 .1 .1 .1 .0) ≡ 256 * numbers
 issues-long c =
-    let at-place = c .before .before .before .before .before .before .before .before in
-    let at-call = at-place in
+    let at-call = c .before .before .before .before .before .before .before .before in
     at-call .decode-checked .kept .1 .1 .1 .1 .1 .0 ∙ length-replicate {A = ℕ} (256 * numbers) 0
 
 array-share-prefix-text : tie.Need-array-share-prefix-text

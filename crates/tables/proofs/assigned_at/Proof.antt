@@ -43,8 +43,7 @@ loop-less-2 c = omega arith
 loop-again-2 : tie.Need-loop-again-2 Inv-loop μ-loop
 loop-again-2 c =
     let at-if1 = c .before .before in
-    let at-place = at-if1 .before .before .before .before in
-    let l = at-place in
+    let l = at-if1 .before .before .before .before in
     let a = l .before .args in
     let p = l .loop .inv in
     let e = assigned-cell (a .t1) (l .loop .i) (omega (arith, p .0)) (a .row) (a .cell) (a .x) (at-if1 .if1 .left) (c .if2 .taken) in
@@ -53,8 +52,7 @@ loop-again-2 c =
 returns : tie.Need-returns Inv-loop μ-loop
 returns c =
     let at-if1 = c .before .before in
-    let at-place = at-if1 .before .before .before .before in
-    let l = at-place in
+    let l = at-if1 .before .before .before .before in
     let a = l .before .args in
     let p = l .loop .inv in
     sym (assigned-hit (a .t1) (l .loop .i) (omega (arith, p .0)) (a .row) (a .cell) (a .x) (at-if1 .if1 .left) (c .if2 .left)) ∙ p .1 .1

@@ -102,8 +102,7 @@ returns-4 : tie.Need-returns-4 Inv-cells μ-cells Inv-rows μ-rows
 unfolding additionalReverse
 returns-4 c =
     let at-rows = c .before in
-    let at-place = at-rows .before .before .before .before .before .before .before in
-    let z = at-place in
+    let z = at-rows .before .before .before .before .before .before .before in
     found-nowhere (at-rows .rows .inv) (omega arith) ∙ ap placeOf (sym (first-char symbolPlace (z .before .args .c) [] 8836 (z .if1 .left)))
 
 returns-5 : tie.Need-returns-5 Inv-cells μ-cells Inv-rows μ-rows

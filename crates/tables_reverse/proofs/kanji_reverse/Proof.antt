@@ -99,8 +99,7 @@ rows-again-2 : tie.Need-rows-again-2 Inv-cells μ-cells Inv-rows μ-rows
 rows-again-2 c =
     let at-cells = c .before in
     let at-if2 = at-cells .before .before .before in
-    let at-place = at-if2 .before in
-    let r = at-place in
+    let r = at-if2 .before in
     let h = r .rows .inv .0 in
     let n = at-if2 .if2 .left in
     (omega (arith, h, n), next-row (at-cells .cells .inv) (omega (arith, h)) (c .cells-test .left))

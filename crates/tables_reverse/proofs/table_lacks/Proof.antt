@@ -54,8 +54,7 @@ among-requires c κs = search needs
 returns-3 : tie.Need-returns-3
 returns-3 c e cell a b r =
     let at-if1 = c .before .before .before in
-    let at-place = at-if1 .before .before in
-    let z = at-place in
+    let z = at-if1 .before .before in
     let t = z .args .t .now in
     let q = on-grid t (z .args .row) cell (z .pre .0) (omega (arith, z .pre .1)) a b in
     let f = (z .args .row - 1) * 94 in

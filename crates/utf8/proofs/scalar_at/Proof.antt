@@ -34,8 +34,7 @@ returns c =
 
 returns-2 : tie.Need-returns-2
 returns-2 c =
-    let at-place = c .before .before .before .before .before .before in
-    let at-start = at-place in
+    let at-start = c .before .before .before .before .before .before in
     let g = at-start .args in
     let t = g .text .now in
     let at = g .at in
@@ -43,8 +42,7 @@ returns-2 c =
 
 returns-3 : tie.Need-returns-3
 returns-3 c =
-    let at-place = c .before .before .before .before .before .before .before in
-    let at-start = at-place in
+    let at-start = c .before .before .before .before .before .before .before in
     let g = at-start .args in
     let t = g .text .now in
     let at = g .at in
@@ -52,8 +50,7 @@ returns-3 c =
 
 returns-4 : tie.Need-returns-4
 returns-4 c =
-    let at-place = c .before .before .before .before .before .before .before .before in
-    let at-start = at-place in
+    let at-start = c .before .before .before .before .before .before .before .before in
     let g = at-start .args in
     let t = g .text .now in
     let at = g .at in
@@ -68,8 +65,7 @@ returns-5 c =
 
 returns-6 : tie.Need-returns-6
 returns-6 c =
-    let at-place = c .before .before .before .before .before .before .before in
-    let at-start = at-place in
+    let at-start = c .before .before .before .before .before .before .before in
     let g = at-start .args in
     let t = g .text .now in
     let at = g .at in

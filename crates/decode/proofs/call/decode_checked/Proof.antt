@@ -28,8 +28,7 @@ top-requires c κs =
 
 flush-dangling-requires : tie.Need-flush-dangling-requires
 flush-dangling-requires c κs =
-    let at-place = c .before .before .before .before .before .before .before in
-    let at-top = at-place in
+    let at-top = c .before .before .before .before .before .before .before in
     let at-start = at-top .before .before .before in
     let entry = at-start .before .before .before .before .before .before in
     room-end _ _ (passed _ _ _ _ _ (entry .pre) .within) (at-start .start .ensures) (at-top .top .ensures)

@@ -63,8 +63,7 @@ hex-value-requires-2 c κs = search needs
 add-bytes : tie.Need-add-bytes Inv-loop μ-loop
 add-bytes c =
     let at-hex-value = c .before .before in
-    let at-place = at-hex-value .before .before .before in
-    let at-loop = at-place in
+    let at-loop = at-hex-value .before .before .before in
     let at-start = at-loop .before .before .before in
     omega (
       arith,
@@ -87,8 +86,7 @@ loop-less c = simp length-set (omega arith)
 loop-again : tie.Need-loop-again Inv-loop μ-loop
 loop-again c =
     let at-hex-value = c .before .before in
-    let at-place = at-hex-value .before .before .before in
-    let at-loop = at-place in
+    let at-loop = at-hex-value .before .before .before in
     let at-start = at-loop .before .before .before in
     rw (at-hex-value .hex-value .ensures, c .hex-value2 .ensures) (half-next _ _ _ _ (at-loop .loop .inv) (omega (arith, at-loop .loop .inv .long)) (at-start .pre .1))
 
