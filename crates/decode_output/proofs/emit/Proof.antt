@@ -1,4 +1,4 @@
--- `output::emit` meets its contract. Assumes nothing.
+-- `decode_output::emit` meets its contract. Assumes nothing.
 use mathlib.Core.Path.{ap, sym, _∙_}
 use native.Mathlib.Omega.{arith}
 use Rattle.decode_output.specs.Output.{times}

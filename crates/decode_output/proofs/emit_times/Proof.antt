@@ -1,4 +1,4 @@
--- `output::emit_times` meets its contract. Assumes nothing.
+-- `decode_output::emit_times` meets its contract. Assumes nothing.
 use mathlib.Core.Path.{refl}
 use native.Mathlib.Omega.{arith}
 use Rattle.decode_output.proofs.Counts.{width-times, times-most}

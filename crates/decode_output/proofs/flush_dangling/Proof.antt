@@ -1,4 +1,4 @@
--- `output::flush_dangling` meets its contract. Assumes nothing.
+-- `decode_output::flush_dangling` meets its contract. Assumes nothing.
 use native.Mathlib.Omega.{arith}
 use Rattle.decode_output.proofs.Held.{holds-kept, holds-released}
 use borrow.Author.Needs.{needs}

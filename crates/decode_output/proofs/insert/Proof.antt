@@ -1,4 +1,4 @@
--- `output::insert` meets its contract. Assumes nothing.
+-- `decode_output::insert` meets its contract. Assumes nothing.
 use mathlib.Core.Path.{ap, _∙_}
 use mathlib.Core.List.{List}
 use Prim.Native.Nat.{ℕ}

@@ -1,4 +1,4 @@
--- `output::issue` meets its contract. Assumes nothing.
+-- `decode_output::issue` meets its contract. Assumes nothing.
 use native.Mathlib.Omega.{arith}
 use Rattle.decode_output.proofs.Held.{holds-report}
 use borrow.Author.Needs.{needs}

@@ -1,4 +1,4 @@
--- `output::mark` meets its contract. Assumes nothing.
+-- `decode_output::mark` meets its contract. Assumes nothing.
 use native.Mathlib.Omega.{arith}
 use Rattle.utf8.proofs.Bytes.{length-utf8}
 use Rattle.decode_output.proofs.Held.{holds-mark, first-none, first-some}

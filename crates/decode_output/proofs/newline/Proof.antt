@@ -1,4 +1,4 @@
--- `output::newline` meets its contract. Assumes nothing.
+-- `decode_output::newline` meets its contract. Assumes nothing.
 use native.Mathlib.Omega.{arith}
 use Rattle.utf8.proofs.Bytes.{length-utf8}
 use Rattle.decode_output.proofs.Held.{holds-newline}

@@ -1,4 +1,4 @@
--- `output::put32` meets its contract: past the end nothing is written, as `set` does. Assumes nothing.
+-- `decode_output::put32` meets its contract: past the end nothing is written, as `set` does. Assumes nothing.
 use mathlib.Core.Path.{sym}
 use lib.Seq.{set-out}
 use borrow.Author.Needs.{needs}

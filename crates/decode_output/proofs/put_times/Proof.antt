@@ -1,4 +1,4 @@
--- `output::put_times` meets its contract. The loop's invariant: c is written k times, and `to` is the length of that. Assumes nothing.
+-- `decode_output::put_times` meets its contract. The loop's invariant: c is written k times, and `to` is the length of that. Assumes nothing.
 use Prim.Native.Nat.{ℕ, _+_, _-_, _≤_}
 use mathlib.Core.Path.{_≡_, refl, sym, ap, _∙_}
 use native.Mathlib.Omega.{arith}

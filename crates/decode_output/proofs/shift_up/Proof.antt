@@ -1,4 +1,4 @@
--- `output::shift_up` meets its contract. The loop's invariant: those from j on are moved, and those before it are to be. Assumes nothing.
+-- `decode_output::shift_up` meets its contract. The loop's invariant: those from j on are moved, and those before it are to be. Assumes nothing.
 use Prim.Native.Nat.{ℕ, suc, _+_, _-_, _≤_}
 use mathlib.Core.Path.{_≡_, refl, ap, _∙_}
 use native.Mathlib.Nat.{zero-add}

@@ -1,4 +1,4 @@
--- `output::start` meets its contract. Assumes nothing.
+-- `decode_output::start` meets its contract. Assumes nothing.
 use mathlib.Core.Path.{refl}
 use Rattle.utf8.specs.Utf8.{utf8s}
 use Rattle.decode_output.specs.Output.{nothing}

@@ -1,4 +1,4 @@
--- `backtrack::first_of` meets its contract: the loop's invariant: no node before the i-th has the cost. Assumes nothing.
+-- `encode_backtrack::first_of` meets its contract: the loop's invariant: no node before the i-th has the cost. Assumes nothing.
 use Prim.Native.Nat.{_-_, _≤_}
 use mathlib.Core.Path.{sym, ap, _∙_}
 use mathlib.Core.List.{List}

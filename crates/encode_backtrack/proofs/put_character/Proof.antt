@@ -1,4 +1,4 @@
--- `backtrack::put_character` meets its contract: by the candidate's set. Assumes nothing.
+-- `encode_backtrack::put_character` meets its contract: by the candidate's set. Assumes nothing.
 use Prim.Native.Nat.{_%_}
 use mathlib.Core.Path.{ap, _∙_}
 use native.Mathlib.Omega.{arith}

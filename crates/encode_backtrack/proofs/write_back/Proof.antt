@@ -1,4 +1,4 @@
--- `backtrack::write_back` meets its contract: the loop's invariant: what is behind the k-th character is written, and k characters lead to the node p. Assumes nothing.
+-- `encode_backtrack::write_back` meets its contract: the loop's invariant: what is behind the k-th character is written, and k characters lead to the node p. Assumes nothing.
 use Prim.Native.Nat.{_+_, _-_, _*_, _≤_}
 use mathlib.Core.Path.{_≡_, refl, ap, _∙_}
 use mathlib.Core.List.{[]}

@@ -1,4 +1,4 @@
--- `candidates::candidates` meets its contract. Assumes nothing.
+-- `encode_candidates::candidates` meets its contract. Assumes nothing.
 use mathlib.Core.Path.{_≡_, refl, sym, ap, _∙_}
 use native.Mathlib.Omega.{arith}
 use borrow.Author.Needs.{needs}

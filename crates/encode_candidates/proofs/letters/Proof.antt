@@ -1,4 +1,4 @@
--- `candidates::letters` meets its contract: one call after the other adds what the definition has there. Assumes nothing.
+-- `encode_candidates::letters` meets its contract: one call after the other adds what the definition has there. Assumes nothing.
 use Prim.Native.Nat.{_≤_}
 use native.Mathlib.Omega.{arith}
 use Rattle.tables_reverse.specs.Reverse.{kanjiReverse, additionalReverse}

@@ -1,4 +1,4 @@
--- `candidates::pack` meets its contract. Assumes nothing.
+-- `encode_candidates::pack` meets its contract. Assumes nothing.
 use borrow.Author.Needs.{needs}
 use mathlib.Core.Path.{sym, ap}
 use Rattle.encode_candidates.specs.Packed.{packed}

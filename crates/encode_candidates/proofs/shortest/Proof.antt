@@ -1,4 +1,4 @@
--- `candidates::shortest` meets its contract. The invariant: every candidate so far has two bytes. Assumes nothing.
+-- `encode_candidates::shortest` meets its contract. The invariant: every candidate so far has two bytes. Assumes nothing.
 use mathlib.Core.Path.{_≡_, refl, sym, ap, _∙_}
 use mathlib.Core.Bool.{Bool, true, false}
 use Prim.Native.Nat.{ℕ, zero, suc, _+_, _-_, _<_, _≤_}

@@ -1,4 +1,4 @@
--- `candidates::with` meets its contract. Assumes nothing.
+-- `encode_candidates::with` meets its contract. Assumes nothing.
 use borrow.Author.Needs.{needs}
 use Rattle.encode_candidates.proofs.Adding.{one-more}
 use Rattle.encode_candidates.proofs.with.Statement.{statement}

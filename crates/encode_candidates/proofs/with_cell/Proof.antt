@@ -1,4 +1,4 @@
--- `candidates::with_cell` meets its contract. Assumes nothing.
+-- `encode_candidates::with_cell` meets its contract. Assumes nothing.
 use borrow.Author.Needs.{needs}
 use Rattle.encode_candidates.proofs.Adding.{cell-fits, cell-adds, no-cell-adds}
 use Rattle.encode_candidates.proofs.with_cell.Statement.{statement}

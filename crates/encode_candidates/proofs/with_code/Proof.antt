@@ -1,4 +1,4 @@
--- `candidates::with_code` meets its contract. Assumes nothing.
+-- `encode_candidates::with_code` meets its contract. Assumes nothing.
 use borrow.Author.Needs.{needs}
 use mathlib.Core.Path.{sym, ap, _∙_}
 use mathlib.Core.List.{[], _∷_}

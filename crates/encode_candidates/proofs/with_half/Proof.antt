@@ -1,4 +1,4 @@
--- `candidates::with_half` meets its contract. Assumes nothing.
+-- `encode_candidates::with_half` meets its contract. Assumes nothing.
 use borrow.Author.Needs.{needs}
 use mathlib.Core.Path.{sym, ap}
 use mathlib.Core.Bool.{Bool}

@@ -1,4 +1,4 @@
--- `candidates::with_space` meets its contract. Assumes nothing.
+-- `encode_candidates::with_space` meets its contract. Assumes nothing.
 use borrow.Author.Needs.{needs}
 use mathlib.Core.Path.{_≡_, refl, sym}
 use mathlib.Core.Bool.{Bool, true, false, cond}

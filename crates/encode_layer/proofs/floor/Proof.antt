@@ -1,3 +1,4 @@
+-- `encode_layer::floor` meets its contract: the floor after those nodes of the layer are dropped that cost over most.
 use mathlib.Core.Path.{refl, _∙_}
 use mathlib.Core.Logic.{⊎-elim}
 use Prim.Native.Nat.{ℕ, _-_, _≤_}

@@ -1,3 +1,4 @@
+-- `encode_layer::keep` meets its contract: drops the nodes of the layer that cost over most, the others moved up.
 use mathlib.Core.Logic.{⊎-elim}
 use Prim.Native.Nat.{ℕ, _-_}
 use native.Mathlib.Omega.{arith}

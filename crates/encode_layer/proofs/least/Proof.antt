@@ -1,3 +1,4 @@
+-- `encode_layer::least` meets its contract: the layer's least cost, 0 where it has no node.
 use mathlib.Core.Path.{_≡_, refl}
 use mathlib.Core.List.{List}
 use Prim.Native.Nat.{ℕ, _-_, _<_}

@@ -1,3 +1,4 @@
+-- `encode_layer::lower` meets its contract: the floor after a state of cost b is dropped, or a state that reaches it: 0 for none, else one more.
 use Rattle.encode_layer.proofs.Costs.{lower-none, lower-less, lower-same}
 use borrow.Author.Needs.{needs}
 use Rattle.encode_layer.proofs.lower.Statement.{statement}

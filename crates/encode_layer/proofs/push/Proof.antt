@@ -1,3 +1,4 @@
+-- `encode_layer::push` meets its contract: pushes a node into the layer of count nodes from the node from on, which has room for cap nodes.
 use mathlib.Core.Path.{refl}
 use mathlib.Core.Logic.{⊎-elim}
 use native.Mathlib.Omega.{arith}

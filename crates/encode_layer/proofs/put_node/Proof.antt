@@ -1,3 +1,4 @@
+-- `encode_layer::put_node` meets its contract: writes a node at a place.
 use native.Mathlib.Omega.{arith}
 use lib.ListN.{length-set}
 use borrow.Author.Needs.{needs}

@@ -1,3 +1,4 @@
+-- `encode_search::advance` meets its contract: the layer behind the pcount nodes from the node pfrom on, for a character with m candidates.
 use native.Mathlib.Omega.{arith}
 use Rattle.encode_layer.specs.Entries.{entriesOf}
 use Rattle.encode_search.proofs.Advancing.{abled, too-large, reached-cheap, least-small, advanced}

@@ -1,3 +1,4 @@
+-- `encode_search::reach` meets its contract: every state that the pcount nodes from the node pfrom on reach by the m candidates, behind them.
 use mathlib.Core.Path.{_≡_, refl, _∙_, subst}
 use mathlib.Core.List.{List, []}
 use Prim.Native.Nat.{ℕ, _+_, _*_, _-_, _≤_, _<_}

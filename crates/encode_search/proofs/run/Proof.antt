@@ -1,3 +1,4 @@
+-- `encode_search::run` meets its contract: a layer for each of n characters, behind the start, which stands in the store.
 use mathlib.Core.Path.{_≡_, sym}
 use mathlib.Core.Bool.{true≢false, false≢true}
 use Prim.Native.Nat.{ℕ, _-_, _*_}

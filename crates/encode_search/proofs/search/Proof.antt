@@ -1,3 +1,4 @@
+-- `encode_search::search` meets its contract: the search for n characters, of which each array has one number: the character, and its cells of the Kanji set and of the additional symbols, 0 for none.
 use mathlib.Core.Path.{_≡_, sym, subst}
 use mathlib.Core.List.{List}
 use Prim.Native.Nat.{ℕ}

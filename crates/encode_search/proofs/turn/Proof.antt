@@ -1,3 +1,4 @@
+-- `encode_search::turn` meets its contract: the layer behind the pcount nodes from the node pfrom on, for the character c with its cells of the Kanji set and of the additional symbols.
 use mathlib.Core.Path.{ap, _∙_}
 use Prim.Native.Nat.{ℕ, _-_}
 use Rattle.encode_search.proofs.Matching.{turned}

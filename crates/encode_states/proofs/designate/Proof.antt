@@ -1,3 +1,4 @@
+-- `encode_states::designate` meets its contract: the set of code x is designated to the code element n.
 use native.Mathlib.Omega.{arith}
 use Rattle.encode_states.proofs.Elements.{moved}
 use borrow.Author.Needs.{needs}

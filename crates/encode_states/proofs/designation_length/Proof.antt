@@ -1,3 +1,4 @@
+-- `encode_states::designation_length` meets its contract: the bytes of the designation of a candidate's set, by its code, to the code element n.
 use Rattle.encode_states.proofs.Elements.{to-first, kanji, symbols, one-byte}
 use Rattle.encode_states.proofs.designation_length.Statement.{statement}
 use Rattle.encode_states.proofs.designation_length.Tie as tie

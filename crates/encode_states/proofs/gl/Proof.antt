@@ -1,3 +1,4 @@
+-- `encode_states::gl` meets its contract: the code element in GL.
 use mathlib.Core.Path.{refl}
 use native.Mathlib.Omega.{arith}
 use Rattle.encode_states.specs.Packed.{unpack}

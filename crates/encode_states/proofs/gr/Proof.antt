@@ -1,3 +1,4 @@
+-- `encode_states::gr` meets its contract: the code element in GR.
 use mathlib.Core.Path.{refl}
 use native.Mathlib.Omega.{arith}
 use Rattle.encode_states.specs.Packed.{unpack}

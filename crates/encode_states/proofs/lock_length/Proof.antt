@@ -1,3 +1,4 @@
+-- `encode_states::lock_length` meets its contract: the bytes of the locking shift of the code element n to GL.
 use Rattle.encode_states.proofs.Elements.{lock-short, lock-long}
 use Rattle.encode_states.proofs.lock_length.Statement.{statement}
 use Rattle.encode_states.proofs.lock_length.Tie as tie

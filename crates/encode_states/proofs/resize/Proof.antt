@@ -1,3 +1,4 @@
+-- `encode_states::resize` meets its contract: the size becomes narrow (1) or wide (0).
 use Rattle.encode_states.proofs.Digits.{to-narrow}
 use borrow.Author.Needs.{needs}
 use Rattle.encode_states.proofs.resize.Statement.{statement}

@@ -1,3 +1,4 @@
+-- `encode_states::set_in` meets its contract: the code of the set in the code element n.
 use Rattle.encode_states.proofs.Elements.{in-element}
 use borrow.Author.Needs.{needs}
 use Rattle.encode_states.proofs.set_in.Statement.{statement}

@@ -1,3 +1,4 @@
+-- `encode_states::start` meets its contract: the start: Si (0) or Caption.
 use mathlib.Core.Path.{refl}
 use native.Mathlib.Omega.{arith}
 use borrow.Author.Tests.{eq-eqb, ne-eqb}

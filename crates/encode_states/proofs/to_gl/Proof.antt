@@ -1,3 +1,4 @@
+-- `encode_states::to_gl` meets its contract: the code element n is invoked in GL.
 use Rattle.encode_states.proofs.Digits.{to-gl}
 use borrow.Author.Needs.{needs}
 use Rattle.encode_states.proofs.to_gl.Statement.{statement}

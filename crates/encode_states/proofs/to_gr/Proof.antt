@@ -1,3 +1,4 @@
+-- `encode_states::to_gr` meets its contract: the code element n is invoked in GR.
 use Rattle.encode_states.proofs.Digits.{to-gr}
 use borrow.Author.Needs.{needs}
 use Rattle.encode_states.proofs.to_gr.Statement.{statement}

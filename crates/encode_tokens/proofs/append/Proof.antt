@@ -1,4 +1,4 @@
--- `tokens::append` meets its contract: what the look-ups, the candidates and the shortest one ensure. Assumes nothing.
+-- `encode_tokens::append` meets its contract: what the look-ups, the candidates and the shortest one ensure. Assumes nothing.
 use mathlib.Core.Path.{ap, _∙_}
 use borrow.Author.Needs.{needs}
 use Rattle.encode_candidates.specs.Packed.{packed}

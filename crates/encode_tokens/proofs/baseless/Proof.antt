@@ -1,4 +1,4 @@
--- `tokens::baseless` meets its contract: from a place on, after a base or not, the first mark without a base is that of the whole text. Assumes nothing.
+-- `encode_tokens::baseless` meets its contract: from a place on, after a base or not, the first mark without a base is that of the whole text. Assumes nothing.
 use mathlib.Core.Path.{_≡_, sym, ap, _∙_}
 use mathlib.Core.Bool.{false}
 use Prim.Native.Nat.{_-_, _≤_}

@@ -1,4 +1,4 @@
--- `tokens::in_order` meets its contract: what is appended and what is left, turn by turn. Assumes nothing.
+-- `encode_tokens::in_order` meets its contract: what is appended and what is left, turn by turn. Assumes nothing.
 use mathlib.Core.Path.{sym, _∙_}
 use Prim.Native.Nat.{_-_}
 use native.Mathlib.Omega.{arith}

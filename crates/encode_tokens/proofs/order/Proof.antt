@@ -1,4 +1,4 @@
--- `tokens::order` meets its contract, by the test for a mark. Assumes nothing.
+-- `encode_tokens::order` meets its contract, by the test for a mark. Assumes nothing.
 use mathlib.Core.Path.{sym, _∙_}
 use borrow.Author.Needs.{needs}
 use Rattle.encode_tokens.specs.Steps.{token}

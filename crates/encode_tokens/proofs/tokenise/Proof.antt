@@ -1,4 +1,4 @@
--- `tokens::tokenise` meets its contract, question by question. Assumes nothing.
+-- `encode_tokens::tokenise` meets its contract, question by question. Assumes nothing.
 use mathlib.Core.Path.{sym, _∙_}
 use borrow.Author.Needs.{needs}
 use Rattle.encode_tokens.proofs.Answers.{refused4, refused5, answer6}

@@ -1,3 +1,4 @@
+-- `encode_ways::by_candidate` meets its contract: pushes the nodes that a node reaches by a candidate, after its size control.
 use native.Mathlib.Omega.{arith}
 use Rattle.encode_ways.proofs.Choosing.{few-bytes, as-plain, as-graphic}
 use borrow.Author.Needs.{needs}

@@ -1,3 +1,4 @@
+-- `encode_ways::by_candidates` meets its contract: pushes the nodes that the i-th node, of the state a and a cost, reaches by each of m candidates.
 use mathlib.Core.Path.{_≡_, refl, ap, _∙_}
 use mathlib.Core.List.{List, []}
 use Prim.Native.Nat.{ℕ, suc, _+_, _*_, _/_, _-_, _≤_, _<_}

@@ -1,3 +1,4 @@
+-- `encode_ways::by_element` meets its contract: pushes the ways through the code element n, to which the set of code x is designated unless it stands there.
 use mathlib.Core.Path.{_≡_, sym, ap, _∙_}
 use mathlib.Core.Logic.{⊎-elim}
 use mathlib.Core.List.{[]}

@@ -1,3 +1,4 @@
+-- `encode_ways::by_elements` meets its contract: pushes the ways through each code element.
 use mathlib.Core.Path.{_≡_, refl, _∙_}
 use mathlib.Core.List.{List, []}
 use Prim.Native.Nat.{ℕ, _+_, _-_, _≤_}

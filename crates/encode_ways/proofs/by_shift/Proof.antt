@@ -1,3 +1,4 @@
+-- `encode_ways::by_shift` meets its contract: pushes the ways through the code element n of the state a, in which it is not invoked.
 use Rattle.encode_states.proofs.Elements.{lock-most}
 use mathlib.Core.Path.{_≡_, sym}
 use mathlib.Core.List.{List, [], _∷_, _++_}

@@ -1,3 +1,4 @@
+-- `encode_ways::by_ways` meets its contract: pushes the ways to the set of code x.
 use mathlib.Core.Path.{_≡_, sym}
 use mathlib.Core.List.{List, [], _∷_}
 use native.Mathlib.Omega.{arith}

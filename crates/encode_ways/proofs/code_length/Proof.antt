@@ -1,3 +1,4 @@
+-- `encode_ways::code_length` meets its contract: the bytes of a code: one, or row and cell.
 use Rattle.encode_ways.proofs.Trying.{one-byte-code, two-byte-code}
 use Rattle.encode_ways.proofs.code_length.Statement.{statement}
 use Rattle.encode_ways.proofs.code_length.Tie as tie

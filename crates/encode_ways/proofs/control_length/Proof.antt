@@ -1,3 +1,4 @@
+-- `encode_ways::control_length` meets its contract: the bytes of a size control.
 use Rattle.encode_ways.proofs.Choosing.{no-bytes, one-byte}
 use Rattle.encode_ways.proofs.control_length.Statement.{statement}
 use Rattle.encode_ways.proofs.control_length.Tie as tie

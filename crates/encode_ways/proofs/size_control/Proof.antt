@@ -1,3 +1,4 @@
+-- `encode_ways::size_control` meets its contract: the size control before a candidate of a size: none (0), MSZ (1) or NSZ (2).
 use mathlib.Core.Path.{sym, _∙_}
 use Rattle.encode_states.specs.Packed.{unpack}
 use Rattle.encode_ways.proofs.Choosing.{msz, narrow-already, nsz, wide-already, no-size}

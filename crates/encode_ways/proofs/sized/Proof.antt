@@ -1,3 +1,4 @@
+-- `encode_ways::sized` meets its contract: the state after a size control.
 use Rattle.encode_ways.proofs.Choosing.{any-size, to-narrow, to-wide}
 use borrow.Author.Needs.{needs}
 use Rattle.encode_ways.proofs.sized.Statement.{statement}

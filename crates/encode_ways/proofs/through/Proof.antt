@@ -1,3 +1,4 @@
+-- `encode_ways::through` meets its contract: pushes the ways through the code element n of the state a, in which l is in GL and r in GR.
 use mathlib.Core.Path.{_≡_, sym, _∙_}
 use mathlib.Core.List.{List, [], _∷_, _++_}
 use native.Mathlib.Omega.{arith}

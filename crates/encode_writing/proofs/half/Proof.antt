@@ -1,4 +1,4 @@
--- `writing::half` meets its contract: by the invocation. Assumes nothing.
+-- `encode_writing::half` meets its contract: by the invocation. Assumes nothing.
 use mathlib.Core.Path.{sym, ap}
 use borrow.Author.Tests.{ne-eqb}
 use Rattle.encode_states.specs.Written.{half}

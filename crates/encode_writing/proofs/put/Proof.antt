@@ -1,4 +1,4 @@
--- `writing::put` meets its contract: past the end nothing is written, as `set` does. Assumes nothing.
+-- `encode_writing::put` meets its contract: past the end nothing is written, as `set` does. Assumes nothing.
 use mathlib.Core.Path.{refl, sym}
 use lib.Seq.{set-out}
 use borrow.Author.Needs.{needs}

@@ -1,4 +1,4 @@
--- `writing::put_designation` meets its contract: the sequence of `GraphicSet::designation`. Assumes nothing.
+-- `encode_writing::put_designation` meets its contract: the sequence of `GraphicSet::designation`. Assumes nothing.
 use Prim.Native.Nat.{ℕ, _%_}
 use mathlib.Core.Path.{_≡_, ap, _∙_}
 use Rattle.encode_states.specs.Packed.{setOf}

@@ -1,4 +1,4 @@
--- `writing::put_graphic` meets its contract: the four parts, one behind another. Assumes nothing.
+-- `encode_writing::put_graphic` meets its contract: the four parts, one behind another. Assumes nothing.
 use Prim.Native.Nat.{ℕ, _+_, _/_, _%_}
 use mathlib.Core.Path.{ap}
 use mathlib.Core.List.{map}

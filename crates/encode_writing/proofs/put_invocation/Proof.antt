@@ -1,4 +1,4 @@
--- `writing::put_invocation` meets its contract: the sequence of `Shift::bytes`. Assumes nothing.
+-- `encode_writing::put_invocation` meets its contract: the sequence of `Shift::bytes`. Assumes nothing.
 use mathlib.Core.Path.{sym}
 use native.Mathlib.Omega.{arith}
 use Rattle.encode_writing.proofs.Laws.{put-none, put-as, invoked, shift-length, held-length}

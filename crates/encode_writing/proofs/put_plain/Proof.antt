@@ -1,4 +1,4 @@
--- `writing::put_plain` meets its contract: the two parts, one behind the other. Assumes nothing.
+-- `encode_writing::put_plain` meets its contract: the two parts, one behind the other. Assumes nothing.
 use Prim.Native.Nat.{_/_, _%_}
 use native.Mathlib.Omega.{arith}
 use Rattle.encode_states.specs.Written.{writtenBy}

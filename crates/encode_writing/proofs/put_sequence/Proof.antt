@@ -1,4 +1,4 @@
--- `writing::put_sequence` meets its contract. The loop's invariant: k bytes of the sequence are written. Assumes nothing.
+-- `encode_writing::put_sequence` meets its contract. The loop's invariant: k bytes of the sequence are written. Assumes nothing.
 use Prim.Native.Nat.{_-_, _≤_}
 use mathlib.Core.Path.{_≡_, refl, _∙_}
 use native.Mathlib.Omega.{arith}

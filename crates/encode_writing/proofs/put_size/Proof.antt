@@ -1,4 +1,4 @@
--- `writing::put_size` meets its contract: a byte where a size control is asked for. Assumes nothing.
+-- `encode_writing::put_size` meets its contract: a byte where a size control is asked for. Assumes nothing.
 use mathlib.Core.Path.{sym}
 use Rattle.encode_states.specs.Written.{sizeControl}
 use Rattle.encode_writing.proofs.Laws.{put-none, put-as, other-size}

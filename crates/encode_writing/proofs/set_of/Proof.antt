@@ -1,4 +1,4 @@
--- `writing::set_of` meets its contract: code by code. Assumes nothing.
+-- `encode_writing::set_of` meets its contract: code by code. Assumes nothing.
 use mathlib.Core.Path.{sym, ap}
 use Rattle.encode_writing.proofs.Laws.{macro-code}
 use Rattle.encode_states.specs.Packed.{setOf}

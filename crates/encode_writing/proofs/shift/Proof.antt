@@ -1,4 +1,4 @@
--- `writing::shift` meets its contract: by the kind of shift. Assumes nothing.
+-- `encode_writing::shift` meets its contract: by the kind of shift. Assumes nothing.
 use Prim.Native.Nat.{ℕ}
 use mathlib.Core.Path.{sym, ap, _∙_}
 use Rattle.encode_states.specs.Written.{invocation}

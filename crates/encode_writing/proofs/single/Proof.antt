@@ -1,4 +1,4 @@
--- `writing::single` meets its contract: by the code element. Assumes nothing.
+-- `encode_writing::single` meets its contract: by the code element. Assumes nothing.
 use mathlib.Core.Path.{sym, ap}
 use Rattle.encode_states.specs.Written.{invocation}
 use Rattle.encode_writing.proofs.Laws.{last-single}
