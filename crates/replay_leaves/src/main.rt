@@ -98,26 +98,17 @@ fn replay(answers: &[u8], t: &[u16]) {
     line(b"leaves", sum);
 }
 
-/// The replay, where both files are whole.
-fn replay_files(answers: &[u8], table: &[u8]) {
-    if answers.len() != 301521 {
+/// The buffer has room for one byte more than the file, so that a longer file shows.
+fn main() {
+    let mut t = [0u16; 8836];
+    if !cells(&mut t) {
+        return;
+    }
+    let mut answers = [0u8; 301522];
+    let n = read(b"leaves.bin", &mut answers);
+    if n != 301521 {
         io::write_all(STDOUT_FILENO, b"leaves.bin does not have 301521 bytes\n");
         return;
     }
-    if table.len() != 17672 {
-        io::write_all(STDOUT_FILENO, b"jis.tab does not have 17672 bytes\n");
-        return;
-    }
-    let mut t = [0u16; 8836];
-    cells(table, &mut t);
-    replay(answers, &t);
-}
-
-/// Each buffer has room for one byte more than its file, so that a longer file shows.
-fn main() {
-    let mut answers = [0u8; 301522];
-    let n = read(b"leaves.bin", &mut answers);
-    let mut table = [0u8; 17673];
-    let m = read(b"jis.tab", &mut table);
-    replay_files(&answers[..n], &table[..m]);
+    replay(&answers[..n], &t);
 }

@@ -1,4 +1,5 @@
 // Files and their numbers, which are big-endian.
+use libc::STDOUT_FILENO;
 ghost use mathlib.Core.Path.{_≡_};
 ghost use Prim.Native.Nat.{_<_};
 ghost use lib.ListN.{length};
@@ -32,9 +33,17 @@ pub fn byte(bytes: &[u8], i: usize) -> usize
     if i < bytes.len() { value(bytes[i]) } else { 0 }
 }
 
-/// Fills the cell table from `jis.tab`.
-pub fn cells(table: &[u8], t: &mut [u16])
+/// Fills the cell table from `jis.tab`, and answers whether the file has the bytes of one, no more and no fewer; where
+/// it has not, a line says so. The buffer has room for one byte more, so that a longer file shows.
+pub fn cells(t: &mut [u16]) -> bool
     ensures { λ _. ⌜ length (now (t .exit)) ≡ length (now (t .entry)) ⌝ }
 {
-    jis_tab::numbers(table, t);
+    let mut table = [0u8; 17673];
+    let n = read(b"jis.tab", &mut table);
+    if n != 17672 {
+        io::write_all(STDOUT_FILENO, b"jis.tab does not have 17672 bytes\n");
+        return false;
+    }
+    jis_tab::numbers(&table[..n], t);
+    true
 }

@@ -1,0 +1,58 @@
+-- `same_in_rooms` is safe: the stated lengths are within the rooms. Assumes nothing.
+use mathlib.Core.Path.{sym}
+use native.Mathlib.Omega.{arith}
+use lib.Seq.{length-take-le}
+use borrow.Author.Needs.{needs}
+use Rattle.replay_decode.proofs.decoding.same_in_rooms.Statement.{statement}
+use Rattle.replay_decode.proofs.decoding.same_in_rooms.Tie as tie
+
+byte-room-requires : tie.Need-byte-room-requires
+byte-room-requires c κs = search needs
+
+number-room-requires : tie.Need-number-room-requires
+number-room-requires c κs = search needs
+
+returns : tie.Need-returns
+returns c = search needs
+
+returns-2 : tie.Need-returns-2
+returns-2 c = search needs
+
+array-borrow-prefix-bytes : tie.Need-array-borrow-prefix-bytes
+array-borrow-prefix-bytes c = search needs
+
+slice-aggregate-same : tie.Need-slice-aggregate-same
+slice-aggregate-same c =
+    let at-byte-room = c .before .before .before .before in
+    let at-start = at-byte-room .before .before .before .before .before in
+    sym (length-take-le (at-start .args .case .«text_room») (at-byte-room .byte-room .result) (omega (arith, at-byte-room .byte-room .ensures)))
+
+array-borrow-prefix-numbers : tie.Need-array-borrow-prefix-numbers
+array-borrow-prefix-numbers c = search needs
+
+slice-aggregate-same-2 : tie.Need-slice-aggregate-same-2
+slice-aggregate-same-2 c =
+    let at-number-room = c .before .before .before .before in
+    let at-start = at-number-room .before .before .before .before .before .before in
+    sym (length-take-le (at-start .args .case .«issue_room») (at-number-room .number-room .result) (omega (arith, at-number-room .number-room .ensures)))
+
+same-requires : tie.Need-same-requires
+same-requires c κs = search needs
+
+returns-3 : tie.Need-returns-3
+returns-3 c = search needs
+
+pub same-in-rooms-spec : {M : Type 1} → statement M
+same-in-rooms-spec =
+    tie.close
+    (tie.spec
+    byte-room-requires
+    number-room-requires
+    returns
+    returns-2
+    array-borrow-prefix-bytes
+    slice-aggregate-same
+    array-borrow-prefix-numbers
+    slice-aggregate-same-2
+    same-requires
+    returns-3)
