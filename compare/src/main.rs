@@ -2,6 +2,7 @@
 //! has what each prints.
 
 use std::io::{self, Write};
+use std::path;
 use std::process::ExitCode;
 
 use compare::bench::{self, Side};
@@ -14,7 +15,7 @@ const USAGE: &str = "usage:
 compare decode [--seed N] [--random N] [--every N] [--threads N] [--greatest] [--subject model]
 compare encode [--seed N] [--random N] [--every N] [--threads N] [--greatest] [--subject model]
 compare crate [--seed N] [--inputs N] [--texts N] [--threads N]
-compare programs [--seed N] [--random N] [--lines N] [--threads N]
+compare programs [--seed N] [--random N] [--lines N] [--threads N] [--bin FOLDER]
 compare vectors N
 compare encode-vectors N
 compare bench [--subject model]
@@ -81,12 +82,14 @@ fn run_crate(_: Words) -> Result<bool, String> {
 
 /// All runs of the programs; false at a difference.
 fn run_programs(mut words: Words) -> Result<bool, String> {
-    use compare::programs::{Amount, USUAL, all, usual};
+    use compare::programs::{Amount, BIN, USUAL, all};
+    let bin = words.value("--bin")?.unwrap_or_else(|| BIN.into());
+    let bin = path::absolute(bin).map_err(|error| error.to_string())?;
     let amount = Amount {
         random: words.number("--random", USUAL.random)?,
         lines: words.number("--lines", USUAL.lines)?,
     };
-    all(&runs(words, usual(), amount)?)
+    all(&runs(words, &*bin.leak(), amount)?)
 }
 
 /// Runs with the seed and the threads of the last words.

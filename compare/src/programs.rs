@@ -17,8 +17,6 @@ mod table;
 mod tables;
 mod tally;
 
-use std::path::Path;
-
 use crate::runs::{self, Part};
 
 pub use feed::Feed;
@@ -42,10 +40,8 @@ pub struct Amount {
 /// About a minute's.
 pub const USUAL: Amount = Amount { random: 200, lines: 1_000_000 };
 
-/// The folder of the programs.
-pub fn usual() -> &'static Path {
-    Path::new(concat!(env!("CARGO_MANIFEST_DIR"), "/../target/bin"))
-}
+/// The folder of the programs, if nothing is said.
+pub const BIN: &str = concat!(env!("CARGO_MANIFEST_DIR"), "/../target/bin");
 
 /// The parts in the order in which they are done.
 const PARTS: [Part<Holder, Amount>; 11] = [
