@@ -16,7 +16,8 @@ use crate::call::Call;
 use crate::cells;
 use crate::difference::Held;
 
-/// A folder, none and a full device, for each program; and `keys` before a reader that stops.
+/// Standard input a folder or closed, standard output full or closed, for each program; and `keys`
+/// before a reader that stops.
 pub fn streams(runs: &Runs) -> Found {
     runs.each_of(&Program::ALL, |holder, &program| {
         let of = |err: &str| Said { err: err.into(), ..Said::default() };
@@ -28,6 +29,8 @@ pub fn streams(runs: &Runs) -> Found {
         ended_by_shell(holder, program, &none, "exec \"$0\" <&-")?;
         let full = of("standard output: No space left on device\n");
         ended_by_shell(holder, program, &full, "printf '1\\tA2\\n' | \"$0\" >/dev/full")?;
+        let closed = of("standard output: Bad file descriptor\n");
+        ended_by_shell(holder, program, &closed, "printf '1\\tA2\\n' | \"$0\" >&-")?;
         if program == Program::Keys { stopped(holder) } else { Ok(()) }
     })
 }
