@@ -9,34 +9,83 @@
 
 #include "arib_text.h"
 
-enum { STACK = 1 << 22, PATTERN = 0x5A };
+enum { STACK = 1 << 22, PATTERN = 0x5A, CAPTION = 1 };
 
 static uint16_t cells[8836];
-static uint8_t input[65535], text[1 << 20], coding[65536];
+static uint8_t input[256], text[1 << 20], coding[65536];
 static uint32_t issues[1 << 16], store[1 << 20];
-static size_t counts[4];
+static size_t input_len, counts[4];
 
-/* Macros that call the next one, four deep, and one that calls itself. */
+/* Kana in rows 4 and 5, and in the other rows that may hold characters one after another. */
+static void fill_cells(void)
+{
+    for (int i = 0; i < 8836; i++) {
+        int row = i / 94 + 1;
+        if (row < 9 || (row > 15 && row < 85))
+            cells[i] = row == 4 ? 0x3041 + i % 94 : row == 5 ? 0x30A1 + i % 94 : 0x4E00 + i;
+    }
+}
+
+/* Bytes that end in 00, which none of them holds. */
+static void put(const char *bytes)
+{
+    size_t n = strlen(bytes);
+    memcpy(input + input_len, bytes, n);
+    input_len += n;
+}
+
+/* What is read at the bottom of macros that call the next one: characters of every kind, the deepest
+ * an additional symbol behind a single shift; repeats, marks, controls, escapes, faults and macros. */
+static const char *const innermost[] = {
+    "", "\xA2", "\x30\x21", "\x29\x21", "\x0E\x41", "\x89\x0E\x41\x20", "\x1B\x28\x49\x31", "\x1B\x28\x4A\x21",
+    "\x1B\x24\x3B\x7A\x21", "\x1B\x24\x2A\x3B\x19\x7A\x21", "\x1B\x24\x2B\x3B\x1D\x7A\x21", "\x1B\x24\x39\x30\x21",
+    "\x1B\x24\x3A\x21\x21", "\x1B\x28\x32\x21", "\x1B\x28\x20\x41\x21", "\x1B\x24\x28\x20\x40\x21\x21",
+    "\x98\x7F\xA2", "\x98\x40", "\x21\x2D\xA2", "\x21\x2D\x98\x43\xA2", "\x21\x2D\x0D", "\x24\xA2", "\x19\x0D",
+    "\x1B\x21\x40", "\x1B\x1B", "\x8B\x60\x0E\x41", "\x90\x20\x40", "\x9D\x29\x30\x40", "\x9B\x30\x40", "\x9B\xA2",
+    "\x0D", "\xA0", "\x95", "\x95\x40\x25\xA2", "\x95\x41\x25\xA2\x95\x4F", "\x1D\x21", "\x1D\x60", "\x1D\x7F",
+};
+
+/* Macros 21 and on, each of which calls the one before it, this deep; the last is called. */
+static void nest(const char *body, int deep)
+{
+    static const char calls[][3] = {"\x1D\x21", "\x1D\x22", "\x1D\x23", "\x1D\x24", "\x1D\x25"};
+    static const char begins[][4] = {"\x95\x40\x21", "\x95\x40\x22", "\x95\x40\x23", "\x95\x40\x24", "\x95\x40\x25"};
+    input_len = 0;
+    for (int i = 0; i < deep; i++) {
+        put(begins[i]);
+        put(i == 0 ? body : calls[i - 1]);
+        put("\x95\x4F");
+    }
+    put(deep > 0 ? calls[deep - 1] : body);
+}
+
 static void *decodes(void *unused)
 {
-    static const uint8_t nested[] = {0x95, 0x40, 0x21, 0xA2, 0x1D, 0x22, 0x95, 0x4F, 0x95, 0x40, 0x22, 0x1D, 0x23,
-                                     0x95, 0x4F, 0x95, 0x40, 0x23, 0x1D, 0x24, 0x95, 0x4F, 0x95, 0x40, 0x24, 0x1D,
-                                     0x24, 0x95, 0x4F, 0x1D, 0x21, 0x24, 0x22, 0x1B, 0x24, 0x3B, 0x7A, 0x50};
-    arib_decode(cells, 8836, 1, 0, nested, sizeof nested, text, sizeof text, issues, 1 << 16, counts, 4);
+    arib_decode(cells, 8836, CAPTION, 0, input, input_len, text, sizeof text, issues, 1 << 16, counts, 4);
     return unused;
 }
 
 static void *keys(void *unused)
 {
-    arib_key(cells, 8836, 1, 0, input, 2, text, sizeof text, counts, 3);
+    arib_key(cells, 8836, CAPTION, 0, input, input_len, text, sizeof text, counts, 3);
     return unused;
 }
 
+static void *finds_escape(void *unused)
+{
+    arib_unknown_escape(input, input_len, 0, input_len, counts, 2);
+    return unused;
+}
+
+/* Characters of every set and both sizes, marks, newlines; faults; nothing. */
+static const char *const texts[] = {
+    "ニュース TEST！ 7:00", "あアｱA㐂年", "！ュア", "A\u0301\u20DD\nあ\u0332", "\n\n", "\u3000 ー。", "\u0301",
+    "\x01", "\xFF", "",
+};
+
 static void *encodes(void *unused)
 {
-    static const char title[] = "ニュース TEST！ 7:00";
-    arib_encode(cells, 8836, 0, 0, (const uint8_t *)title, sizeof title - 1, store, 1 << 20, coding, sizeof coding,
-                counts, 3);
+    arib_encode(cells, 8836, 0, 0, input, input_len, store, 1 << 20, coding, sizeof coding, counts, 3);
     return unused;
 }
 
@@ -64,11 +113,38 @@ static size_t used(void *(*run)(void *))
     return STACK - n;
 }
 
+/* Of a call that reads: bodies this deep at most. */
+static size_t reading(void *(*run)(void *), int deepest)
+{
+    size_t most = 0;
+    for (int deep = 0; deep <= deepest; deep++)
+        for (size_t i = 0; i < sizeof innermost / sizeof *innermost; i++) {
+            nest(innermost[i], deep);
+            size_t n = used(run);
+            most = n > most ? n : most;
+        }
+    return most;
+}
+
+static size_t writing(void *(*run)(void *))
+{
+    size_t most = 0;
+    for (size_t i = 0; i < sizeof texts / sizeof *texts; i++) {
+        input_len = 0;
+        put(texts[i]);
+        size_t n = used(run);
+        most = n > most ? n : most;
+    }
+    return most;
+}
+
 int main(void)
 {
     size_t none = used(nothing);
-    printf("decode %zu\n", used(decodes) - none);
-    printf("key %zu\n", used(keys) - none);
-    printf("encode %zu\n", used(encodes) - none);
+    fill_cells();
+    printf("decode %zu, without macros %zu\n", reading(decodes, 5) - none, reading(decodes, 0) - none);
+    printf("key %zu, without macros %zu\n", reading(keys, 5) - none, reading(keys, 0) - none);
+    printf("encode %zu\n", writing(encodes) - none);
+    printf("unknown escape %zu\n", reading(finds_escape, 0) - none);
     return 0;
 }

@@ -41,7 +41,9 @@ enum arib_kind {
     ARIB_UNKNOWN_ESCAPE = 1,      /* an escape that no table lists: start in the input, length */
     ARIB_UNDEFINED_CONTROL,       /* a control code that the tables leave blank: the code */
     ARIB_MALFORMED_CONTROL,       /* parameters that no table lists: the code */
-    ARIB_TRUNCATED,               /* the input or a macro's body ends within a code */
+    ARIB_TRUNCATED,               /* the input or a macro's body ends within a code or a macro's
+                                   * definition, or a two-byte character's second byte is not in
+                                   * the half of its first (24 A2) */
     ARIB_UNDEFINED_CODE,          /* blank in its set, U+FFFD stands for it: set, code */
     ARIB_UNSUPPORTED_CODE,        /* of a set that is not mapped, U+FFFD likewise: set, code */
     ARIB_DRCS,                    /* a character of DRCS-n, U+FFFD likewise: n, code */
@@ -75,27 +77,30 @@ enum arib_set {
 
 /* Decodes a string to UTF-8. counts: place, bytes of text, issues, charge (the bytes of the macro
  * bodies that ran). An issue is four numbers, offset, kind and two fields, so the buffer holds a
- * quarter of its length; issues are in order of report. Questions 1, 2, 3, 8, 9. */
+ * quarter of its length; issues are in order of report. Questions 1, 2, 3, 8, 9. Takes at most some
+ * 12,000 bytes of stack on x86-64, by c/stack: macro bodies run four deep. */
 uint32_t arib_decode(const uint16_t *cells, size_t cells_len, uint32_t initial, uint32_t width,
                      const uint8_t *input, size_t input_len, uint8_t *text, size_t text_len,
                      uint32_t *issues, size_t issues_len, size_t *counts, size_t counts_len);
 
 /* The bytes of an unknown escape, by the fields of its issue, as a part of the input. part: start,
  * length. A start and length that leave the input get the empty part at its beginning. Answers the
- * part's length; puts no question. */
+ * part's length; puts no question. Takes less than 100 bytes of stack. */
 size_t arib_unknown_escape(const uint8_t *input, size_t input_len, size_t start, size_t length,
                            size_t *part, size_t part_len);
 
 /* Codes UTF-8. counts: place, bytes of the coding, gap: no admissible coding of the text is shorter
  * by more than the gap. A buffer of nine bytes a character always suffices. `store` is the search's
  * memory, four numbers a state, all zero afterwards; a title needs some thousand states, a caption
- * of 7,000 bytes some millions. Questions 1 to 8 in this order. */
+ * of 7,000 bytes some millions. Questions 1 to 8 in this order. Takes at most some 260,000 bytes of
+ * stack on x86-64, by c/stack. */
 uint32_t arib_encode(const uint16_t *cells, size_t cells_len, uint32_t initial, uint32_t width,
                      const uint8_t *text, size_t text_len, uint32_t *store, size_t store_len,
                      uint8_t *coding, size_t coding_len, size_t *counts, size_t counts_len);
 
 /* The key of a title: its text without newline, U+0020 and U+3000. counts: place, bytes of the key,
- * charge. The buffer must hold the text before removal. Questions 1, 2, 3, 8, 10. */
+ * charge. The buffer must hold the text before removal. Questions 1, 2, 3, 8, 10. Takes at most
+ * some 12,000 bytes of stack, as arib_decode does. */
 uint32_t arib_key(const uint16_t *cells, size_t cells_len, uint32_t initial, uint32_t width,
                   const uint8_t *input, size_t input_len, uint8_t *key, size_t key_len,
                   size_t *counts, size_t counts_len);

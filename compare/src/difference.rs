@@ -48,7 +48,7 @@ impl Difference {
     pub fn line(mut self, name: &str, answer: impl Display) -> Difference {
         let mut answer = answer.to_string();
         if answer.len() > CUT {
-            answer.truncate(CUT);
+            answer.truncate(answer.floor_char_boundary(CUT));
             answer += " (cut)";
         }
         self.0 += &format!("{name}: {answer}\n");

@@ -1,7 +1,8 @@
-//! `compare decode`, `encode`, `crate`, `vectors`, `encode-vectors` or `bench`; README.md has what
-//! each prints.
+//! `compare decode`, `encode`, `crate`, `programs`, `vectors`, `encode-vectors` or `bench`; README.md
+//! has what each prints.
 
 use std::io::{self, Write};
+use std::path;
 use std::process::ExitCode;
 
 use compare::bench::{self, Side};
@@ -14,6 +15,7 @@ const USAGE: &str = "usage:
 compare decode [--seed N] [--random N] [--every N] [--threads N] [--greatest] [--subject model]
 compare encode [--seed N] [--random N] [--every N] [--threads N] [--greatest] [--subject model]
 compare crate [--seed N] [--inputs N] [--texts N] [--threads N]
+compare programs [--seed N] [--random N] [--lines N] [--threads N] [--bin FOLDER]
 compare vectors N
 compare encode-vectors N
 compare bench [--subject model]
@@ -26,6 +28,7 @@ fn main() -> ExitCode {
         Some("decode") => run(words, decode::USUAL, decode::all),
         Some("encode") => run(words, encode::USUAL, encode::all),
         Some("crate") => run_crate(words),
+        Some("programs") => run_programs(words),
         Some("vectors") => write_file(words, decode::vectors::file),
         Some("encode-vectors") => write_file(words, encode::vectors::file),
         Some("bench") => measure(words),
@@ -75,6 +78,18 @@ fn run_crate(mut words: Words) -> Result<bool, String> {
 #[cfg(not(feature = "library"))]
 fn run_crate(_: Words) -> Result<bool, String> {
     Err("no library is linked".into())
+}
+
+/// All runs of the programs; false at a difference.
+fn run_programs(mut words: Words) -> Result<bool, String> {
+    use compare::programs::{Amount, BIN, USUAL, all};
+    let bin = words.value("--bin")?.unwrap_or_else(|| BIN.into());
+    let bin = path::absolute(bin).map_err(|error| error.to_string())?;
+    let amount = Amount {
+        random: words.number("--random", USUAL.random)?,
+        lines: words.number("--lines", USUAL.lines)?,
+    };
+    all(&runs(words, &*bin.leak(), amount)?)
 }
 
 /// Runs with the seed and the threads of the last words.

@@ -72,7 +72,8 @@ pub enum IssueKind {
     UndefinedControl(u8),
     /// A control code with parameters that no table lists.
     MalformedControl(u8),
-    /// The input or the macro body ended within a code.
+    /// The input or the macro body ended within a code or a macro's definition, or a two-byte
+    /// character's second byte was not in the half of its first (24 A2).
     Truncated,
     /// A code that is blank in its set; U+FFFD stands for it.
     UndefinedCode { set: GraphicSet, code: u16 },

@@ -1,4 +1,5 @@
 // Standard input and the file `jis.tab`.
+use libc::STDERR_FILENO;
 ghost use Prim.Native.Nat.{_≤_};
 ghost use lib.ListN.{length};
 ghost use Rattle.io.specs.Counts.{Counts};
@@ -51,13 +52,17 @@ pub struct Table {
 }
 
 /// Reads `jis.tab`. One that cannot be opened or read counts as one of no bytes, which is refused, and
-/// not as one that is absent.
+/// not as one that is absent. That there is none, or why it could not be read, goes to standard error.
 pub fn read_table(buffer: &mut [u8]) -> Table
     ensures { λ r. ⌜ Counts (r .len) (now (buffer .exit)) ⌝ }
 {
     let fd = os::open_read(b"jis.tab");
     if fd < 0 {
         if os::errno() == libc::ENOENT {
+            io::write_all(
+                STDERR_FILENO,
+                b"jis.tab: absent, so every kanji is undefined\n",
+            );
             return Table {
                 present: false,
                 len: 0,
