@@ -11,8 +11,7 @@ use lib.ListN.{getD}
 use borrow.Author.Tests.{ltb-true, ltb-false, eqb-true, eqb-false}
 use Rattle.base.proofs.Table.{at}
 use Rattle.addsym.specs.Table719.{replacements}
-use Rattle.addsym.specs.Symbols.{rowPlace, table719, replacedBy, symbol, foundAt, scalarOf}
-use Rattle.addsym.specs.declared.Found.the-variants.{Symbol, Blank}
+use Rattle.addsym.specs.Symbols.{rowPlace, table719, replacedBy, symbol}
 use Rattle.addsym.proofs.Places.{values, entry, no-row, no-cell, past-cells}
 
 -- is the number one of the list?
@@ -80,13 +79,3 @@ symbol-plain row cell = go (ltb (rowPlace row) 7) (eqb cell 0) (ltb 94 cell) ref
         let h1 = ltb-false 94 cell m in
         subst Plain (entry row cell (rowPlace row) refl hr h0 h1 symbol)
         (at-place (rowPlace row * 94 + cell - 1) (omega arith))
-
--- the scalar of the answer is the symbol
-pub found-scalar : (row cell : ℕ) → scalarOf (foundAt row cell) ≡ symbol row cell
-unfolding foundAt
-found-scalar row cell = go (eqb (table719 row cell) 0) refl
-  where
-    go : (b : Bool) → eqb (table719 row cell) 0 ≡ b → scalarOf
-        (cond b Blank (Symbol (record { row = row; cell = cell; table_7_19 = table719 row cell; unicode = symbol row cell }))) ≡ symbol row cell
-    go true e = sym (blank-symbol row cell (eqb-true (table719 row cell) 0 e))
-    go false e = refl

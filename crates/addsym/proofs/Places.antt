@@ -1,19 +1,18 @@
 -- The 658 places of the tables, row by row: a place's row and cell, the table's rule there, and what lies outside.
 -- Assumes nothing.
 use mathlib.Core.Path.{_≡_, refl, ap, sym, _∙_}
-use mathlib.Core.Bool.{Bool, true, false, cond}
+use mathlib.Core.Bool.{Bool, true, false}
 use mathlib.Core.List.{List, [], _∷_}
 use Prim.Native.Nat.{ℕ, zero, suc, _+_, _-_, _*_, _/_, _%_, _<_, _≤_}
 use native.Mathlib.Nat.{add-zero, zero-add, add-suc, suc-add, not-suc-le-zero, le-of-suc-le-suc}
 use native.Mathlib.Omega.{arith}
 use lib.Dec.{eqb, ltb, leb, leb→le}
 use lib.ListN.{length, getD, List·getD-eq-default}
-use borrow.Author.Tests.{eqb-true, ltb-true, ltb-false, ne-eqb}
+use borrow.Author.Tests.{eqb-true, ltb-true, ltb-false}
 use Rattle.base.proofs.Table.{at}
 use Rattle.addsym.specs.Table719.{numbers, rows}
-use Rattle.addsym.specs.Symbols.{placeIn, rowPlace, table719, symbol, foundAt}
-use Rattle.addsym.specs.declared.Found.{Found}
-use Rattle.addsym.specs.declared.Found.the-variants.{Symbol, Blank}
+use Rattle.addsym.specs.Symbols.{placeIn, rowPlace, table719, symbol, FoundReads}
+use Rattle.addsym.specs.declared.Found.the-variants.{Symbol}
 
 -- the row and the cell of a place
 abbrev pub rowAt : ℕ → ℕ
@@ -101,15 +100,6 @@ past-cells row cell h =
     List·getD-eq-default (0 ∷ getD rows (rowPlace row) []) 0 {n = cell} (omega (arith, short (rowPlace row)))
 
 -- the answer for a value of Table 7-19 and a scalar
-abbrev answer : ℕ → ℕ → ℕ → ℕ → Found
-answer row cell t u = cond (eqb t 0) Blank (Symbol (record { row = row; cell = cell; table_7_19 = t; unicode = u }))
-
-pub blank : (row cell : ℕ) → table719 row cell ≡ 0 → Blank ≡ foundAt row cell
-unfolding foundAt
-blank row cell e = ap (λ (t : ℕ). answer row cell t (symbol row cell)) (sym e)
-
-pub found : (row cell t u : ℕ) → t ≡ table719 row cell → u ≡ symbol row cell → (t ≡ 0 → ⊥) → Symbol (record { row = row; cell = cell; table_7_19 = t; unicode = u }) ≡ foundAt row cell
-unfolding foundAt
-found row cell t u e f h =
-    let g : Symbol (record { row = row; cell = cell; table_7_19 = t; unicode = u }) ≡ answer row cell t u = rw (ne-eqb t 0 h) in
-    g ∙ (λ i. answer row cell (e i) (f i))
+pub found : (row cell t u : ℕ) → t ≡ table719 row cell → u ≡ symbol row cell → (t ≡ 0 → ⊥) → FoundReads
+    (Symbol (record { row = row; cell = cell; table_7_19 = t; unicode = u })) row cell
+found row cell t u e f h = ((λ i. record { row = row; cell = cell; table_7_19 = e i; unicode = f i }), omega (arith, e, h))

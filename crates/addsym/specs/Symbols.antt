@@ -1,5 +1,5 @@
 -- The additional symbols set: what `additional_symbol` answers at a row and a cell.
-use Prim.Native.Nat.{ℕ, suc, _+_, _*_, _-_}
+use Prim.Native.Nat.{ℕ, suc, _+_, _*_, _-_, _≤_}
 use mathlib.Core.List.{List, [], _∷_}
 use mathlib.Core.Bool.{Bool, cond, _&&_}
 use mathlib.Core.Path.{_≡_, refl}
@@ -40,17 +40,10 @@ unfoldable pub symbol : ℕ → ℕ → ℕ
 unfolding table719 replacedBy
 symbol row cell = cond (eqb (table719 row cell) 0) 0 (replacedBy replacements row cell)
 
--- What `additional_symbol` answers: `Blank` where Table 7-19 is blank, else its value and the scalar.
-unfoldable pub foundAt : ℕ → ℕ → Found
-unfolding table719 symbol
-foundAt row cell =
-    cond (eqb (table719 row cell) 0) Blank
-    (Symbol (record { row = row; cell = cell; table_7_19 = table719 row cell; unicode = symbol row cell }))
-
--- The scalar of an answer; 0 for `Blank`.
-abbrev pub scalarOf : Found → ℕ
-scalarOf (Symbol s) = s .unicode
-scalarOf Blank = 0
+-- What an answer of `additional_symbol` says of a row and a cell: the value of Table 7-19 and the scalar, or that the table is blank there.
+abbrev pub FoundReads : Found → ℕ → ℕ → Type 0
+FoundReads (Symbol s) row cell = (s ≡ record { row = row; cell = cell; table_7_19 = table719 row cell; unicode = symbol row cell }) × (1 ≤ table719 row cell)
+FoundReads Blank row cell = table719 row cell ≡ 0
 
 -- The number at a row and a cell of a list of the seven rows, row by row; 0 outside them.
 unfoldable pub cellIn : List ℕ → ℕ → ℕ → ℕ

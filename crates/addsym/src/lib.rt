@@ -4,7 +4,7 @@ ghost use mathlib.Core.Path.{_≡_};
 ghost use Prim.Native.Nat.{_+_, _≤_};
 ghost use lib.ListN.{length};
 ghost use lib.Seq.{sets};
-ghost use Rattle.addsym.specs.Symbols.{rowPlace, symbol, foundAt, cellIn, SymbolsIn};
+ghost use Rattle.addsym.specs.Symbols.{rowPlace, symbol, FoundReads, cellIn, SymbolsIn};
 
 mod tables;
 
@@ -54,7 +54,7 @@ fn row_place(row: u8) -> usize
 /// The symbol at a row and a cell, by Tables 7-10, 7-11 and 7-19. `Blank` where Table 7-19 is blank, and outside
 /// its rows and cells.
 pub fn additional_symbol(row: u8, cell: u8) -> Found
-    ensures { λ r. ⌜ r ≡ foundAt row cell ⌝ }
+    ensures { λ r. ⌜ FoundReads r row cell ⌝ }
 {
     let place = row_place(row);
     if 7 <= place {

@@ -8,9 +8,8 @@ use Prim.Native.Nat.{ℕ}
 use Prim.Native.String.{String}
 use lib.Dec.{eqb}
 use lib.ListN.{length, getD}
-use Rattle.control.specs.Controls.{Control, controls, listed, lookup, bytes, nameOf, paramsOf, answer}
+use Rattle.control.specs.Controls.{Control, controls, listed, lookup, countOf, bytes, nameOf}
 use Rattle.control.specs.declared.ControlName.{ControlName}
-use Rattle.control.specs.declared.Params.the-variants.{NoEntry}
 
 -- the answer for a name
 abbrev named : String → ControlName
@@ -20,7 +19,7 @@ named s =
 
 -- The answers for a code without an entry.
 pub record Without (c : ℕ) : Type 0 where
-  pub no-params : paramsOf c ≡ NoEntry
+  pub no-params : countOf c ≡ none
   pub no-name : nameOf c ≡ record { bytes = 0 ∷ 0 ∷ 0 ∷ 0 ∷ 0 ∷ []; len = 0 }
 
 no-lookup : {A : Type 0} (f : Control → A) (d : A) (xs : List Control) (c : ℕ) → listed xs c ≡ false → lookup f d xs c ≡ d
@@ -34,10 +33,10 @@ no-lookup {A} f d (x ∷ xs) c h = go (eqb c (x .number)) h (no-lookup f d xs c)
 
 -- a code without an entry answers that it has no name and no fixed number of parameter bytes
 pub without : (c : ℕ) → listed controls c ≡ false → Without c
-unfolding nameOf paramsOf
+unfolding nameOf countOf
 without c h =
     record {
-      no-params = ap answer (no-lookup (λ x. x .params) none controls c h);
+      no-params = no-lookup (λ x. x .params) none controls c h;
       no-name = ap named (no-lookup (λ x. x .name) "" controls c h);
     }
 

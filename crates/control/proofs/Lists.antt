@@ -7,9 +7,7 @@ use Prim.Native.Nat.{ℕ, zero, suc, _+_, _-_, _*_, _/_, _%_, _<_, _≤_}
 use native.Mathlib.Nat.{add-zero, zero-add, add-suc, suc-add, not-suc-le-zero, le-of-suc-le-suc}
 use native.Mathlib.Omega.{arith}
 use lib.ListN.{getD}
-use Rattle.control.specs.Controls.{countOf, letterOf, lengthOf, answer}
-use Rattle.control.specs.declared.Params.{Params}
-use Rattle.control.specs.declared.Params.the-variants.{Fixed, NoEntry}
+use Rattle.control.specs.Controls.{countOf, letterOf, lengthOf}
 
 -- the values of f at n places from k on
 abbrev pub list : (ℕ → ℕ) → ℕ → ℕ → List ℕ
@@ -42,7 +40,7 @@ letter-at c k hc hk =
     at (λ i. letterOf (i / 5) (i % 5)) 1280 (c * 5 + k) (omega arith) ∙ (λ j. letterOf (q j) (r j))
 
 -- reading a digit back
-pub dash : (o : Option ℕ) → digit o ≡ 45 → NoEntry ≡ answer o
+pub dash : (o : Option ℕ) → digit o ≡ 45 → none ≡ o
 dash none e = refl
 dash (some n) e = absurd (omega arith)
 
@@ -50,8 +48,8 @@ pub is-digit : (o : Option ℕ) → (digit o ≡ 45 → ⊥) → 48 ≤ digit o
 is-digit none h = absurd (h refl)
 is-digit (some n) h = omega arith
 
-pub counted : (o : Option ℕ) (w : ℕ) → w ≡ digit o → (digit o ≡ 45 → ⊥) → Fixed (w - 48) ≡ answer o
+pub counted : (o : Option ℕ) (w : ℕ) → w ≡ digit o → (digit o ≡ 45 → ⊥) → some (w - 48) ≡ o
 counted none w e h = absurd (h refl)
 counted (some n) w e h =
     let d : w - 48 ≡ n = omega arith in
-    ap Fixed d
+    ap some d

@@ -111,18 +111,14 @@ unfolding letterOf lengthOf
 nameOf c =
     record { bytes = letterOf c 0 ∷ letterOf c 1 ∷ letterOf c 2 ∷ letterOf c 3 ∷ letterOf c 4 ∷ []; len = lengthOf c }
 
--- What `fixed_params` answers.
-abbrev pub answer : Option ℕ → Params
-answer none = NoEntry
-answer (some n) = Fixed n
-
-unfoldable pub paramsOf : ℕ → Params
-unfolding countOf
-paramsOf c = answer (countOf c)
+-- What an answer of `fixed_params` says: the number of parameter bytes, where it is fixed.
+abbrev pub paramsOf : Params → Option ℕ
+paramsOf (Fixed n) = some n
+paramsOf NoEntry = none
 
 -- Worked: APS is followed by two bytes, MACRO by a number that varies, and A0 has no entry.
-worked : paramsOf 0x1C ∷ paramsOf 0x95 ∷ paramsOf 0xA0 ∷ [] ≡ Fixed 2 ∷ NoEntry ∷ NoEntry ∷ []
-unfolding paramsOf
+worked : countOf 0x1C ∷ countOf 0x95 ∷ countOf 0xA0 ∷ [] ≡ some 2 ∷ none ∷ none ∷ []
+unfolding countOf
 worked = refl
 
 worked-name : nameOf 0x16 ≡ record { bytes = 0x50 ∷ 0x41 ∷ 0x50 ∷ 0x46 ∷ 0 ∷ []; len = 4 }

@@ -1,7 +1,7 @@
 // The C0 and C1 control codes of the eight-unit code (Tables 7-14 to 7-17), and the parameter bytes that follow them.
 ghost use mathlib.Core.Path.{_≡_};
 ghost use Prim.Native.Nat.{_<_};
-ghost use Rattle.control.specs.Controls.{letterOf, nameOf, paramsOf};
+ghost use Rattle.control.specs.Controls.{letterOf, nameOf, countOf, paramsOf};
 
 mod tables;
 
@@ -133,7 +133,7 @@ pub fn name(code: u8) -> ControlName
 
 /// How many parameter bytes follow a code, where Tables 7-15 and 7-16 fix their number.
 pub fn fixed_params(code: u8) -> Params
-    ensures { λ r. ⌜ r ≡ paramsOf code ⌝ }
+    ensures { λ r. ⌜ paramsOf r ≡ countOf code ⌝ }
 {
     let n = COUNTS[code as usize];
     if n == b'-' {

@@ -135,7 +135,8 @@ pub fn decode_with(
 }
 
 /// The part of the input that an unknown escape is; a start and length that leave the input get the
-/// empty part at its beginning.
+/// empty part at its beginning. What is promised are the part's bytes: no contract can say where a
+/// part lies in a slice. `arib_unknown_escape` says where, `escapeStart` of `text_counts`.
 pub fn unknown_escape(input: &[u8], start: usize, len: usize) -> &[u8]
     ensures { λ r. ⌜ now r ≡ escapePart (now (input .entry)) start len ⌝ }
 {

@@ -2,10 +2,9 @@
 use decode_state::Core;
 use issues::IssueKind;
 use tables::Cell;
-ghost use mathlib.Core.Path.{_≡_};
 ghost use Prim.Native.Nat.{ℕ};
 ghost use mathlib.Core.List.{List};
-ghost use Rattle.tables.specs.Kanji.{cellOf};
+ghost use Rattle.tables.specs.Kanji.{CellReads};
 ghost use Rattle.decode_output.specs.Output.{emit, mark};
 ghost use Rattle.reading.specs.State.{issue, placeholder, writes};
 ghost use Rattle.reading.specs.Characters.{emitOr, cellOr, mosaic};
@@ -113,7 +112,7 @@ pub fn cell_or(
     issues: &mut [u32],
 ) -> Core
     requires { ⌜ MayTake 1 s ⌝ }
-    ensures { λ r. ⌜ ((cells : List ℕ) (x : ℕ) → cell ≡ cellOf x → Did cells (λ g. cellOr kind x at) s (now (text .entry)) (now (issues .entry)) r (now (text .exit))
+    ensures { λ r. ⌜ ((cells : List ℕ) (x : ℕ) → CellReads cell x → Did cells (λ g. cellOr kind x at) s (now (text .entry)) (now (issues .entry)) r (now (text .exit))
         (now (issues .exit))) ⌝ }
 {
     match cell {

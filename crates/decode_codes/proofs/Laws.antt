@@ -4,14 +4,13 @@ use mathlib.Core.Path.{_≡_, refl, sym, ap, _∙_}
 use mathlib.Core.Bool.{Bool, true, false, cond, _&&_, _||_}
 use mathlib.Core.List.{List}
 use native.Mathlib.Omega.{arith}
-use borrow.Author.Tests.{eqb-true, eqb-false, leb-true, ne-eqb, lt-leb}
+use borrow.Author.Tests.{eqb-true, leb-true, ne-eqb, lt-leb}
 use lib.Dec.{eqb, leb}
 use lib.ListN.{length, drop, getD}
 use Rattle.sets.specs.Sets.{bytesPerChar}
 use Rattle.addsym.specs.Symbols.{symbol}
 use Rattle.tables_onebyte.specs.OneByte.{fullwidthOf, oneByteAt}
-use Rattle.tables.specs.Kanji.{cellOf, kanjiAt}
-use Rattle.tables.specs.declared.Cell.the-variants.{Char, Undefined}
+use Rattle.tables.specs.Kanji.{kanjiAt}
 use Rattle.tables_onebyte.specs.declared.OneByteTable.the-variants.{Alphanumeric}
 use Rattle.issues.specs.declared.IssueKind.{IssueKind}
 use Rattle.issues.specs.declared.IssueKind.the-variants.{UndefinedCode, UnsupportedCode, Drcs}
@@ -23,27 +22,7 @@ use Rattle.tables_onebyte.proofs.OneByteLaws.{fullwidth-at}
 use Rattle.decode_state.proofs.Steps.{drop-one}
 use Rattle.decode_codes.specs.Codes.{cellAt, issueOf}
 
--- ---- a character or none
-
-pub cell-none : (x : ℕ) → Undefined ≡ cellOf x → x ≡ 0
-unfolding cellOf
-cell-none x = go (eqb x 0) refl
-  where
-    go : (u : Bool) → eqb x 0 ≡ u → Undefined ≡ cond u Undefined (Char x) → x ≡ 0
-    go true q e = eqb-true x 0 q
-    go false q e = cc
-
-pub record Found (c x : ℕ) : Type 0 where
-  pub same : x ≡ c
-  pub some : c ≡ 0 → ⊥
-
-pub cell-some : (x c : ℕ) → Char c ≡ cellOf x → Found c x
-unfolding cellOf
-cell-some x c = go (eqb x 0) refl
-  where
-    go : (u : Bool) → eqb x 0 ≡ u → Char c ≡ cond u Undefined (Char x) → Found c x
-    go true q e = let z : _≡_ {A = ℕ} 0 1 = cc in absurd (omega arith)
-    go false q e = let k : x ≡ c = cc in record { same = k; some = λ z. eqb-false x 0 q (k ∙ z) }
+-- ---- a character
 
 pub emit-some : (kind : IssueKind) (at : ℕ) (s : State) (c : ℕ) → (c ≡ 0 → ⊥) → writes (emit c) s ≡ emitOr kind c at s
 unfolding emitOr

@@ -8,8 +8,8 @@ ghost use mathlib.Core.Bool.{_||_, _&&_};
 ghost use Prim.Native.Nat.{ℕ, _+_, _*_, _/_};
 ghost use lib.Dec.{eqb};
 ghost use Rattle.sets.specs.Sets.{bytesPerChar};
-ghost use Rattle.tables.specs.Kanji.{cellOf};
-ghost use Rattle.tables_onebyte.specs.OneByte.{oneByteOf};
+ghost use Rattle.tables.specs.Kanji.{CellReads};
+ghost use Rattle.tables_onebyte.specs.OneByte.{OneByteReads};
 ghost use Rattle.reading.specs.Characters.{isGraphic, letter};
 ghost use Rattle.decode_codes.specs.Codes.{cellAt, issueOf};
 
@@ -58,7 +58,7 @@ pub fn is_narrow(annex: bool, narrow: bool) -> bool
 
 /// The character of a one-byte code, 0 for none.
 pub fn scalar(answer: OneByteChar) -> u32
-    ensures { λ r. ⌜ ((x : ℕ) → answer ≡ oneByteOf x → r ≡ x) ⌝ }
+    ensures { λ r. ⌜ ((x : ℕ) → OneByteReads answer x → r ≡ x) ⌝ }
 {
     match answer {
         OneByteChar::Char(c) => c,
@@ -95,7 +95,7 @@ pub fn letter_at(narrow: bool, set: u8, c: u8) -> u32
 
 /// The cell of JIS compatible Kanji plane 1, of which rows 1 to 84 are those of the Kanji set. 7.1.1.3.
 fn plane1(cells: &[u16], row: u8, cell: u8) -> Cell
-    ensures { λ r. ⌜ r ≡ cellOf (cellAt (now (cells .entry)) 12 row cell) ⌝ }
+    ensures { λ r. ⌜ CellReads r (cellAt (now (cells .entry)) 12 row cell) ⌝ }
 {
     if row <= 84 {
         return tables::kanji(cells, row, cell);
@@ -105,7 +105,7 @@ fn plane1(cells: &[u16], row: u8, cell: u8) -> Cell
 
 /// The cell of a two-byte set at a row and a cell. Tables 7-4, 7-10, 7-11.
 pub fn cell_at(cells: &[u16], set: u8, row: u8, cell: u8) -> Cell
-    ensures { λ r. ⌜ r ≡ cellOf (cellAt (now (cells .entry)) set row cell) ⌝ }
+    ensures { λ r. ⌜ CellReads r (cellAt (now (cells .entry)) set row cell) ⌝ }
 {
     match set {
         0 => tables::kanji(cells, row, cell),

@@ -1,17 +1,16 @@
 -- The definitions of steps, by their cases, at a place of a body. Assumes nothing.
 use Prim.Native.Nat.{ℕ, suc, _+_, _-_, _≤_, _<_}
-use mathlib.Core.Path.{_≡_, refl, sym, ap, _∙_}
+use mathlib.Core.Path.{_≡_, sym, ap, _∙_}
 use mathlib.Core.Bool.{Bool, true, false, cond, _&&_, _||_}
 use mathlib.Core.Logic.{_⊎_, inl, inr}
 use mathlib.Core.List.{List, [], _∷_, _++_}
-use mathlib.Core.Option.{Option, none, some}
+use mathlib.Core.Option.{none, some}
 use native.Mathlib.Omega.{arith}
 use borrow.Author.Tests.{eq-eqb, ne-eqb, le-leb, lt-leb}
 use lib.Dec.{eqb, leb, eqb·suc-zero}
 use lib.ListN.{length, take, drop, getD, length-drop, drop-of-length-le}
 use lib.Seq.{drop-drop, take-suc, getD-drop, length-take-le}
-use Rattle.control.specs.declared.Params.the-variants.{Fixed, NoEntry}
-use Rattle.control.specs.Controls.{countOf, paramsOf, answer}
+use Rattle.control.specs.Controls.{countOf}
 use Rattle.issues.specs.declared.IssueKind.the-variants.{UndefinedControl, MalformedControl}
 use Rattle.reading.specs.State.{State, Step, took, truncated, issue}
 use Rattle.reading.specs.Controls.{leading, applied, unknown, appliedOr, escapeAt, escape, colour, ended, sequenceFrom, time, fixed}
@@ -195,23 +194,6 @@ module _ (b : List ℕ) (i j place at : ℕ) (s : State) (inside : i < length b)
       ∙ (λ x. appliedOr (applied (bytes h x) s) (q x) place at s)))
 
 -- ---- a control with a fixed number of parameters
-
--- what `fixed_params` answers
-pub count-some : (x n : ℕ) → paramsOf x ≡ Fixed n → countOf x ≡ some n
-unfolding paramsOf
-count-some x n e = go (countOf x) e
-  where
-    go : (o : Option ℕ) → answer o ≡ Fixed n → o ≡ some n
-    go none e = let z : _≡_ {A = ℕ} 0 1 = cc in absurd (omega arith)
-    go (some m) e = let q : m ≡ n = cc in ap some q
-
-pub count-none : (x : ℕ) → paramsOf x ≡ NoEntry → countOf x ≡ none
-unfolding paramsOf
-count-none x e = go (countOf x) e
-  where
-    go : (o : Option ℕ) → answer o ≡ NoEntry → o ≡ none
-    go none e = refl
-    go (some m) e = let z : _≡_ {A = ℕ} 0 1 = cc in absurd (omega arith)
 
 module _ (b : List ℕ) (i at : ℕ) (s : State) (inside : i < length b) where
   pub fixed-all : (n : ℕ) → countOf (getD b i 0) ≡ some n → n < length b - i → fixed (getD b i 0) (drop (i + 1) b) at s ≡ took (n + 1) s

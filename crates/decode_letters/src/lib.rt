@@ -10,7 +10,7 @@ ghost use lib.Dec.{ltb};
 ghost use lib.ListN.{length, getD};
 ghost use lib.Seq.{sets};
 ghost use Rattle.utf8.specs.Utf8.{utf8};
-ghost use Rattle.tables.specs.Kanji.{cellOf};
+ghost use Rattle.tables.specs.Kanji.{CellReads};
 ghost use Rattle.reading.specs.Characters.{isGraphic, letter};
 ghost use Rattle.decode_letters.specs.Contracts.{Spacing, Pair, Ideograph, Reads};
 
@@ -96,7 +96,7 @@ pub fn put3(text: &mut [u8], at: usize, c: u32)
 
 /// The character of a cell, 0 for none and for a mark.
 fn spacing(cell: Cell) -> u32
-    ensures { λ r. ⌜ ((x : ℕ) → cell ≡ cellOf x → Spacing x r) ⌝ }
+    ensures { λ r. ⌜ ((x : ℕ) → CellReads cell x → Spacing x r) ⌝ }
 {
     match cell {
         Cell::Char(c) => {

@@ -16,7 +16,7 @@ ghost use Rattle.decode_controls.specs.Controls.{Begins, Bounded, stepOf};
 ghost use Rattle.decode_reports.specs.Contracts.{Reported, Moved};
 
 /// Reports an issue at `at`.
-pub fn issue(s: Core, at: u32, kind: IssueKind, issues: &mut [u32]) -> Core
+fn issue(s: Core, at: u32, kind: IssueKind, issues: &mut [u32]) -> Core
     requires { ⌜ MayTake 1 s ⌝ }
     ensures { λ r. ⌜ ((t : List ℕ) → Reported at kind s t (now (issues .entry)) r (now (issues .exit))) ⌝ }
 {

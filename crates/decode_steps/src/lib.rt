@@ -44,7 +44,7 @@ pub struct Stretched {
 const MACRO_SET: u8 = 15;
 
 /// The offset to report at the byte i of a body: its own (origin 0), or the outermost caller's.
-pub fn offset(origin: u32, i: usize) -> u32
+fn offset(origin: u32, i: usize) -> u32
     requires { ⌜ i < 65536 ⌝ }
     ensures { λ r. ⌜ r ≡ offset origin i ⌝ }
 {

@@ -85,7 +85,7 @@ pub fn least(store: &[u32], from: usize, count: usize) -> u32
 }
 
 /// The floor after a state of cost b is dropped, or a state that reaches it: 0 for none, else one more.
-pub fn lower(floor: u32, b: u32) -> u32
+fn lower(floor: u32, b: u32) -> u32
     requires { ⌜ b < 4294967295 ⌝ }
     ensures { λ r. ⌜ r ≡ lower floor b ⌝ }
 {

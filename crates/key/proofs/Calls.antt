@@ -9,7 +9,6 @@ use borrow.Author.Tests.{leb-true}
 use lib.Dec.{eqb, leb, T}
 use lib.ListN.{length, take, drop, getD, length-append}
 use Rattle.utf8.specs.Utf8.{areScalars, utf8, utf8s, scalars}
-use Rattle.utf8.proofs.Bytes.{length-utf8}
 use Rattle.utf8.proofs.Texts.{scalars-utf8s}
 use Rattle.questions.specs.Questions.{firstRefusal, decodeLimit}
 use Rattle.questions.specs.Buffer.{padded}
@@ -26,7 +25,7 @@ use Rattle.laws_scalars.proofs.Scalars.{text-scalars}
 use Rattle.key_text.specs.KeyText.{keyChar, kept, keyText}
 use Rattle.key_text.specs.Contracts.{Removed}
 use Rattle.key_text.proofs.Characters.{no-longer, first-bytes}
-use Rattle.key.specs.Contracts.{numberOf, placeOf, lenOf, chargedOf, Decodes, answerOf, refusedOf, lent, Answered}
+use Rattle.key.specs.Contracts.{Decodes, lent, Answered}
 
 -- ---- the buffer
 
@@ -136,7 +135,11 @@ module _ (c : Lent) where
         let o = outcome-as 0 accepted in
         let p : part ≡ padded (length (textBytes c)) (keyBytes c) = r .bytes ∙ ap₂ padded (ap length text-part) key-part in
         record {
-          answer = ap₂ key.Keyed (r .len ∙ ap length key-part) charges ∙ sym (ap (λ (x : Outcome). answerOf (x .refused) x) o);
+          number = sym (ap (λ (x : Outcome). x .refused) o);
+          case = λ z. refl;
+          place = refl;
+          counted = r .len ∙ (ap length key-part ∙ sym (ap (λ (x : Outcome). x .len) o));
+          charged = charges ∙ sym (ap (λ (x : Outcome). x .charged) o);
           written = buffer-as part p ∙ sym (ap (λ (x : Outcome). x .buffer) o);
         }
 
@@ -163,21 +166,25 @@ module _ (c : Lent) where
       refused-more m f =
           let o : outcome c ≡ outcomeOf (suc m) c = outcome-as q same ∙ ap (λ (k : ℕ). outcomeOf k c) f in
           record {
-            answer = ap₂ key.Refused f (d .answered .place) ∙ sym (ap (λ (x : Outcome). answerOf (x .refused) x) o);
+            number = f ∙ sym (ap (λ (x : Outcome). x .refused) o);
+            case = λ z. absurd (omega (arith, f, z));
+            place = d .answered .place;
+            counted = sym (ap (λ (x : Outcome). x .len) o);
+            charged = sym (ap (λ (x : Outcome). x .charged) o);
             written = cleared ∙ sym (ap (λ (x : Outcome). x .buffer) o);
           }
 
-      refused-suc : Answered c (refusedOf q place) b
+      refused-suc : Answered c (key.Refused (questionOf q) place) b
       refused-suc = go (eqb q 9) refl
         where
           go : (t : Bool) → eqb q 9 ≡ t → Answered c (key.Refused (questionOf q) place) b
           go true p = refused-more 9 (ap (λ (u : Bool). cond u 10 q) p)
           go false p = refused-more n (ap (λ (u : Bool). cond u 10 q) p ∙ e)
 
-    pub refused : Answered c (refusedOf q place) b
+    pub refused : Answered c (key.Refused (questionOf q) place) b
     refused = go q refl
       where
-        go : (n : ℕ) → q ≡ n → Answered c (refusedOf q place) b
+        go : (n : ℕ) → q ≡ n → Answered c (key.Refused (questionOf q) place) b
         go zero e = absurd (some-number e)
         go (suc n) e = refused-suc n e
 
@@ -187,7 +194,7 @@ module _ (c : Lent) (r : Answer) (b : List ℕ) (d : Decodes c r b) where
   pub keyed-as : (text issues charge len : ℕ) (part : List ℕ) → r ≡ Decoded text issues charge → Removed (take text b) len part → Answered c (key.Keyed len charge) (part ++ drop text b)
   keyed-as text issues charge len part e = keyed c text issues charge b (subst (λ (x : Answer). Decodes c x b) e d) len part
 
-  pub refused-as : (q place : ℕ) (k : KeyAnswer) → r ≡ Refused q place → k ≡ refusedOf q place → Answered c k b
+  pub refused-as : (q place : ℕ) (k : KeyAnswer) → r ≡ Refused q place → k ≡ key.Refused (questionOf q) place → Answered c k b
   refused-as q place k e f = subst (λ (x : KeyAnswer). Answered c x b) (sym f) (refused c q place b (subst (λ (x : Answer). Decodes c x b) e d))
 
   -- the text lies in the buffer
@@ -223,24 +230,6 @@ key-bytes c e = go (refusal c) e (len-inside c)
     go : (m : ℕ) → outcomeOf m c .refused ≡ 0 → outcomeOf m c .len ≤ c .room → take (outcomeOf m c .len) (outcomeOf m c .buffer) ≡ keyBytes c
     go zero f h = take-padded (c .room) (keyBytes c) h
     go (suc m) f h = absurd (omega arith)
-
--- ---- the values of an answer
-
--- its number, its place and its counts are those of an outcome
-pub record Values (o : Outcome) (r : KeyAnswer) : Type 0 where
-  pub number : numberOf r ≡ o .refused
-  pub place : placeOf r ≡ 0
-  pub counted : lenOf r ≡ o .len
-  pub charged : chargedOf r ≡ o .charged
-
-values-of : (q : ℕ) (c : Lent) → Values (outcomeOf q c) (answerOf (outcomeOf q c .refused) (outcomeOf q c))
-unfolding outcomeOf
-values-of zero c = record { number = refl; place = refl; counted = refl; charged = refl }
-values-of (suc q) c = record { number = refl; place = refl; counted = refl; charged = refl }
-
-pub values : {c : Lent} {r : KeyAnswer} {b : List ℕ} → Answered c r b → Values (outcome c) r
-unfolding outcome
-values {c} {r} v = subst (λ (x : KeyAnswer). Values (outcome c) x) (sym (v .answer)) (values-of (refusal c) c)
 
 -- ---- what the decoding of a lent table gives
 

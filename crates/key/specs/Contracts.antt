@@ -1,5 +1,5 @@
 -- What the functions of the key call promise.
-use Prim.Native.Nat.{ℕ, zero, suc}
+use Prim.Native.Nat.{ℕ}
 use mathlib.Core.Path.{_≡_}
 use mathlib.Core.List.{List}
 use lib.Dec.{T}
@@ -8,7 +8,7 @@ use Rattle.utf8.specs.Utf8.{areScalars}
 use Rattle.questions.specs.Questions.{firstRefusal, decodeLimit}
 use Rattle.decode.specs.declared.call.Answer.{Answer}
 use Rattle.decode.specs.Answers as decode
-use Rattle.key.specs.Key.{Lent, decodingOf, reading, questionOf, Outcome, outcome}
+use Rattle.key.specs.Key.{Lent, decodingOf, reading, outcome}
 use Rattle.key.specs.declared.KeyAnswer.{KeyAnswer}
 use Rattle.key.specs.declared.KeyAnswer.the-variants.{Keyed, Refused}
 
@@ -29,15 +29,6 @@ abbrev pub chargedOf : KeyAnswer → ℕ
 chargedOf (Keyed len charged) = charged
 chargedOf (Refused number place) = 0
 
--- the answer by the number of the refusal: with 0 the key's length and the charge, else that number, and its place, which is 0
-abbrev pub answerOf : ℕ → Outcome → KeyAnswer
-answerOf zero o = Keyed (o .len) (o .charged)
-answerOf (suc q) o = Refused (suc q) 0
-
--- a decoding's refusal as a key's
-abbrev pub refusedOf : ℕ → ℕ → KeyAnswer
-refusedOf q place = Refused (questionOf q) place
-
 -- what a call is lent
 abbrev pub lent : List ℕ → ℕ → ℕ → List ℕ → List ℕ → Lent
 lent cells initial width input buffer = record { cells = cells; initial = initial; width = width; input = input; room = length buffer }
@@ -49,7 +40,11 @@ pub record Decodes (c : Lent) (r : Answer) (buffer : List ℕ) : Type 0 where
   pub issues : List ℕ
   pub answered : decode.Answered (decodingOf c) r buffer issues
 
--- the answer, and every byte of the buffer
+-- every number of the answer, which is `Keyed` where none is refused, and every byte of the buffer
 pub record Answered (c : Lent) (r : KeyAnswer) (buffer : List ℕ) : Type 0 where
-  pub answer : r ≡ answerOf (outcome c .refused) (outcome c)
+  pub number : numberOf r ≡ outcome c .refused
+  pub case : numberOf r ≡ 0 → r ≡ Keyed (lenOf r) (chargedOf r)
+  pub place : placeOf r ≡ 0
+  pub counted : lenOf r ≡ outcome c .len
+  pub charged : chargedOf r ≡ outcome c .charged
   pub written : buffer ≡ outcome c .buffer

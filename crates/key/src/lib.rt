@@ -8,8 +8,8 @@ ghost use Prim.Native.Nat.{_≤_};
 ghost use lib.ListN.{length};
 ghost use Rattle.questions.specs.Questions.{firstRefusal};
 ghost use Rattle.decode.specs.Answers.{textOf};
-ghost use Rattle.key.specs.Key.{Lent};
-ghost use Rattle.key.specs.Contracts.{refusedOf, lent, Decodes, Answered};
+ghost use Rattle.key.specs.Key.{Lent, questionOf};
+ghost use Rattle.key.specs.Contracts.{lent, Decodes, Answered};
 
 /// The numbers that issues may take: decoding then refuses with 9 where there is an issue.
 const ISSUES: usize = 0;
@@ -23,7 +23,7 @@ pub enum KeyAnswer {
 
 /// A decoding's refusal as a key's.
 fn refuse(number: u32, place: usize) -> KeyAnswer
-    ensures { λ r. ⌜ r ≡ refusedOf number place ⌝ }
+    ensures { λ r. ⌜ r ≡ KeyAnswer.Refused (questionOf number) place ⌝ }
 {
     match number {
         9 => KeyAnswer::Refused { number: 10, place },

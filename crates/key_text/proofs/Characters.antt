@@ -1,20 +1,17 @@
 -- What a key has for a character, and for a text, character by character. Assumes nothing.
-use mathlib.Core.Path.{_≡_, refl, sym, ap, _∙_}
+use mathlib.Core.Path.{_≡_, refl, sym, ap}
 use mathlib.Core.Logic.{_⊎_, inl, inr}
 use mathlib.Core.Bool.{Bool, true, false, cond, _||_}
 use mathlib.Core.List.{List, [], _∷_, _++_, append-nil}
 use mathlib.Core.Option.{Option, none, some}
 use Prim.Native.Nat.{ℕ, _+_, _≤_}
 use native.Mathlib.Omega.{arith}
-use borrow.Author.Tests.{eq-eqb, ne-eqb}
+use borrow.Author.Tests.{ne-eqb}
 use lib.Dec.{eqb}
 use lib.ListN.{length}
-use lib.Seq.{sets}
 use Rattle.lent.specs.Put.{Put}
 use Rattle.utf8.specs.Utf8.{utf8, utf8s, PutScalar}
-use Rattle.key_text.specs.declared.Kept.the-variants.{Char, Nothing}
 use Rattle.key_text.specs.KeyText.{keyChar, kept, keyText}
-use Rattle.key_text.specs.Contracts.{keptOf}
 
 -- the three that a key leaves out, and any other
 pub left-out : (c : ℕ) → (c ≡ 0x0A) ⊎ ((c ≡ 0x20) ⊎ (c ≡ 0x3000)) → keyChar c ≡ none
@@ -45,25 +42,12 @@ first-bytes c cs = go (keyChar c)
     go none = refl
     go (some x) = ap (λ (l : List ℕ). l ++ utf8s (keyText cs)) (sym (append-nil (utf8 x)))
 
--- the code's answer for a character, and what is to be put for it
+-- what is to be put for a character
 module _ (before : List ℕ) (at c : ℕ) where
-  pub put-char : (x n : ℕ) (after : List ℕ) → keptOf (keyChar c) ≡ Char x → PutScalar before at x after n → Put before at (utf8s (kept (keyChar c) [])) after (at + n)
+  pub put-char : (x n : ℕ) (after : List ℕ) → keyChar c ≡ some x → PutScalar before at x after n → Put before at (utf8s (kept (keyChar c) [])) after (at + n)
   unfolding kept utf8s
-  put-char x n after e p = go (keyChar c) refl e
-    where
-      go : (o : Option ℕ) → keyChar c ≡ o → keptOf o ≡ Char x → Put before at (utf8s (kept (keyChar c) [])) after (at + n)
-      go none q f = absurd (let z : _≡_ {A = ℕ} 0 1 = cc in omega arith)
-      go (some y) q f =
-          let same : y ≡ x = cc in
-          record {
-            written = rw (q, append-nil, same) (p .bytes);
-            next = rw (q, append-nil, same) (ap (λ (k : ℕ). at + k) (p .count));
-          }
+  put-char x n after e p = record { written = rw (e, append-nil) (p .bytes); next = rw (e, append-nil) (ap (λ (k : ℕ). at + k) (p .count)) }
 
-  pub put-nothing : keptOf (keyChar c) ≡ Nothing → Put before at (utf8s (kept (keyChar c) [])) before at
+  pub put-nothing : keyChar c ≡ none → Put before at (utf8s (kept (keyChar c) [])) before at
   unfolding kept utf8s
-  put-nothing e = go (keyChar c) refl e
-    where
-      go : (o : Option ℕ) → keyChar c ≡ o → keptOf o ≡ Nothing → Put before at (utf8s (kept (keyChar c) [])) before at
-      go none q f = record { written = rw q; next = rw q (omega arith) }
-      go (some y) q f = absurd (let z : _≡_ {A = ℕ} 0 1 = cc in omega arith)
+  put-nothing e = record { written = rw e; next = rw e (omega arith) }

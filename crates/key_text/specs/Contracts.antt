@@ -10,10 +10,10 @@ use Rattle.key_text.specs.KeyText.{keyText}
 use Rattle.key_text.specs.declared.Kept.{Kept}
 use Rattle.key_text.specs.declared.Kept.the-variants.{Char, Nothing}
 
--- what a key has for a character, as the code answers it
-abbrev pub keptOf : Option ℕ → Kept
-keptOf none = Nothing
-keptOf (some c) = Char c
+-- what an answer says that a key has for a character
+abbrev pub keptOf : Kept → Option ℕ
+keptOf (Char c) = some c
+keptOf Nothing = none
 
 -- a text's key takes its place: the text up to its first fault, if it has one
 pub record Removed (text : List ℕ) (r : ℕ) (after : List ℕ) : Type 0 where

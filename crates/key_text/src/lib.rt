@@ -19,7 +19,7 @@ pub enum Kept {
 /// The rule of a key, character by character. A rule on letters would change this function alone; the character that is
 /// kept takes no more bytes than the one it stands for.
 pub fn key_char(c: u32) -> Kept
-    ensures { λ r. ⌜ r ≡ keptOf (keyChar c) ⌝ }
+    ensures { λ r. ⌜ keptOf r ≡ keyChar c ⌝ }
 {
     match c {
         0x0A | 0x20 | 0x3000 => Kept::Nothing,

@@ -14,7 +14,7 @@ use Rattle.questions.specs.Questions.{cellsHold, firstRefusal}
 use Rattle.key.specs.declared.KeyAnswer.{KeyAnswer}
 use Rattle.key.specs.Key.{Lent, outcome}
 use Rattle.key.specs.Contracts as keys
-use Rattle.key.proofs.Calls.{len-inside, values}
+use Rattle.key.proofs.Calls.{len-inside}
 use Rattle.keys_form.specs.Line.{bytesOf, trimmed, numberOf, hexOf, isLine, tab, lineOf}
 use Rattle.keys_form.specs.Contracts.{endingAt, ending}
 use Rattle.keys_form.proofs.Writing as form
@@ -83,7 +83,7 @@ module _ (cells l bytes : List ℕ) (b : bytes ≡ bytesOf (hexOf l)) (out out�
         )
 
     short : keys.lenOf r ≤ length part
-    short = omega (arith, values a .counted, len-inside lent-call, long)
+    short = omega (arith, a .counted, len-inside lent-call, long)
 
     -- there is room for what is put behind it
     pub answer-fits : (n : ℕ) → n ≡ keys.lenOf r → (at ≤ 0x10000) × (n ≤ 0x40000)
@@ -95,7 +95,7 @@ module _ (cells l bytes : List ℕ) (b : bytes ≡ bytesOf (hexOf l)) (out out�
     line-printed q n e f w s =
         let d = form.line-printed (numberOf l) at q n part (drop k (drop at out₁)) p (omega (arith, p .next, few)) (omega (arith, f, short))
         (omega (arith, f, short, long, lent-long, room, whole-long, room-inside)) (omega (arith, few, whole-long, put-long p)) w s in
-        (d .0, ap some (line-text ∙ sym (d .1 ∙ ap₂ (lineOf (numberOf l)) (e ∙ values a .number) (ap₂ take (f ∙ values a .counted) (a .written)))))
+        (d .0, ap some (line-text ∙ sym (d .1 ∙ ap₂ (lineOf (numberOf l)) (e ∙ a .number) (ap₂ take (f ∙ a .counted) (a .written)))))
 
 -- ---- a line, trimmed or not
 

@@ -14,12 +14,6 @@ pub const ENCODE_LIMIT: usize = 7281;
 /// The cell table has 94 rows of 94 cells.
 pub const CELLS: usize = 8836;
 
-/// What a refused call answers: the number of the question, and the byte place, 0 except for questions 4, 5 and 6.
-pub struct Refusal {
-    pub number: u32,
-    pub place: usize,
-}
-
 /// Whether no cell of a part of the table is a surrogate, D800 to DFFF. There is no early way out, so that eight cells
 /// are tested at a time; so in `empty`.
 fn scalars(t: &[u16]) -> bool

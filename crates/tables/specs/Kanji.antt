@@ -1,5 +1,5 @@
 -- What the two-byte sets read at a row and a cell, over a lent table of JIS X 0208. Rows and cells are counted from 1.
-use Prim.Native.Nat.{ℕ, _+_, _*_, _-_}
+use Prim.Native.Nat.{ℕ, _+_, _*_, _-_, _≤_}
 use mathlib.Core.Bool.{Bool, true, false, cond, _&&_, _||_}
 use mathlib.Core.List.{List, [], _∷_}
 use mathlib.Core.Path.{_≡_, refl}
@@ -12,9 +12,10 @@ use Rattle.tables.specs.declared.Cell.the-variants.{Char, Undefined}
 use Rattle.tables.specs.declared.Place.{Place}
 use Rattle.tables.specs.declared.Place.the-variants.{At, Nowhere}
 
--- a character, or 0 for a cell that has none, as the code answers it
-unfoldable pub cellOf : ℕ → Cell
-cellOf c = cond (eqb c 0) Undefined (Char c)
+-- what an answer says of the character x of a cell, 0 where the cell has none
+abbrev pub CellReads : Cell → ℕ → Type 0
+CellReads (Char c) x = (x ≡ c) × (1 ≤ c)
+CellReads Undefined x = x ≡ 0
 
 -- `NON_SPACING`: the seven combining marks (Table E-1)
 abbrev pub nonSpacing : List Assignment

@@ -5,7 +5,7 @@ ghost use mathlib.Core.Path.{_≡_};
 ghost use mathlib.Core.Bool.{_&&_};
 ghost use lib.Dec.{leb, ltb};
 ghost use Rattle.addsym.specs.Symbols.{symbol};
-ghost use Rattle.tables.specs.Kanji.{cellOf, nonSpacing, kanjiOverrides, assigned, hasCharacter, cellWith, tableAt, jisX0208At, gap, kanjiSymbol, kanjiAt};
+ghost use Rattle.tables.specs.Kanji.{CellReads, nonSpacing, kanjiOverrides, assigned, hasCharacter, cellWith, tableAt, jisX0208At, gap, kanjiSymbol, kanjiAt};
 ghost use Rattle.tables.specs.Contracts.{placeWith};
 
 /// What a cell of a two-byte set reads as.
@@ -29,7 +29,7 @@ pub struct Assignment {
 
 /// A character as the answer of a two-byte set.
 fn cell_of(c: u32) -> Cell
-    ensures { λ r. ⌜ r ≡ cellOf c ⌝ }
+    ensures { λ r. ⌜ CellReads r c ⌝ }
 {
     if c == 0 {
         return Cell::Undefined;
@@ -251,21 +251,21 @@ pub fn kanji_at(t: &[u16], row: u8, cell: u8) -> u32
 
 /// JIS X 0208 with the overrides, over the lent table. Annex E.1.
 pub fn jis_x0208(t: &[u16], row: u8, cell: u8) -> Cell
-    ensures { λ r. ⌜ r ≡ cellOf (jisX0208At (now (t .entry)) row cell) ⌝ }
+    ensures { λ r. ⌜ CellReads r (jisX0208At (now (t .entry)) row cell) ⌝ }
 {
     cell_of(assigned_at(KANJI_OVERRIDES, row, cell, table_at(t, row, cell)))
 }
 
 /// The Kanji set, over the lent table. Table 7-4.
 pub fn kanji(t: &[u16], row: u8, cell: u8) -> Cell
-    ensures { λ r. ⌜ r ≡ cellOf (kanjiAt (now (t .entry)) row cell) ⌝ }
+    ensures { λ r. ⌜ CellReads r (kanjiAt (now (t .entry)) row cell) ⌝ }
 {
     cell_of(kanji_at(t, row, cell))
 }
 
 /// The additional symbols set: rows 85 and 86 (Table 7-11), 90 to 94 (Table 7-10).
 pub fn additional_symbols(row: u8, cell: u8) -> Cell
-    ensures { λ r. ⌜ r ≡ cellOf (symbol row cell) ⌝ }
+    ensures { λ r. ⌜ CellReads r (symbol row cell) ⌝ }
 {
     cell_of(addsym::scalar(row, cell))
 }

@@ -1,5 +1,5 @@
 -- The one-byte tables of tables.rs, codes 21 on, and what a code reads as.
-use Prim.Native.Nat.{ℕ, _+_, _-_}
+use Prim.Native.Nat.{ℕ, _+_, _-_, _≤_}
 use mathlib.Core.Bool.{cond, _&&_}
 use mathlib.Core.List.{List, [], _∷_, map}
 use mathlib.Core.Path.{_≡_, refl}
@@ -66,9 +66,10 @@ unfoldable pub oneByteAt : OneByteTable → ℕ → ℕ
 unfolding tableOf
 oneByteAt table c = cond (ltb c 0x21) 0 (getD (tableOf table) (c - 0x21) 0)
 
--- a character, or 0 for a code that has none, as the code answers it
-unfoldable pub oneByteOf : ℕ → OneByteChar
-oneByteOf c = cond (eqb c 0) Undefined (Char c)
+-- what an answer says of the character x of a code, 0 where the code has none
+abbrev pub OneByteReads : OneByteChar → ℕ → Type 0
+OneByteReads (Char c) x = (x ≡ c) × (1 ≤ c)
+OneByteReads Undefined x = x ≡ 0
 
 -- Worked: YEN SIGN at 5C, an empty place, the last place, past the end, before the first.
 worked :

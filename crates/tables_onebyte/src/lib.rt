@@ -6,7 +6,7 @@
 // hold the rules to the tables of specs/.
 ghost use mathlib.Core.Path.{_≡_};
 ghost use Prim.Native.Nat.{_≤_, _<_};
-ghost use Rattle.tables_onebyte.specs.OneByte.{fullwidthOf, oneByteAt, oneByteOf};
+ghost use Rattle.tables_onebyte.specs.OneByte.{fullwidthOf, oneByteAt, OneByteReads};
 ghost use Rattle.tables_onebyte.specs.Reverse.{oneByteReverse};
 ghost use Rattle.tables_onebyte.specs.Contracts.{runAt, alphanumericAt, kanaAt, KanaFits, Inverse};
 
@@ -55,7 +55,7 @@ const KATAKANA: Kana = Kana {
 
 /// A character as the answer of a one-byte set.
 fn one_byte_of(c: u32) -> OneByteChar
-    ensures { λ r. ⌜ r ≡ oneByteOf c ⌝ }
+    ensures { λ r. ⌜ OneByteReads r c ⌝ }
 {
     if c == 0 {
         return OneByteChar::Undefined;
@@ -111,21 +111,21 @@ fn kana_at(kana: Kana, c: u8) -> u32
 
 /// The alphanumeric set at GL code `c`, half-width. Table 7-5.
 pub fn alphanumeric(c: u8) -> OneByteChar
-    ensures { λ r. ⌜ r ≡ oneByteOf (oneByteAt OneByteTable.Alphanumeric c) ⌝ }
+    ensures { λ r. ⌜ OneByteReads r (oneByteAt OneByteTable.Alphanumeric c) ⌝ }
 {
     one_byte_of(alphanumeric_at(c))
 }
 
 /// The hiragana set at GL code `c`. Table 7-7.
 pub fn hiragana(c: u8) -> OneByteChar
-    ensures { λ r. ⌜ r ≡ oneByteOf (oneByteAt OneByteTable.Hiragana c) ⌝ }
+    ensures { λ r. ⌜ OneByteReads r (oneByteAt OneByteTable.Hiragana c) ⌝ }
 {
     one_byte_of(kana_at(HIRAGANA, c))
 }
 
 /// The katakana set at GL code `c`. Table 7-6.
 pub fn katakana(c: u8) -> OneByteChar
-    ensures { λ r. ⌜ r ≡ oneByteOf (oneByteAt OneByteTable.Katakana c) ⌝ }
+    ensures { λ r. ⌜ OneByteReads r (oneByteAt OneByteTable.Katakana c) ⌝ }
 {
     one_byte_of(kana_at(KATAKANA, c))
 }
@@ -133,7 +133,7 @@ pub fn katakana(c: u8) -> OneByteChar
 /// The JIS X 0201 katakana set at GL code `c`. Table 7-9, as the halfwidth forms U+FF61 to U+FF9F. Columns 6 and 7 are
 /// undefined.
 pub fn jis_x0201_katakana(c: u8) -> OneByteChar
-    ensures { λ r. ⌜ r ≡ oneByteOf (oneByteAt OneByteTable.JisX0201Katakana c) ⌝ }
+    ensures { λ r. ⌜ OneByteReads r (oneByteAt OneByteTable.JisX0201Katakana c) ⌝ }
 {
     one_byte_of(run_at(0xFF61, 0x5F, c))
 }

@@ -17,7 +17,6 @@ use Rattle.encode.specs.declared.call.Answer as encoded
 use Rattle.key.specs.Key as key
 use Rattle.key.specs.Contracts as keys
 use Rattle.key.specs.declared.KeyAnswer.{KeyAnswer}
-use Rattle.key.proofs.Calls.{values}
 use Rattle.text_counts.specs.Counts.{fronted, escapeStart}
 use Rattle.text.specs.Calls.{counts, Decodes, Escapes, keyCounts, Keys, codingCounts, Codes}
 
@@ -37,13 +36,11 @@ pub keyed : {c : key.Lent} {a : KeyAnswer} {before after b : List ℕ} {n p x y 
     → n ≡ keys.numberOf a → p ≡ keys.placeOf a → x ≡ keys.lenOf a → y ≡ keys.chargedOf a
     → after ≡ fronted before (p ∷ x ∷ y ∷ []) → Keys c before n b after
 unfolding keyCounts
-keyed v n p x y e =
-    let w = values v in
-    record {
-      number = n ∙ w .number;
-      counted = e ∙ rw (p ∙ w .place, x ∙ w .counted, y ∙ w .charged) refl;
-      written = v .written;
-    }
+keyed v n p x y e = record {
+  number = n ∙ v .number;
+  counted = e ∙ rw (p ∙ v .place, x ∙ v .counted, y ∙ v .charged) refl;
+  written = v .written;
+}
 
 pub coded : {c : coding.Lent} {a : encoded.Answer} {before after s b : List ℕ} {n p x y : ℕ} → codes.Answered c a s b
     → n ≡ codes.numberOf a → p ≡ codes.placeOf a → x ≡ codes.lengthOf a → y ≡ codes.gapOf a

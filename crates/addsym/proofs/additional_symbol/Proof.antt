@@ -5,7 +5,7 @@ use mathlib.Core.Path.{sym, _∙_}
 use native.Mathlib.Omega.{arith}
 use borrow.Author.Needs.{needs}
 use Rattle.addsym.specs.Symbols.{table719}
-use Rattle.addsym.proofs.Places.{entry, no-row, no-cell, past-cells, blank, found}
+use Rattle.addsym.proofs.Places.{entry, no-row, no-cell, past-cells, found}
 use Rattle.addsym.proofs.additional_symbol.Statement.{statement}
 use Rattle.addsym.proofs.additional_symbol.Tie as tie
 
@@ -14,15 +14,15 @@ row-place-requires c κs = search needs
 
 returns : tie.Need-returns
 returns c =
-    blank _ _ (no-row _ (c .before .before .args .cell) _ (c .before .row-place .ensures) (c .if1 .taken))
+    no-row _ (c .before .before .args .cell) _ (c .before .row-place .ensures) (c .if1 .taken)
 
 returns-2 : tie.Need-returns-2
 returns-2 c =
-    blank _ _ (no-cell (c .before .before .before .args .row) _ (c .if2 .taken))
+    no-cell (c .before .before .before .args .row) _ (c .if2 .taken)
 
 returns-3 : tie.Need-returns-3
 returns-3 c =
-    blank _ _ (past-cells (c .before .before .before .before .args .row) _ (c .if3 .taken))
+    past-cells (c .before .before .before .before .args .row) _ (c .if3 .taken)
 
 mul-i : tie.Need-mul-i
 mul-i c = search needs
@@ -44,8 +44,8 @@ unfolding table719
 returns-4 c =
     let at-row-place = c .before .before .before .before in
     let at-start = at-row-place .before in
-    blank _ _ (sym (entry (at-start .args .row) (at-start .args .cell) (at-row-place .row-place .result) (at-row-place .row-place .ensures) (omega arith) (omega arith)
-    (omega arith) table719) ∙ c .if4 .taken)
+    sym (entry (at-start .args .row) (at-start .args .cell) (at-row-place .row-place .result) (at-row-place .row-place .ensures) (omega arith) (omega arith)
+    (omega arith) table719) ∙ c .if4 .taken
 
 scalar-requires : tie.Need-scalar-requires
 scalar-requires c κs = search needs

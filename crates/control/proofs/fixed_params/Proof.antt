@@ -3,7 +3,7 @@
 use mathlib.Core.Path.{sym, _∙_}
 use native.Mathlib.Omega.{arith}
 use borrow.Author.Needs.{needs}
-use Rattle.control.specs.Controls.{countOf, paramsOf}
+use Rattle.control.specs.Controls.{countOf}
 use Rattle.control.proofs.Lists.{count-at, dash, is-digit, counted}
 use Rattle.control.proofs.fixed_params.Statement.{statement}
 use Rattle.control.proofs.fixed_params.Tie as tie
@@ -21,12 +21,12 @@ sub-t11 c =
     rw (c .wide .ensures ∙ e) (is-digit (countOf (c .before .before .args .code)) (λ d. c .before .if1 .left (e ∙ d)))
 
 returns : tie.Need-returns
-unfolding paramsOf
+unfolding countOf
 returns c =
     dash (countOf (c .before .args .code)) (sym (count-at (c .before .args .code) (omega arith)) ∙ c .if1 .taken)
 
 returns-2 : tie.Need-returns-2
-unfolding paramsOf
+unfolding countOf
 returns-2 c =
     let e = count-at (c .before .before .args .code) (omega arith) in
     counted (countOf (c .before .before .args .code)) (c .wide .result) (c .wide .ensures ∙ e) (λ d. c .before .if1 .left (e ∙ d))

@@ -27,7 +27,7 @@ returns c =
     let is-non-spacing = at-is-non-spacing .is-non-spacing in
     let if1 = at-if1 .if1 in
     let wait = c .before .before .wait in
-    λ cells x e. did-as (λ g q starts lens t₀ i₀ s k. cell-mark _ _ s x _ (sym (cell .given .1) ∙ e) (sym (is-non-spacing .ensures) ∙ if1 .taken)) (wait .ensures cells _)
+    λ cells x e. did-as (λ g q starts lens t₀ i₀ s k. cell-mark _ _ s x _ (rw (cell .given .1) at e) (sym (is-non-spacing .ensures) ∙ if1 .taken)) (wait .ensures cells _)
 
 show-requires : tie.Need-show-requires
 show-requires c κs = search needs
@@ -50,7 +50,7 @@ returns-2 c =
     let is-non-spacing = at-is-non-spacing .is-non-spacing in
     let if1 = at-if1 .if1 in
     let show = c .before .before .show in
-    λ cells x e. did-as (λ g q starts lens t₀ i₀ s k. cell-char _ _ s x _ (sym (cell .given .1) ∙ e) (sym (is-non-spacing .ensures) ∙ if1 .left)) (show .ensures cells _)
+    λ cells x e. did-as (λ g q starts lens t₀ i₀ s k. cell-char _ _ s x _ (rw (cell .given .1) at e) (sym (is-non-spacing .ensures) ∙ if1 .left)) (show .ensures cells _)
 
 same-length-3 : tie.Need-same-length-3
 same-length-3 c = search needs
@@ -62,7 +62,7 @@ returns-3 : tie.Need-returns-3
 returns-3 c =
     let at-report-placeholder = c .before .before .before .before in
     let at-enum-told = at-report-placeholder .before .before .before in
-    λ cells x e. did-as (λ g q starts lens t₀ i₀ s k. cell-undefined _ _ s x (sym (at-enum-told .enum-told .given .1) ∙ e)) (at-report-placeholder .report-placeholder .ensures cells)
+    λ cells x e. did-as (λ g q starts lens t₀ i₀ s k. cell-undefined _ _ s x (rw (at-enum-told .enum-told .given .1) at e)) (at-report-placeholder .report-placeholder .ensures cells)
 
 pub cell-or-spec : {M : Type 1} → statement M
 cell-or-spec =

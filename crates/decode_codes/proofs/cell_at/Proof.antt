@@ -1,9 +1,6 @@
 -- `cell_at` meets its contract, by the set. Assumes nothing.
-use Prim.Native.Nat.{ℕ}
-use mathlib.Core.Path.{sym, ap, _∙_}
 use borrow.Author.Needs.{needs}
 use borrow.Author.Tests.{ne-eqb}
-use Rattle.tables.specs.Kanji.{cellOf}
 use Rattle.decode_codes.specs.Codes.{cellAt}
 use Rattle.decode_codes.proofs.cell_at.Statement.{statement}
 use Rattle.decode_codes.proofs.cell_at.Tie as tie
@@ -19,23 +16,17 @@ additional-symbols-requires c κs = search needs
 
 returns : tie.Need-returns
 unfolding cellAt
-returns c =
-    let a = c .before .before .before .args in
-    c .kanji .ensures ∙ ap (λ (z : ℕ). cellOf (cellAt (a .cells .now) z (a .row) (a .cell))) (sym (c .before .match .keys1))
+returns c = rw (c .before .match .keys1) (c .kanji .ensures)
 
 returns-2 : tie.Need-returns-2
-returns-2 c =
-    let a = c .before .before .before .args in
-    c .plane1 .ensures ∙ ap (λ (z : ℕ). cellOf (cellAt (a .cells .now) z (a .row) (a .cell))) (sym (c .before .match .keys2))
+returns-2 c = rw (c .before .match .keys2) (c .plane1 .ensures)
 
 returns-3 : tie.Need-returns-3
 unfolding cellAt
-returns-3 c =
-    let a = c .before .before .before .args in
-    c .additional-symbols .ensures ∙ ap (λ (z : ℕ). cellOf (cellAt (a .cells .now) z (a .row) (a .cell))) (sym (c .before .match .keys3))
+returns-3 c = rw (c .before .match .keys3) (c .additional-symbols .ensures)
 
 returns-4 : tie.Need-returns-4
-unfolding cellAt cellOf
+unfolding cellAt
 returns-4 c =
     let z = c .before .before .args .set in
     let n = c .match .rest in rw (ne-eqb z 0 (n .0 .0 .1), ne-eqb z 14 (n .1), ne-eqb z 12 (n .0 .1))

@@ -1,8 +1,9 @@
 -- `fixed` meets its contract. Assumes nothing.
-use mathlib.Core.Path.{refl, sym, _∙_}
+use mathlib.Core.Path.{refl, sym, ap, _∙_}
 use native.Mathlib.Omega.{arith}
+use Rattle.control.specs.Controls.{paramsOf}
 use Rattle.decode_controls.proofs.Effects.{reads-of, bounded, reads-nothing}
-use Rattle.decode_controls.proofs.Cases.{count-some, count-none, fixed-all, fixed-cut, fixed-undefined}
+use Rattle.decode_controls.proofs.Cases.{fixed-all, fixed-cut, fixed-undefined}
 use Rattle.decode_controls.specs.Controls.{stepOf}
 use borrow.Author.Needs.{needs}
 use Rattle.decode_controls.proofs.fixed.Statement.{statement}
@@ -38,7 +39,7 @@ returns c =
     let inside = at-start .pre in
     let all = c .if1 .taken in
     reads-nothing _ (omega arith) (omega arith)
-    (λ at s. fixed-all (a .b .now) (a .i) at s inside _ (count-some _ _ (sym (at-fixed-params .fixed-params .ensures) ∙ at-params .params .given .1)) all)
+    (λ at s. fixed-all (a .b .now) (a .i) at s inside _ (sym (at-fixed-params .fixed-params .ensures) ∙ ap paramsOf (at-params .params .given .1)) all)
 
 returns-2 : tie.Need-returns-2
 returns-2 c =
@@ -50,7 +51,7 @@ returns-2 c =
     let inside = at-start .pre in
     let answer = at-fixed-params .fixed-params .ensures in
     let few = at-if1 .if1 .left in
-    c .cut .ensures _ (λ place at s. fixed-cut (a .b .now) (a .i) at s inside _ (count-some _ _ (sym answer ∙ at-params .params .given .1)) few)
+    c .cut .ensures _ (λ place at s. fixed-cut (a .b .now) (a .i) at s inside _ (sym answer ∙ ap paramsOf (at-params .params .given .1)) few)
 
 returns-3 : tie.Need-returns-3
 unfolding stepOf
@@ -60,7 +61,7 @@ returns-3 c =
     let a = at-start .args in
     let inside = at-start .pre in
     reads-of _ _ (bounded refl refl) (omega arith) (omega arith)
-    (λ place at s. fixed-undefined (a .b .now) (a .i) at s inside (count-none _ (sym (at-fixed-params .fixed-params .ensures) ∙ c .enum-told .given .1)))
+    (λ place at s. fixed-undefined (a .b .now) (a .i) at s inside (sym (at-fixed-params .fixed-params .ensures) ∙ ap paramsOf (c .enum-told .given .1)))
 
 pub fixed-spec : {M : Type 1} → statement M
 fixed-spec =

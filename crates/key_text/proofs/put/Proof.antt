@@ -1,8 +1,9 @@
 -- `put` meets its contract. Assumes nothing.
-use mathlib.Core.Path.{sym, _∙_}
+use mathlib.Core.Path.{sym, ap, _∙_}
 use native.Mathlib.Omega.{arith}
 use borrow.Author.Needs.{needs}
 use Rattle.utf8.proofs.Bytes.{length-utf8}
+use Rattle.key_text.specs.Contracts.{keptOf}
 use Rattle.key_text.proofs.Characters.{put-char, put-nothing}
 use Rattle.key_text.proofs.put.Statement.{statement}
 use Rattle.key_text.proofs.put.Tie as tie
@@ -34,10 +35,10 @@ returns c =
     let at-put = c .before .before in
     let at-k = at-put .before .before .before in
     let at-key-char = at-k .before .before in
-    put-char _ _ _ _ _ _ (sym (at-key-char .key-char .ensures) ∙ at-k .k .given .1) (at-put .put .ensures)
+    put-char _ _ _ _ _ _ (sym (at-key-char .key-char .ensures) ∙ ap keptOf (at-k .k .given .1)) (at-put .put .ensures)
 
 returns-2 : tie.Need-returns-2
-returns-2 c = put-nothing _ _ _ (sym (c .before .before .key-char .ensures) ∙ c .enum-told .given .1)
+returns-2 c = put-nothing _ _ _ (sym (c .before .before .key-char .ensures) ∙ ap keptOf (c .enum-told .given .1))
 
 pub put-spec : {M : Type 1} → statement M
 put-spec =

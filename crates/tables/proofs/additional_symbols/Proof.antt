@@ -1,7 +1,5 @@
 -- `tables::additional_symbols` meets its contract. Assumes nothing.
-use mathlib.Core.Path.{ap, _∙_}
 use borrow.Author.Needs.{needs}
-use Rattle.tables.specs.Kanji.{cellOf}
 use Rattle.tables.proofs.additional_symbols.Statement.{statement}
 use Rattle.tables.proofs.additional_symbols.Tie as tie
 
@@ -12,7 +10,7 @@ cell-of-requires : tie.Need-cell-of-requires
 cell-of-requires c κs = search needs
 
 returns : tie.Need-returns
-returns c = c .cell-of .ensures ∙ ap cellOf (c .before .scalar .ensures)
+returns c = rw (c .before .scalar .ensures) at (c .cell-of .ensures)
 
 pub additional-symbols-spec : {M : Type 1} → statement M
 additional-symbols-spec = tie.close (tie.spec scalar-requires cell-of-requires returns)

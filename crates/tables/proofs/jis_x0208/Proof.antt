@@ -1,7 +1,6 @@
 -- `tables::jis_x0208` meets its contract. Assumes nothing.
-use mathlib.Core.Path.{ap, _∙_}
 use borrow.Author.Needs.{needs}
-use Rattle.tables.specs.Kanji.{cellOf, kanjiOverrides, assigned, jisX0208At}
+use Rattle.tables.specs.Kanji.{jisX0208At}
 use Rattle.tables.proofs.jis_x0208.Statement.{statement}
 use Rattle.tables.proofs.jis_x0208.Tie as tie
 
@@ -17,9 +16,7 @@ cell-of-requires c κs = search needs
 returns : tie.Need-returns
 unfolding jisX0208At
 returns c =
-    let a = c .before .before .before .before .args in
-    c .cell-of .ensures
-    ∙ ap cellOf (c .before .assigned-at .ensures ∙ ap (assigned kanjiOverrides (a .row) (a .cell)) (c .before .before .table-at .ensures))
+    rw (c .before .assigned-at .ensures, c .before .before .table-at .ensures) at (c .cell-of .ensures)
 
 pub jis-x0208-spec : {M : Type 1} → statement M
 jis-x0208-spec =

@@ -1,7 +1,5 @@
 -- `tables::kanji` meets its contract. Assumes nothing.
-use mathlib.Core.Path.{ap, _∙_}
 use borrow.Author.Needs.{needs}
-use Rattle.tables.specs.Kanji.{cellOf}
 use Rattle.tables.proofs.kanji.Statement.{statement}
 use Rattle.tables.proofs.kanji.Tie as tie
 
@@ -12,7 +10,7 @@ cell-of-requires : tie.Need-cell-of-requires
 cell-of-requires c κs = search needs
 
 returns : tie.Need-returns
-returns c = c .cell-of .ensures ∙ ap cellOf (c .before .kanji-at .ensures)
+returns c = rw (c .before .kanji-at .ensures) at (c .cell-of .ensures)
 
 pub kanji-spec : {M : Type 1} → statement M
 kanji-spec = tie.close (tie.spec kanji-at-requires cell-of-requires returns)

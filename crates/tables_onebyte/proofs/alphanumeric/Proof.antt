@@ -1,7 +1,5 @@
 -- `tables_onebyte::alphanumeric` meets its contract. Assumes nothing.
-use mathlib.Core.Path.{ap, _∙_}
 use borrow.Author.Needs.{needs}
-use Rattle.tables_onebyte.specs.OneByte.{oneByteOf}
 use Rattle.tables_onebyte.proofs.alphanumeric.Statement.{statement}
 use Rattle.tables_onebyte.proofs.alphanumeric.Tie as tie
 
@@ -12,7 +10,7 @@ one-byte-of-requires : tie.Need-one-byte-of-requires
 one-byte-of-requires c κs = search needs
 
 returns : tie.Need-returns
-returns c = c .one-byte-of .ensures ∙ ap oneByteOf (c .before .alphanumeric-at .ensures)
+returns c = rw (c .before .alphanumeric-at .ensures) at (c .one-byte-of .ensures)
 
 pub alphanumeric-spec : {M : Type 1} → statement M
 alphanumeric-spec = tie.close (tie.spec alphanumeric-at-requires one-byte-of-requires returns)

@@ -1,8 +1,7 @@
 -- `tables_onebyte::jis_x0201_katakana` meets its contract: a run. Assumes nothing.
-use mathlib.Core.Path.{sym, ap, _∙_}
+use mathlib.Core.Path.{sym, _∙_}
 use native.Mathlib.Omega.{arith}
 use borrow.Author.Needs.{needs}
-use Rattle.tables_onebyte.specs.OneByte.{oneByteOf}
 use Rattle.tables_onebyte.specs.Contracts.{runAt}
 use Rattle.tables_onebyte.specs.declared.OneByteTable.the-variants.{JisX0201Katakana}
 use Rattle.tables_onebyte.proofs.OneByteLaws.{agree}
@@ -19,8 +18,7 @@ one-byte-of-requires c κs = search needs
 returns : tie.Need-returns
 returns c =
     let x = c .before .before .args .c in
-    c .one-byte-of .ensures
-    ∙ ap oneByteOf (c .before .run-at .ensures ∙ sym (agree JisX0201Katakana (runAt 0xFF61 0x5F) jis-x0201-katakana-rule x (omega arith)))
+    rw (c .before .run-at .ensures ∙ sym (agree JisX0201Katakana (runAt 0xFF61 0x5F) jis-x0201-katakana-rule x (omega arith))) at (c .one-byte-of .ensures)
 
 pub jis-x0201-katakana-spec : {M : Type 1} → statement M
 jis-x0201-katakana-spec = tie.close (tie.spec run-at-requires one-byte-of-requires returns)
