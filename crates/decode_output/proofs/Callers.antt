@@ -13,10 +13,6 @@ pub holds-nothing : (t i : List ℕ) → Holds t i nothing (outOf nothing) t i
 unfolding nothing utf8s issuesNumbers
 holds-nothing t i = record { state = refl; text = refl; issues = refl }
 
--- room for less
-pub room-less : {n k a b : ℕ} {s : Out} → Room n k s → a ≤ n → b ≤ k → Room a b s
-room-less p g h = record { ordered = p .ordered; repeat = p .repeat; text = omega arith; issues = omega arith }
-
 -- the room that a step leaves
 pub room-left : {n k a b : ℕ} {s r : Out} → Room (a + n) (b + k) s → Grew a b s r → Room n k r
 room-left p g = record { ordered = g .ordered; repeat = g .repeat; text = omega arith; issues = omega arith }

@@ -47,11 +47,14 @@ mark m at o = record { text = o .text; marks = o .marks ++ (m ∷ []); marksAt =
 unfoldable pub report : ℕ → IssueKind → Output → Output
 report at kind o = record { text = o .text; marks = o .marks; marksAt = o .marksAt; repeat = o .repeat; issues = o .issues ++ (record { offset = at; kind = kind } ∷ []) }
 
--- "before a newline or the end they are released with DanglingNonSpacing at the first one's offset"
+-- "before a newline or the end they are released with DanglingNonSpacing at the first one's offset"; decode.rs, `flush_dangling`: the report comes
+-- first, while the marks still wait
 unfoldable pub releaseOf : List ℕ → Output → Output
 unfolding report
 releaseOf [] o = o
-releaseOf (m ∷ ms) o = report (o .marksAt) DanglingNonSpacing (record { text = o .text ++ (m ∷ ms); marks = []; marksAt = 0; repeat = o .repeat; issues = o .issues })
+releaseOf (m ∷ ms) o =
+    let r = report (o .marksAt) DanglingNonSpacing o in
+    record { text = r .text ++ (m ∷ ms); marks = []; marksAt = 0; repeat = r .repeat; issues = r .issues }
 
 unfoldable pub release : Output → Output
 unfolding releaseOf

@@ -1,5 +1,5 @@
 -- An issue is four numbers: offset, kind (1 to 13 in the order of `IssueKind`), and two fields (01, "Reading").
-use Prim.Native.Nat.{ℕ, _+_}
+use Prim.Native.Nat.{ℕ}
 use mathlib.Core.List.{List, [], _∷_, _++_}
 use Rattle.issues.specs.declared.Numbers.{Numbers}
 use Rattle.issues.specs.declared.IssueKind.{IssueKind}

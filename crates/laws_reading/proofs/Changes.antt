@@ -189,10 +189,11 @@ module _ (C : Type 0) (input : List ℕ) where
       go : (ms : List ℕ) → p .out .marks ≡ ms → Change (C × Bounded input p) input 0 p (puts (releaseOf ms (p .out)) p)
       go [] e = stays (C × Bounded input p) input 0 p
       go (m ∷ ms) e =
-          follows (C × Bounded input p) input 0 0 0 p _ _ (omega arith)
-          (silent (C × Bounded input p) input 0 p (record { text = p .out .text ++ (m ∷ ms); marks = []; marksAt = 0; repeat = p .out .repeat; issues = p .out .issues }) (m ∷ ms)
-          refl refl (λ c f. (omega arith, f .repeat, rw length-append (omega (arith, ap length e)))))
-          (reports (C × Bounded input p) input (p .out .marksAt) DanglingNonSpacing _ (λ c. omega (arith, c .1 .marks, ap length e)) (λ c. tt))
+          let q = puts (report (p .out .marksAt) DanglingNonSpacing (p .out)) p in
+          follows (C × Bounded input p) input 0 0 0 p q _ (omega arith)
+          (reports (C × Bounded input p) input (p .out .marksAt) DanglingNonSpacing p (λ c. omega (arith, c .1 .marks, ap length e)) (λ c. tt))
+          (silent (C × Bounded input p) input 0 q (releaseOf (m ∷ ms) (p .out)) (m ∷ ms) refl refl
+          (λ c f. (omega arith, f .repeat, rw length-append (omega (arith, ap length e)))))
 
   -- a newline follows them
   pub newlines : (p : Part) → Change C input 1 p (puts (newline (p .out)) p)

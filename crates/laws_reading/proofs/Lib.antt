@@ -1,7 +1,9 @@
 pub mod Changes
+pub mod Charges
 pub mod Controls
 pub mod Escapes
 pub mod Macros
 pub mod Characters
 pub mod Steps
+pub mod Bodies
 pub mod Reading

@@ -26,30 +26,30 @@ module _ (g : Given) (initial : ℕ) where
   unfolding start nothing
   started = record { charge = omega arith; issues = tt; marks = omega arith; repeat = omega arith }
 
-  ran : Kept (g .input) (length (g .input) - 0) (part (start initial)) (part (run g 4 (g .input) 0 0 (start initial)))
+  run-kept : Kept (g .input) (length (g .input) - 0) (part (start initial)) (part (run g 4 (g .input) 0 0 (start initial)))
   unfolding run
-  ran =
+  run-kept =
       steps-to (Unit {0}) g 4 (run g 3) (runs-to g 3 (Unit {0})) 0 0 (g .input) 0 0 (start initial) (λ c. omega arith) (λ c. record { after = []; bytes = sym (append-nil (g .input)) })
       .change .keeps tt started
 
-  decoded : Kept (g .input) (length (g .input)) (part (start initial)) (part (decode g initial))
+  decode-kept : Kept (g .input) (length (g .input)) (part (start initial)) (part (decode g initial))
   unfolding decode writes
-  decoded = let x = releases (Unit {0}) (g .input) (part (run g 4 (g .input) 0 0 (start initial))) .keeps tt (ran .fine) in record { fine = x .fine; paid = omega (arith, ran .paid) }
+  decode-kept = let x = releases (Unit {0}) (g .input) (part (run g 4 (g .input) 0 0 (start initial))) .keeps tt (run-kept .fine) in record { fine = x .fine; paid = omega (arith, run-kept .paid) }
 
 pub charge-bound : ChargeBound
-charge-bound g initial = decoded g initial .fine .charge
+charge-bound g initial = decode-kept g initial .fine .charge
 
 pub offsets-inside : OffsetsInside
-offsets-inside g initial = all-map (Fit (g .input)) (λ i. i .offset < length (g .input)) (decode g initial .out .issues) (λ i f. f .offset) (decoded g initial .fine .issues)
+offsets-inside g initial = all-map (Fit (g .input)) (λ i. i .offset < length (g .input)) (decode g initial .out .issues) (λ i f. f .offset) (decode-kept g initial .fine .issues)
 
 pub characters-bound : CharactersBound
 unfolding start
-characters-bound g initial = omega (arith, decoded g initial .paid)
+characters-bound g initial = omega (arith, decode-kept g initial .paid)
 
 pub escapes-inside : EscapesInside
 escapes-inside g initial =
     all-map (Fit (g .input)) (λ i. (start len : ℕ) → i .kind ≡ UnknownEscape start len → Escape (g .input) start len) (decode g initial .out .issues)
-    (λ i f start len e. subst (Shown (g .input)) e (f .shown)) (decoded g initial .fine .issues)
+    (λ i f start len e. subst (Shown (g .input)) e (f .shown)) (decode-kept g initial .fine .issues)
 
 grown : (g : Given) (u : ℕ) (s t : State) → To ⊥ g u s t → Grown s t
 grown g u s t a = record { text = a .change .text; written = a .change .written; issues = a .change .issues; reported = a .change .reported }

@@ -1,1 +1,3 @@
+pub mod Bodies
+pub mod Examples
 pub mod Reading

@@ -1,8 +1,9 @@
--- The laws of reading, as statements: 01, "Reading". proofs/Reading.antt proves each under its name.
-use Prim.Native.Nat.{ℕ, _+_, _*_, _≤_, _<_}
+-- The laws of reading, as statements: 01, "Reading". proofs/Reading.antt and, for bodies, proofs/Bodies.antt prove each under its name.
+use Prim.Native.Nat.{ℕ, suc, _+_, _*_, _≤_, _<_}
 use mathlib.Core.Path.{_≡_}
 use mathlib.Core.Bool.{Bool, true, false, cond, _&&_}
 use mathlib.Core.List.{List, [], _∷_, _++_}
+use mathlib.Core.Option.{Option, none, some}
 use lib.Dec.{leb}
 use lib.ListN.{length, drop}
 use Rattle.base.specs.Lists.{All}
@@ -14,10 +15,30 @@ use Rattle.reading.specs.Macros.{Run}
 use Rattle.reading.specs.Steps.{step, steps, run, decode}
 use Rattle.reading.specs.Call.{Lent, reading, textBytes, issueList, fits, escapePart}
 use Rattle.reading.specs.Examples.{Rows}
+use Rattle.laws_reading.specs.Bodies.{Begun, begun, bodies, total}
 
 -- "its length is within what remains of 64 × length + 4,096"
 abbrev pub ChargeBound : Type 0
 ChargeBound = (g : Given) (initial : ℕ) → decode g initial .charged ≤ 64 * length (g .input) + 4096
+
+-- "Running it charges its length": the charge is "the definition's sum of run body lengths"
+abbrev pub ChargeIsSum : Type 0
+ChargeIsSum = (g : Given) (initial : ℕ) → decode g initial .charged ≡ total (bodies g initial)
+
+-- A body is run: it begins with its length charged, and the state in which its run ends is t.
+pub record BodyRun (R : Run) (at : ℕ) (s : State) (b : Begun) (t : State) : Type 0 where
+  pub charges : b .from .charged ≡ s .charged + length (b .body .bytes)
+  pub ends : t ≡ R (b .body .bytes) (b .body .place) (suc at) (b .from)
+
+-- from s to t that body is run, or nothing is charged
+abbrev pub RunOrFree : Run → ℕ → State → Option Begun → State → Type 0
+RunOrFree R at s none t = t .charged ≡ s .charged
+RunOrFree R at s (some b) t = BodyRun R at s b t
+
+-- What `bodies` lists is run and not only charged: a step runs the body that it is said to run, and ends as that run does.
+abbrev pub BodiesRun : Type 0
+BodiesRun = (g : Given) (left : ℕ) (R : Run) (x : ℕ) (rest : List ℕ) (place at : ℕ) (s : State) →
+    RunOrFree R at s (begun g left x rest place s) (step g left R x rest place at s .to)
 
 -- "every offset is below the input's length"
 abbrev pub OffsetsInside : Type 0

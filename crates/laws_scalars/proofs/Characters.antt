@@ -1,5 +1,4 @@
 -- Every character that a step can write is a scalar, or 0 for none. Assumes nothing.
-use mathlib.Core.Path.{_≡_, refl}
 use mathlib.Core.Logic.{_⊎_, inl, inr}
 use mathlib.Core.Bool.{Bool, true, false, cond, _&&_, _||_}
 use mathlib.Core.List.{List, [], _∷_, _++_}
@@ -16,7 +15,7 @@ use Rattle.tables.specs.Kanji.{kanjiAt}
 use Rattle.tables_onebyte.specs.declared.OneByteTable.{OneByteTable}
 use Rattle.tables_onebyte.specs.declared.OneByteTable.the-variants.{Alphanumeric, Fullwidth, Hiragana, Katakana, JisX0201Katakana}
 use Rattle.tables.proofs.ScalarLaws.{Scalar, symbol-scalar, kanji-scalar}
-use Rattle.questions.proofs.CellTable.{Cells, held}
+use Rattle.questions.proofs.CellTable.{held}
 use Rattle.reading.specs.State.{Given}
 use Rattle.reading.specs.Characters.{letter}
 use Rattle.laws_scalars.specs.Scalars.{Table}

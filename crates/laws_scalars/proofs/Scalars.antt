@@ -1,12 +1,11 @@
 -- The laws by name: specs/Scalars.antt states them. Assumes nothing.
-use mathlib.Core.Path.{_≡_}
 use Prim.Native.Nat.{ℕ}
 use Rattle.utf8.specs.Utf8.{areScalars}
 use Rattle.utf8.proofs.Texts.{well-formed}
 use Rattle.decode_output.specs.Output.{nothing}
-use Rattle.reading.specs.State.{Given, State, start}
+use Rattle.reading.specs.State.{start}
 use Rattle.reading.specs.Steps.{run, decode}
-use Rattle.laws_scalars.specs.Scalars.{Table, TextScalars, TextWellFormed}
+use Rattle.laws_scalars.specs.Scalars.{TextScalars, TextWellFormed}
 use Rattle.laws_scalars.proofs.Written.{OfScalars, releases}
 use Rattle.laws_scalars.proofs.Steps.{runs-to}
 

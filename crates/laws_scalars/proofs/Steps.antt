@@ -1,5 +1,4 @@
 -- Every step keeps to scalars. Assumes nothing.
-use mathlib.Core.Path.{_≡_, refl}
 use mathlib.Core.Bool.{Bool, true, false, cond, _&&_, _||_}
 use mathlib.Core.List.{List, [], _∷_, _++_}
 use mathlib.Core.Option.{Option, none, some}
@@ -26,8 +25,8 @@ use Rattle.issues.specs.declared.IssueKind.the-variants.{
   LoneSingleShift,
   RepeatToEndOfLine,
 }
-use Rattle.decode_output.specs.Output.{emit, newline}
-use Rattle.reading.specs.State.{Given, State, Step, took, issue, truncated, writes, isNarrow, designate, invokeGL, invokeGR, resize, define, charge}
+use Rattle.decode_output.specs.Output.{emit}
+use Rattle.reading.specs.State.{Given, State, Step, issue, truncated, writes, isNarrow, designate, invokeGL, invokeGR, resize, define, charge}
 use Rattle.reading.specs.Controls.{
   leading,
   lockingShift,

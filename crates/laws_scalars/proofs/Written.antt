@@ -1,12 +1,11 @@
 -- The ways to write. Assumes nothing.
-use mathlib.Core.Path.{_≡_, refl}
-use mathlib.Core.List.{List, [], _∷_, _++_}
+use mathlib.Core.List.{List, [], _∷_}
 use Prim.Native.Nat.{ℕ}
 use lib.Dec.{T}
 use lib.ListN.{replicate}
 use Rattle.utf8.specs.Utf8.{isScalar, areScalars}
 use Rattle.issues.specs.declared.IssueKind.{IssueKind}
-use Rattle.decode_output.specs.Output.{Output, times, emit, mark, report, release, releaseOf, newline, setRepeat}
+use Rattle.decode_output.specs.Output.{times, emit, mark, report, release, releaseOf, newline, setRepeat}
 use Rattle.reading.specs.State.{State, writes, issue, placeholder}
 use Rattle.laws_scalars.proofs.Characters.{scalars-append, scalars-replicate, both}
 

@@ -1,14 +1,14 @@
 -- The decoding call: the questions in order, and what it leaves in every byte of its buffers. 01, "The questions, put in this order".
-use Prim.Native.Nat.{ℕ, zero, suc, _*_}
-use mathlib.Core.Bool.{Bool, true, false, cond}
-use mathlib.Core.List.{List, [], _∷_}
+use Prim.Native.Nat.{ℕ, zero, suc}
+use mathlib.Core.Bool.{cond}
+use mathlib.Core.List.{List, []}
 use lib.Dec.{eqb, leb}
 use lib.ListN.{length}
 use Rattle.utf8.specs.Utf8.{utf8s}
 use Rattle.questions.specs.Questions.{firstRefusal, decodeLimit}
 use Rattle.questions.specs.Buffer.{padded}
 use Rattle.issues.specs.Issue.{issuesNumbers}
-use Rattle.reading.specs.State.{Given, State}
+use Rattle.reading.specs.State.{State}
 use Rattle.reading.specs.Steps.{decode}
 
 -- what the caller lends: the cell table, the two options, the input, and how many bytes and numbers the two buffers hold

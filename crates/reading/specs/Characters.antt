@@ -1,8 +1,8 @@
 -- Graphic characters: decode.rs, `graphic`, `char1` and `char2`.
 use Prim.Native.Nat.{ℕ, zero, suc, _+_, _-_, _*_, _/_, _%_}
-use mathlib.Core.Bool.{Bool, true, false, cond, _&&_, _||_}
+use mathlib.Core.Bool.{Bool, cond, _&&_, _||_}
 use mathlib.Core.List.{List, [], _∷_}
-use lib.Dec.{eqb, ltb, leb}
+use lib.Dec.{eqb, leb}
 use lib.ListN.{getD}
 use Rattle.sets.specs.Sets.{bytesPerChar}
 use Rattle.addsym.specs.Symbols.{symbol}

@@ -1,16 +1,16 @@
 -- Controls and escapes that concern no macro: decode.rs, `run`, `escape`, `time`, `sequence_end` and `csi`.
-use Prim.Native.Nat.{ℕ, zero, suc, _+_, _-_, _*_, _%_}
-use mathlib.Core.Bool.{Bool, true, false, cond, not, _&&_, _||_}
+use Prim.Native.Nat.{ℕ, zero, suc, _+_, _%_}
+use mathlib.Core.Bool.{Bool, true, false, cond, _&&_, _||_}
 use mathlib.Core.List.{List, [], _∷_, _++_}
 use mathlib.Core.Option.{Option, none, some}
-use lib.Dec.{eqb, ltb, leb}
+use lib.Dec.{eqb, leb}
 use lib.ListN.{length, take, drop}
 use Rattle.sets.specs.Sets.{Designation, readDesignation}
 use Rattle.control.specs.Codes.{CSI, TIME}
 use Rattle.control.specs.Controls.{countOf}
 use Rattle.issues.specs.declared.IssueKind.the-variants.{UnknownEscape, UndefinedControl, MalformedControl, RepeatToEndOfLine}
 use Rattle.decode_output.specs.Output.{setRepeat}
-use Rattle.reading.specs.State.{Given, State, Step, took, issue, truncated, writes, designate, invokeGL, invokeGR, resize}
+use Rattle.reading.specs.State.{State, Step, took, issue, truncated, writes, designate, invokeGL, invokeGR, resize}
 
 -- how many bytes at the head lie from low to high
 unfoldable pub leading : ℕ → ℕ → List ℕ → ℕ

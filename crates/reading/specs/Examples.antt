@@ -1,40 +1,54 @@
--- Worked examples: the eight decoding rows of 01's table of twelve, and corners of decode.rs.
+-- Worked examples: the eight decoding rows of 01's table of twelve, and corners that "Reading" names.
 use Prim.Native.Nat.{ℕ}
 use mathlib.Core.Path.{_≡_, refl}
-use mathlib.Core.Bool.{Bool, true, false}
 use mathlib.Core.List.{List, [], _∷_}
 use lib.ListN.{replicate}
-use Rattle.issues.specs.Issue.{Issue, issuesNumbers}
-use Rattle.reading.specs.State.{Given, State}
-use Rattle.reading.specs.Steps.{decode}
+use Rattle.questions.specs.Questions.{cellsHold, all}
+use Rattle.reading.specs.Call.{Outcome, outcome}
 
--- what is seen of a reading: the text, the issues' numbers, the charge
-pub record Seen : Type 0 where
-  pub text : List ℕ
-  pub issues : List ℕ
-  pub charged : ℕ
+-- the call with Si (0) or Caption (1), CharacterSize, a zero cell table, a buffer of 10 bytes for the text and one of 8 numbers for the issues
+abbrev pub read : ℕ → List ℕ → Outcome
+read initial input = outcome (record { cells = replicate 8836 0; initial = initial; width = 0; input = input; textRoom = 10; issueRoom = 8 })
 
-abbrev pub seen : State → Seen
-seen s = record { text = s .out .text; issues = issuesNumbers (s .out .issues); charged = s .charged }
+-- it is accepted: the lengths of the text and of the issues, the charge, and the buffers, which are zero past
+abbrev pub gives : ℕ → ℕ → ℕ → List ℕ → List ℕ → Outcome
+gives text issues charged textBuffer issueBuffer =
+    record { refused = 0; text = text; issues = issues; charged = charged; textBuffer = textBuffer; issueBuffer = issueBuffer }
 
-abbrev pub seenAs : List ℕ → List ℕ → ℕ → Seen
-seenAs text issues charged = record { text = text; issues = issues; charged = charged }
-
--- CharacterSize and a zero cell table
-abbrev pub read : ℕ → List ℕ → Seen
-read initial input = seen (decode (record { cells = replicate 8836 0; annexE = false; input = input }) initial)
-
--- The eight rows: Si (0) or Caption (1)
+-- The eight rows
 pub record Rows : Type 0 where
-  pub fullwidth-a : read 0 (0x0E ∷ 0x41 ∷ []) ≡ seenAs (0xFF21 ∷ []) [] 0
-  pub narrow-a : read 0 (0x89 ∷ 0x0E ∷ 0x41 ∷ []) ≡ seenAs (0x41 ∷ []) [] 0
-  pub halves : read 0 (0x24 ∷ 0xA2 ∷ []) ≡ seenAs (0x3042 ∷ []) (0 ∷ 4 ∷ 0 ∷ 0 ∷ []) 0
-  pub repeated : read 0 (0x98 ∷ 0x43 ∷ 0xA2 ∷ []) ≡ seenAs (0x3042 ∷ 0x3042 ∷ 0x3042 ∷ []) [] 0
-  pub to-end : read 0 (0x98 ∷ 0x40 ∷ 0xA2 ∷ []) ≡ seenAs (0x3042 ∷ []) (0 ∷ 13 ∷ 0 ∷ 0 ∷ []) 0
-  pub marked : read 0 (0x21 ∷ 0x2D ∷ 0xA2 ∷ []) ≡ seenAs (0x3042 ∷ 0x301 ∷ []) [] 0
-  pub built-in : read 1 (0x1D ∷ 0x61 ∷ 0x0E ∷ 0x22 ∷ []) ≡ seenAs (0x30A2 ∷ []) [] 16
-  pub limited : read 1 (0x95 ∷ 0x41 ∷ 0x21 ∷ 0x1D ∷ 0x21 ∷ 0x95 ∷ 0x4F ∷ []) ≡ seenAs [] (0 ∷ 10 ∷ 0 ∷ 0 ∷ []) 8
+  -- U+FF21 is EF BC A1
+  pub fullwidth-a : read 0 (0x0E ∷ 0x41 ∷ []) ≡ gives 3 0 0 (0xEF ∷ 0xBC ∷ 0xA1 ∷ replicate 7 0) (replicate 8 0)
+  pub narrow-a : read 0 (0x89 ∷ 0x0E ∷ 0x41 ∷ []) ≡ gives 1 0 0 (0x41 ∷ replicate 9 0) (replicate 8 0)
+  -- あ is E3 81 82; Truncated is 4
+  pub halves : read 0 (0x24 ∷ 0xA2 ∷ []) ≡ gives 3 1 0 (0xE3 ∷ 0x81 ∷ 0x82 ∷ replicate 7 0) (0 ∷ 4 ∷ replicate 6 0)
+  pub repeated : read 0 (0x98 ∷ 0x43 ∷ 0xA2 ∷ []) ≡
+      gives 9 0 0 (0xE3 ∷ 0x81 ∷ 0x82 ∷ 0xE3 ∷ 0x81 ∷ 0x82 ∷ 0xE3 ∷ 0x81 ∷ 0x82 ∷ 0 ∷ []) (replicate 8 0)
+  -- RepeatToEndOfLine is 13
+  pub to-end : read 0 (0x98 ∷ 0x40 ∷ 0xA2 ∷ []) ≡ gives 3 1 0 (0xE3 ∷ 0x81 ∷ 0x82 ∷ replicate 7 0) (0 ∷ 13 ∷ replicate 6 0)
+  -- U+0301 is CC 81
+  pub marked : read 0 (0x21 ∷ 0x2D ∷ 0xA2 ∷ []) ≡ gives 5 0 0 (0xE3 ∷ 0x81 ∷ 0x82 ∷ 0xCC ∷ 0x81 ∷ replicate 5 0) (replicate 8 0)
+  -- ア is E3 82 A2
+  pub built-in : read 1 (0x1D ∷ 0x61 ∷ 0x0E ∷ 0x22 ∷ []) ≡ gives 3 0 16 (0xE3 ∷ 0x82 ∷ 0xA2 ∷ replicate 7 0) (replicate 8 0)
+  -- MacroLimit is 10
+  pub limited : read 1 (0x95 ∷ 0x41 ∷ 0x21 ∷ 0x1D ∷ 0x21 ∷ 0x95 ∷ 0x4F ∷ []) ≡ gives 0 1 8 (replicate 10 0) (0 ∷ 10 ∷ replicate 6 0)
 
 pub rows : Rows
-unfolding decode issuesNumbers
+unfolding outcome cellsHold all
 rows = record { fullwidth-a = refl; narrow-a = refl; halves = refl; repeated = refl; to-end = refl; marked = refl; built-in = refl; limited = refl }
+
+-- Corners
+record Corners : Type 0 where
+  -- "Newline (0D) changes neither size nor a waiting repeat": MSZ, RPC 2, newline, LS1, A
+  newline-keeps : read 0 (0x89 ∷ 0x98 ∷ 0x42 ∷ 0x0D ∷ 0x0E ∷ 0x41 ∷ []) ≡ gives 3 0 0 (0x0A ∷ 0x41 ∷ 0x41 ∷ replicate 7 0) (replicate 8 0)
+  -- "A mosaic clears it": mosaic set A (4) to G0, RPC 3, its character 21 (Mosaic is 8), あ once
+  mosaic-clears : read 0 (0x1B ∷ 0x28 ∷ 0x32 ∷ 0x98 ∷ 0x43 ∷ 0x21 ∷ 0xA2 ∷ []) ≡
+      gives 3 1 0 (0xE3 ∷ 0x81 ∷ 0x82 ∷ replicate 7 0) (5 ∷ 8 ∷ 4 ∷ 0x21 ∷ replicate 4 0)
+  -- "A single shift reads one character from G2 or G3 in either half": SS2 22, SS2 A2
+  either-half : read 0 (0x19 ∷ 0x22 ∷ 0x19 ∷ 0xA2 ∷ []) ≡ gives 6 0 0 (0xE3 ∷ 0x81 ∷ 0x82 ∷ 0xE3 ∷ 0x81 ∷ 0x82 ∷ replicate 4 0) (replicate 8 0)
+  -- "Issues are in order of report, not of offset": a mark waits at 0, RPC 0 is reported at 2, and at the end the mark (DanglingNonSpacing is 12)
+  in-order : read 0 (0x21 ∷ 0x2D ∷ 0x98 ∷ 0x40 ∷ []) ≡ gives 2 2 0 (0xCC ∷ 0x81 ∷ replicate 8 0) (2 ∷ 13 ∷ 0 ∷ 0 ∷ 0 ∷ 12 ∷ 0 ∷ 0 ∷ [])
+
+corners : Corners
+unfolding outcome cellsHold all
+corners = record { newline-keeps = refl; mosaic-clears = refl; either-half = refl; in-order = refl }

@@ -1,12 +1,12 @@
 -- The state of a reading between steps, and how steps change it: decode.rs, `Decoder`.
-use Prim.Native.Nat.{ℕ, zero, suc, _+_, _*_}
-use mathlib.Core.Bool.{Bool, true, false, cond, _||_}
-use mathlib.Core.List.{List, [], _∷_}
-use lib.ListN.{length, set, replicate}
+use Prim.Native.Nat.{ℕ, _+_}
+use mathlib.Core.Bool.{Bool, false, _||_}
+use mathlib.Core.List.{List}
+use lib.ListN.{set, replicate}
 use Rattle.sets.specs.Sets.{initialSets}
 use Rattle.issues.specs.declared.IssueKind.{IssueKind}
 use Rattle.issues.specs.declared.IssueKind.the-variants.{Truncated}
-use Rattle.decode_output.specs.Output.{Output, nothing, emit, mark, report}
+use Rattle.decode_output.specs.Output.{Output, nothing, emit, report}
 
 -- what a reading is given: the lent cell table, whether the width option is AnnexE, and the input
 pub record Given : Type 0 where

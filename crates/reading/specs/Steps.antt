@@ -1,8 +1,8 @@
 -- One step, the run to the end, and decoding: decode.rs, `run` and `decode_with`.
 use Prim.Native.Nat.{ℕ, zero, suc, _+_, _-_}
-use mathlib.Core.Bool.{Bool, true, false, cond, _&&_, _||_}
+use mathlib.Core.Bool.{true, false, cond, _||_}
 use mathlib.Core.List.{List, [], _∷_}
-use lib.Dec.{eqb, ltb, leb}
+use lib.Dec.{eqb, ltb}
 use Rattle.control.specs.Codes.{SP, APR, LS0, LS1, SS2, SS3, ESC, SSZ, MSZ, NSZ, SZX, COL, CDC, MACRO, RPC, CSI, TIME}
 use Rattle.decode_output.specs.Output.{emit, newline, release}
 use Rattle.reading.specs.State.{Given, State, Step, took, start, writes, resize, invokeGL, isNarrow}
@@ -55,7 +55,9 @@ unfoldable pub offset : ℕ → ℕ → ℕ
 offset zero i = i
 offset (suc at) i = at
 
--- the bytes of a body from its i-th on, of which k are passed over
+-- The steps of a body, or of the input as the outermost one. In the order of the arguments: what the reading is given; how many more bodies may be
+-- opened; how one is run (`R`); the body's place in the input; the origin of `offset`; the bytes from the i-th on; i; how many of them the last step
+-- took, which are passed over (`k`); the state.
 unfoldable pub steps : Given → ℕ → Run → ℕ → ℕ → List ℕ → ℕ → ℕ → State → State
 unfolding step offset
 steps g left R base origin [] i k s = s
