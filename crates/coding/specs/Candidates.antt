@@ -1,7 +1,8 @@
 -- The candidate codes of a character: encode.rs, `candidates`.
-use Prim.Native.Nat.{ℕ, zero, suc, _+_, min}
-use mathlib.Core.Bool.{Bool, true, false, cond, _&&_}
+use Prim.Native.Nat.{ℕ, _+_, min}
+use mathlib.Core.Bool.{Bool, true, false, cond}
 use mathlib.Core.List.{List, [], _∷_, _++_}
+use mathlib.Core.Option.{Option, none, some}
 use lib.Dec.{eqb}
 use lib.ListN.{length}
 use Rattle.base.specs.Lists.{when}
@@ -9,36 +10,30 @@ use Rattle.control.specs.Codes.{APR, SP}
 use Rattle.tables.specs.Kanji.{nonSpacing, hasCharacter, cellWith}
 use Rattle.tables_onebyte.specs.Reverse.{oneByteReverse}
 use Rattle.tables_reverse.specs.Reverse.{kanjiReverse, additionalReverse}
-use Rattle.tables_onebyte.specs.declared.OneByteTable.{OneByteTable}
 use Rattle.tables_onebyte.specs.declared.OneByteTable.the-variants.{Alphanumeric, Fullwidth, Hiragana, Katakana, JisX0201Katakana}
-use Rattle.tables_onebyte.specs.declared.Code.{Code}
-use Rattle.tables_onebyte.specs.declared.Code.the-variants.{Gl, Nothing}
-use Rattle.tables.specs.declared.Place.{Place}
-use Rattle.tables.specs.declared.Place.the-variants.{At, Nowhere}
 
--- the size under which a candidate goes: either, narrow or wide
-abbrev pub either : ℕ
-either = 0
-
-abbrev pub narrow : ℕ
-narrow = 1
-
-abbrev pub wide : ℕ
-wide = 2
+-- "the candidate's size"
+pub data Size : Type 0 where
+  -- "a candidate to which 000 gives no width goes under either"
+  either : Size
+  -- "MSZ narrow"
+  narrow : Size
+  -- "NSZ or the start wide"
+  wide : Size
 
 -- `Cand`: a code of a graphic set in GL form, or SP or APR, which need no set
 pub data Cand : Type 0 where
-  graphic : (x : ℕ) (code : List ℕ) (size : ℕ) → Cand
-  plain : (byte : ℕ) (size : ℕ) → Cand
+  graphic : (x : ℕ) (code : List ℕ) (size : Size) → Cand
+  plain : (byte : ℕ) (size : Size) → Cand
 
 -- a code of a one-byte set, a cell of a two-byte set, as a candidate
-unfoldable pub ofCode : ℕ → ℕ → Code → List Cand
-ofCode x size Nothing = []
-ofCode x size (Gl b) = graphic x (b ∷ []) size ∷ []
+unfoldable pub ofCode : ℕ → Size → Option ℕ → List Cand
+ofCode x size none = []
+ofCode x size (some b) = graphic x (b ∷ []) size ∷ []
 
-unfoldable pub ofPlace : ℕ → ℕ → Place → List Cand
-ofPlace x size Nowhere = []
-ofPlace x size (At row cell) = graphic x ((0x20 + row) ∷ (0x20 + cell) ∷ []) size ∷ []
+unfoldable pub ofPlace : ℕ → Size → Option (ℕ × ℕ) → List Cand
+ofPlace x size none = []
+ofPlace x size (some (row, cell)) = graphic x ((0x20 + row) ∷ (0x20 + cell) ∷ []) size ∷ []
 
 -- the alphanumeric whose full-width form is the character, in CharacterSize alone
 unfoldable pub fullwidth : Bool → ℕ → List Cand

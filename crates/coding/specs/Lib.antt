@@ -5,4 +5,5 @@ pub mod Ways
 pub mod Search
 pub mod Admissible
 pub mod Call
+pub mod Arrangements
 pub mod Examples

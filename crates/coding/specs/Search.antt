@@ -1,12 +1,12 @@
 -- The search: 01, "The search, in short", and encode.rs, `encode_with`.
 use Prim.Native.Nat.{ℕ, zero, suc, _+_, _-_, min, max}
-use mathlib.Core.Bool.{Bool, true, false, cond, _&&_}
+use mathlib.Core.Bool.{Bool, true, false, cond}
 use mathlib.Core.List.{List, [], _∷_, _++_, map}
 use lib.Dec.{eqb, leb}
 use lib.ListN.{length}
 use Rattle.control.specs.Codes.{MSZ, NSZ}
 use Rattle.coding.specs.State.{State, start, sameState, resize}
-use Rattle.coding.specs.Candidates.{Cand, graphic, plain, restOf}
+use Rattle.coding.specs.Candidates.{Size, either, narrow, wide, Cand, graphic, plain, restOf}
 use Rattle.coding.specs.Ways.{Way, ways}
 
 -- a state reached: its cost, "the bytes written so far"; the place in the layer before of the state from which it was reached; and what was
@@ -28,14 +28,16 @@ push [] n = n ∷ []
 push (m ∷ ms) n = elim (sameState (m .state) (n .state)) [ true ↦ cond (leb (m .cost) (n .cost)) m n ∷ ms | false ↦ m ∷ push ms n ]
 
 -- the size control before a candidate of a size: MSZ where it is narrow and the state wide, NSZ where it is wide and the state narrow
-unfoldable pub sizeBytes : State → ℕ → List ℕ
-sizeBytes s size = cond (eqb size 1 && eqb (s .narrow) 0) (MSZ ∷ []) [] ++ cond (eqb size 2 && eqb (s .narrow) 1) (NSZ ∷ []) []
+unfoldable pub sizeBytes : State → Size → List ℕ
+sizeBytes s either = []
+sizeBytes s narrow = cond (eqb (s .narrow) 0) (MSZ ∷ []) []
+sizeBytes s wide = cond (eqb (s .narrow) 1) (NSZ ∷ []) []
 
 -- the state after it
-unfoldable pub sized : State → ℕ → State
-sized s zero = s
-sized s (suc zero) = resize s 1
-sized s (suc (suc n)) = resize s 0
+unfoldable pub sized : State → Size → State
+sized s either = s
+sized s narrow = resize s 1
+sized s wide = resize s 0
 
 -- the nodes that the i-th, of cost `base`, reaches by ways, after the bytes pre
 unfoldable pub byWays : ℕ → ℕ → List ℕ → List ℕ → List Way → List Node

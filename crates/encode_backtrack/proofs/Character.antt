@@ -6,10 +6,10 @@ use native.Mathlib.Nat.{add-zero, zero-add}
 use native.Mathlib.Omega.{arith}
 use lib.ListN.{getD}
 use borrow.Author.Tests.{eq-eqb, ne-eqb}
-use Rattle.coding.specs.Candidates.{Cand, graphic, plain}
+use Rattle.coding.specs.Candidates.{Size, Cand, graphic, plain}
 use Rattle.encode_candidates.specs.Packed.{codeOf, candOf, candAt, candsFrom, candsOf}
 use Rattle.encode_candidates.specs.declared.Cands.{Cands}
-use Rattle.encode_states.specs.Packed.{setOf}
+use Rattle.encode_states.specs.Packed.{setOf, sizeOf}
 use Rattle.encode_states.specs.Written.{writtenBy, writtenAt, written}
 
 -- the j-th of n candidates from the i-th on, and past the last
@@ -37,21 +37,21 @@ module _ (k : Cands) (how : ℕ) where
   abbrev code : ℕ
   code = getD (k .codes) (how % 16) 0
 
-  abbrev size : ℕ
-  size = getD (k .sizes) (how % 16) 0
+  abbrev size : Size
+  size = sizeOf (getD (k .sizes) (how % 16) 0)
 
   pub written-none : k .count ≤ how % 16 → [] ≡ written (candsOf k) how
   unfolding written candsOf
   written-none h = sym (from-past k (k .count) 0 (how % 16) _ _ _ _ h)
 
-  chosen : how % 16 < k .count → by (candOf set code size) ≡ written (candsOf k) how
+  chosen : how % 16 < k .count → by (candAt k (how % 16)) ≡ written (candsOf k) how
   unfolding written candsOf candAt
   chosen h = sym (from-at k (k .count) 0 (how % 16) _ _ _ _ h ∙ ap (λ (p : ℕ). by (candAt k p)) (zero-add (how % 16)))
 
   pub written-plain : how % 16 < k .count → set ≡ 7 → by (plain code size) ≡ written (candsOf k) how
-  unfolding candOf
+  unfolding candAt candOf
   written-plain h e = ap by (sym (rw (eq-eqb set 7 e) refl)) ∙ chosen h
 
   pub written-graphic : how % 16 < k .count → (set ≡ 7 → ⊥) → by (graphic (setOf set) (codeOf code) size) ≡ written (candsOf k) how
-  unfolding candOf
+  unfolding candAt candOf
   written-graphic h e = ap by (sym (rw (ne-eqb set 7 e) refl)) ∙ chosen h

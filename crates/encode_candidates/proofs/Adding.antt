@@ -2,6 +2,7 @@
 use mathlib.Core.Path.{_≡_, refl, sym, ap, ap₂, _∙_, subst}
 use mathlib.Core.Bool.{Bool, true, false}
 use mathlib.Core.List.{List, [], _∷_, _++_, append-nil, append-assoc}
+use mathlib.Core.Option.{Option, none, some}
 use Prim.Native.Nat.{ℕ, _+_, _*_, _/_, _%_, _<_, _≤_}
 use native.Mathlib.Nat.{zero-add}
 use native.Mathlib.Numerals.{add-one}
@@ -11,11 +12,9 @@ use lib.ListN.{length, getD, set, replicate, length-set}
 use lib.Seq.{getD-set-same, getD-set-other}
 use borrow.Author.Tests.{ltb-true, ltb-false, lt-ltb, le-ltb, ne-eqb}
 use Rattle.tables_reverse.specs.Reverse.{kanjiReverse, additionalReverse}
-use Rattle.tables.specs.declared.Place.{Place}
-use Rattle.tables.specs.declared.Place.the-variants.{At, Nowhere}
 use Rattle.tables_reverse.proofs.Laws.{kanji-found, additional-found}
 use Rattle.coding.specs.Candidates.{Cand, graphic, ofPlace}
-use Rattle.encode_states.specs.Packed.{setOf}
+use Rattle.encode_states.specs.Packed.{setOf, sizeOf}
 use Rattle.encode_candidates.specs.declared.Cands.{Cands}
 use Rattle.encode_candidates.specs.Packed.{packed, codeOf, candOf, candAt, candsFrom, candsOf, Fits, FitsAt, UnderConstruction, Adds, AddsCell}
 use Rattle.encode_candidates.proofs.Lists.{snoc, alike}
@@ -91,7 +90,7 @@ likewise {k = k} a e = record { list = a .list ∙ ap (λ (y : List Cand). cands
 pub byte-fits : (x b z : ℕ) → x < 6 → b ≤ 0x7E → z ≤ 2 → Fits x b z
 byte-fits x b z p q r = record { set = omega arith; six = λ n. p; plain = λ e. absurd (omega arith); row = omega arith; last = omega arith; size = r }
 
-pub byte-cand : (x b z : ℕ) → x < 6 → b ≤ 0x7E → candOf x b z ≡ graphic (setOf x) (b ∷ []) z
+pub byte-cand : (x b z : ℕ) → x < 6 → b ≤ 0x7E → candOf x b z ≡ graphic (setOf x) (b ∷ []) (sizeOf z)
 unfolding candOf
 byte-cand x b z p q = let l : b < 256 = omega arith in rw (ne-eqb x 7 (λ e. omega arith), lt-ltb b 256 l)
 
@@ -130,7 +129,7 @@ code-at a b p q =
     let h : b < 256 = omega arith in
     rw (first-byte a b h, last-byte a b h, plus-32 a p, plus-32 b q)
 
-bytes-cand : (x a b z : ℕ) → x < 6 → 1 ≤ a → b < 256 → candOf x (bytes a b) z ≡ graphic (setOf x) (a ∷ b ∷ []) z
+bytes-cand : (x a b z : ℕ) → x < 6 → 1 ≤ a → b < 256 → candOf x (bytes a b) z ≡ graphic (setOf x) (a ∷ b ∷ []) (sizeOf z)
 unfolding candOf codeOf
 bytes-cand x a b z p q h =
     let l : 256 ≤ bytes a b = omega arith in
@@ -141,9 +140,9 @@ pub cell-adds : {k r : Cands} (x z cell : ℕ) → x < 6 → (cell ≡ 0 → ⊥
 unfolding ofPlace
 cell-adds {k = k} x z cell p n d =
     record {
-      none = λ e. absurd (n e);
-      some = λ a b h i j e.
-          let w : candOf x (codeAt cell) z ≡ graphic (setOf x) ((0x20 + a) ∷ (0x20 + b) ∷ []) z
+      nowhere = λ e. absurd (n e);
+      there = λ a b h i j e.
+          let w : candOf x (codeAt cell) z ≡ graphic (setOf x) ((0x20 + a) ∷ (0x20 + b) ∷ []) (sizeOf z)
           = ap (λ (m : ℕ). candOf x m z) (ap codeAt e ∙ code-at a b i j) ∙ bytes-cand x (0x20 + a) (0x20 + b) z p (omega arith) (omega arith) in
           d .list ∙ ap (λ (y : Cand). candsOf k ++ (y ∷ [])) w;
       count = d .count;
@@ -151,34 +150,34 @@ cell-adds {k = k} x z cell p n d =
     }
 
 pub no-cell-adds : (k : Cands) (x z cell : ℕ) → UnderConstruction k → cell ≡ 0 → AddsCell k x z cell k
-no-cell-adds k x z cell g e = record { none = λ e. refl; some = λ a b h i j q. absurd (omega arith); count = omega arith; good = g }
+no-cell-adds k x z cell g e = record { nowhere = λ e. refl; there = λ a b h i j q. absurd (omega arith); count = omega arith; good = g }
 
 -- rows and cells from 1 to 94
-unfoldable pub OnGrid : Place → Type 0
-OnGrid Nowhere = Unit {0}
-OnGrid (At a b) = (1 ≤ a) × (a ≤ 94) × (b ≤ 94)
+unfoldable pub OnGrid : Option (ℕ × ℕ) → Type 0
+OnGrid none = Unit {0}
+OnGrid (some (a, b)) = (1 ≤ a) × (a ≤ 94) × (b ≤ 94)
 
-pub cell-more : {k r : Cands} {set size cell : ℕ} → AddsCell k set size cell r → (p : Place) → OnGrid p → cell ≡ packed p → Adds k (ofPlace (setOf set) size p) 1 r
+pub cell-more : {k r : Cands} {set size cell : ℕ} → AddsCell k set size cell r → (p : Option (ℕ × ℕ)) → OnGrid p → cell ≡ packed p → Adds k (ofPlace (setOf set) (sizeOf size) p) 1 r
 unfolding OnGrid packed ofPlace
-cell-more {k = k} a Nowhere g e = record { list = a .none e ∙ sym (append-nil (candsOf k)); count = a .count; good = a .good }
-cell-more a (At x y) g e = record { list = a .some x y (g .0) (g .1) (g .2) e; count = a .count; good = a .good }
+cell-more {k = k} a none g e = record { list = a .nowhere e ∙ sym (append-nil (candsOf k)); count = a .count; good = a .good }
+cell-more a (some (x, y)) g e = record { list = a .there x y (g .0) (g .1) (g .2) e; count = a .count; good = a .good }
 
 -- the cells that the reverse look-ups find
 pub kanji-grid : (cells : List ℕ) (c : ℕ) → OnGrid (kanjiReverse cells c)
 unfolding OnGrid
 kanji-grid cells c = go (kanjiReverse cells c) refl
   where
-    go : (p : Place) → kanjiReverse cells c ≡ p → OnGrid p
-    go Nowhere e = tt
-    go (At a b) e = let f = kanji-found cells c a b e in (f .row-from, f .row-to, f .cell-to)
+    go : (p : Option (ℕ × ℕ)) → kanjiReverse cells c ≡ p → OnGrid p
+    go none e = tt
+    go (some (a, b)) e = let f = kanji-found cells c a b e in (f .row-from, f .row-to, f .cell-to)
 
 pub symbol-grid : (c : ℕ) → OnGrid (additionalReverse c)
 unfolding OnGrid
 symbol-grid c = go (additionalReverse c) refl
   where
-    go : (p : Place) → additionalReverse c ≡ p → OnGrid p
-    go Nowhere e = tt
-    go (At a b) e = let f = additional-found c a b e in (f .row-from, f .row-to, f .cell-to)
+    go : (p : Option (ℕ × ℕ)) → additionalReverse c ≡ p → OnGrid p
+    go none e = tt
+    go (some (a, b)) e = let f = additional-found c a b e in (f .row-from, f .row-to, f .cell-to)
 
 -- ---- the empty struct
 

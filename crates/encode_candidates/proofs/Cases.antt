@@ -2,15 +2,14 @@
 use mathlib.Core.Path.{_≡_, refl, sym, ap, _∙_}
 use mathlib.Core.Bool.{Bool, true, false, cond, _&&_}
 use mathlib.Core.List.{List, [], _∷_}
+use mathlib.Core.Option.{Option, none, some}
 use Prim.Native.Nat.{ℕ, _+_, _*_, _≤_}
 use native.Mathlib.Omega.{arith}
 use lib.Dec.{T, eqb, leb, leb→le}
 use borrow.Author.Tests.{eq-eqb, ne-eqb}
 use Rattle.tables.specs.Kanji.{nonSpacing, hasCharacter, cellWith}
 use Rattle.tables.specs.declared.Assignment.{Assignment}
-use Rattle.tables.specs.declared.Place.{Place}
-use Rattle.tables.specs.declared.Place.the-variants.{At, Nowhere}
-use Rattle.coding.specs.Candidates.{Cand, plain, ofPlace, letters, candidates}
+use Rattle.coding.specs.Candidates.{either, plain, ofPlace, letters, candidates}
 use Rattle.encode_candidates.specs.Packed.{packed}
 use Rattle.encode_candidates.proofs.Adding.{OnGrid}
 
@@ -29,9 +28,9 @@ onGrid [] = true
 onGrid (a ∷ more) = leb 1 (a .row) && (leb (a .row) 94 && (leb (a .cell) 94 && onGrid more))
 
 -- was a cell found?
-abbrev found : Place → Bool
-found Nowhere = false
-found (At a b) = true
+abbrev found : Option (ℕ × ℕ) → Bool
+found none = false
+found (some p) = true
 
 module _ (c : ℕ) where
   -- a mark is a character that a cell is found for
@@ -40,7 +39,7 @@ module _ (c : ℕ) where
   mark-found [] = refl
   mark-found (a ∷ more) = go (eqb (a .character) c) (mark-found more)
     where
-      go : (b : Bool) → hasCharacter more c ≡ found (cellWith more c) → cond b true (hasCharacter more c) ≡ found (cond b (At (a .row) (a .cell)) (cellWith more c))
+      go : (b : Bool) → hasCharacter more c ≡ found (cellWith more c) → cond b true (hasCharacter more c) ≡ found (cond b (some (a .row, a .cell)) (cellWith more c))
       go true e = refl
       go false e = e
 
@@ -56,7 +55,7 @@ module _ (c : ℕ) where
       (leb→le (a .cell) 94 (and-left (leb (a .cell) 94) (onGrid more) t2))
       (with-grid more (and-right (leb (a .cell) 94) (onGrid more) t2))
     where
-      go : (b : Bool) → 1 ≤ a .row → a .row ≤ 94 → a .cell ≤ 94 → OnGrid (cellWith more c) → OnGrid (cond b (At (a .row) (a .cell)) (cellWith more c))
+      go : (b : Bool) → 1 ≤ a .row → a .row ≤ 94 → a .cell ≤ 94 → OnGrid (cellWith more c) → OnGrid (cond b (some (a .row, a .cell)) (cellWith more c))
       go true x y z g = (x, y, z)
       go false x y z g = g
 
@@ -67,26 +66,26 @@ module _ (c : ℕ) where
   unfolding packed
   is-mark n = go (cellWith nonSpacing c) refl
     where
-      go : (p : Place) → cellWith nonSpacing c ≡ p → hasCharacter nonSpacing c ≡ true
-      go Nowhere e = absurd (n (ap packed e))
-      go (At a b) e = mark-found nonSpacing ∙ ap found e
+      go : (p : Option (ℕ × ℕ)) → cellWith nonSpacing c ≡ p → hasCharacter nonSpacing c ≡ true
+      go none e = absurd (n (ap packed e))
+      go (some (a, b)) e = mark-found nonSpacing ∙ ap found e
 
   pub no-mark : packed (cellWith nonSpacing c) ≡ 0 → hasCharacter nonSpacing c ≡ false
   unfolding packed OnGrid
   no-mark z = go (cellWith nonSpacing c) refl mark-grid
     where
-      go : (p : Place) → cellWith nonSpacing c ≡ p → OnGrid p → hasCharacter nonSpacing c ≡ false
-      go Nowhere e g = mark-found nonSpacing ∙ ap found e
-      go (At a b) e g = let q : a * 256 + b ≡ 0 = sym (ap packed e) ∙ z in absurd (omega (arith, q, g .0))
+      go : (p : Option (ℕ × ℕ)) → cellWith nonSpacing c ≡ p → OnGrid p → hasCharacter nonSpacing c ≡ false
+      go none e g = mark-found nonSpacing ∙ ap found e
+      go (some (a, b)) e g = let q : a * 256 + b ≡ 0 = sym (ap packed e) ∙ z in absurd (omega (arith, q, g .0))
 
 -- ---- the definition in each case
 
 module _ (cells : List ℕ) (annexE : Bool) (c : ℕ) where
-  pub at-newline : c ≡ 10 → plain 0x0D 0 ∷ [] ≡ candidates cells annexE c
+  pub at-newline : c ≡ 10 → plain 0x0D either ∷ [] ≡ candidates cells annexE c
   unfolding candidates
   at-newline e = rw (eq-eqb c 10 e, candidates)
 
-  pub at-mark : (c ≡ 10 → ⊥) → hasCharacter nonSpacing c ≡ true → ofPlace 0 0 (cellWith nonSpacing c) ≡ candidates cells annexE c
+  pub at-mark : (c ≡ 10 → ⊥) → hasCharacter nonSpacing c ≡ true → ofPlace 0 either (cellWith nonSpacing c) ≡ candidates cells annexE c
   unfolding candidates
   at-mark n e = rw (ne-eqb c 10 n, e, candidates)
 

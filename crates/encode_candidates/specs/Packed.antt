@@ -3,19 +3,18 @@ use Prim.Native.Nat.{ℕ, zero, suc, _+_, _*_, _/_, _%_, _≤_, _<_}
 use mathlib.Core.Path.{_≡_}
 use mathlib.Core.Bool.{Bool, cond}
 use mathlib.Core.List.{List, [], _∷_, _++_}
+use mathlib.Core.Option.{Option, none, some}
 use lib.Dec.{eqb, ltb}
 use lib.ListN.{length, getD}
 use Rattle.tables_reverse.specs.Reverse.{kanjiReverse, additionalReverse}
-use Rattle.tables.specs.declared.Place.{Place}
-use Rattle.tables.specs.declared.Place.the-variants.{At, Nowhere}
 use Rattle.coding.specs.Candidates.{Cand, graphic, plain, ofPlace, candidates}
-use Rattle.encode_states.specs.Packed.{setOf}
+use Rattle.encode_states.specs.Packed.{setOf, sizeOf}
 use Rattle.encode_candidates.specs.declared.Cands.{Cands}
 
 -- a cell of a two-byte set in one number, 0 for none
-unfoldable pub packed : Place → ℕ
-packed Nowhere = 0
-packed (At row cell) = row * 256 + cell
+unfoldable pub packed : Option (ℕ × ℕ) → ℕ
+packed none = 0
+packed (some (row, cell)) = row * 256 + cell
 
 -- the bytes of a code in one number: one byte, or the row's and the cell's
 unfoldable pub codeOf : ℕ → List ℕ
@@ -23,8 +22,8 @@ codeOf code = cond (ltb code 256) (code ∷ []) ((code / 256) ∷ (code % 256) �
 
 -- a candidate: 7 stands in the place of a set for SP and APR, which need none
 unfoldable pub candOf : ℕ → ℕ → ℕ → Cand
-unfolding setOf codeOf
-candOf set code size = cond (eqb set 7) (plain code size) (graphic (setOf set) (codeOf code) size)
+unfolding setOf codeOf sizeOf
+candOf set code size = cond (eqb set 7) (plain code (sizeOf size)) (graphic (setOf set) (codeOf code) (sizeOf size))
 
 -- the i-th one
 unfoldable pub candAt : Cands → ℕ → Cand
@@ -68,8 +67,8 @@ pub record Adds (k : Cands) (l : List Cand) (n : ℕ) (r : Cands) : Type 0 where
 
 -- one that adds the cell with a number, where there is one, as a candidate of a set and a size
 pub record AddsCell (k : Cands) (set size cell : ℕ) (r : Cands) : Type 0 where
-  pub none : cell ≡ 0 → candsOf r ≡ candsOf k
-  pub some : (a b : ℕ) → 1 ≤ a → a ≤ 94 → b ≤ 94 → cell ≡ a * 256 + b → candsOf r ≡ candsOf k ++ ofPlace (setOf set) size (At a b)
+  pub nowhere : cell ≡ 0 → candsOf r ≡ candsOf k
+  pub there : (a b : ℕ) → 1 ≤ a → a ≤ 94 → b ≤ 94 → cell ≡ a * 256 + b → candsOf r ≡ candsOf k ++ ofPlace (setOf set) (sizeOf size) (some (a, b))
   pub count : r .count ≤ k .count + 1
   pub good : UnderConstruction r
 

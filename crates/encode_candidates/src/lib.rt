@@ -6,9 +6,10 @@ ghost use mathlib.Core.List.{[], _∷_, _++_};
 ghost use Prim.Native.Nat.{_+_, _≤_, _<_};
 ghost use lib.Dec.{eqb};
 ghost use Rattle.tables_onebyte.specs.Reverse.{oneByteReverse};
-ghost use Rattle.coding.specs.Candidates.{plain, ofCode, fullwidth, letters, shortest};
+ghost use Rattle.tables.specs.Kanji.{placeValue};
+ghost use Rattle.coding.specs.Candidates.{narrow, wide, plain, ofCode, fullwidth, letters, shortest};
 ghost use Rattle.base.specs.Lists.{when};
-ghost use Rattle.encode_states.specs.Packed.{setOf};
+ghost use Rattle.encode_states.specs.Packed.{setOf, sizeOf};
 ghost use Rattle.encode_candidates.specs.Packed.{packed, candOf, candsOf, Fits, UnderConstruction, Adds, AddsCell, StandsFor, StandsForCandidates};
 use tables::Place;
 use tables_onebyte::Code;
@@ -26,7 +27,7 @@ pub struct Cands {
 
 /// A cell in one number, row × 256 + cell, 0 for none.
 pub fn pack(p: Place) -> u16
-    ensures { λ r. ⌜ r ≡ packed p ⌝ }
+    ensures { λ r. ⌜ r ≡ packed (placeValue p) ⌝ }
 {
     match p {
         Place::At(row, cell) => row as u16 * 256 + cell as u16,
@@ -62,7 +63,7 @@ fn with_code(k: Cands, table: OneByteTable, c: u32, set: u8, size: u8) -> Cands
     requires { ⌜ UnderConstruction k ⌝ }
     requires { ⌜ set < 6 ⌝ }
     requires { ⌜ size ≤ 2 ⌝ }
-    ensures { λ r. ⌜ Adds k (ofCode (setOf set) size (oneByteReverse table c)) 1 r ⌝ }
+    ensures { λ r. ⌜ Adds k (ofCode (setOf set) (sizeOf size) (oneByteReverse table c)) 1 r ⌝ }
 {
     match tables_onebyte::one_byte_reverse(table, c) {
         Code::Gl(code) => with(k, set, code as u16, size),
@@ -102,7 +103,7 @@ fn with_half(k: Cands, c: u32, annex: bool) -> Cands
 fn with_space(k: Cands, c: u32, annex: bool) -> Cands
     requires { ⌜ k .count < 9 ⌝ }
     requires { ⌜ UnderConstruction k ⌝ }
-    ensures { λ r. ⌜ Adds k (when (eqb c 0x20) (plain 0x20 1) ++ cond annex [] (when (eqb c 0x3000) (plain 0x20 2))) 1 r ⌝ }
+    ensures { λ r. ⌜ Adds k (when (eqb c 0x20) (plain 0x20 narrow) ++ cond annex [] (when (eqb c 0x3000) (plain 0x20 wide))) 1 r ⌝ }
 {
     if c == 0x20 {
         return with(k, 7, 0x20, 1);

@@ -8,7 +8,7 @@ use native.Mathlib.Omega.{arith}
 use lib.Dec.{eqb, ltb}
 use lib.ListN.{length, getD}
 use borrow.Author.Tests.{eq-eqb, ne-eqb}
-use Rattle.coding.specs.Candidates.{Cand, graphic, plain, candidates, shortest}
+use Rattle.coding.specs.Candidates.{either, Cand, graphic, plain, candidates, shortest}
 use Rattle.encode_candidates.specs.declared.Cands.{Cands}
 use Rattle.encode_candidates.specs.Packed.{codeOf, candOf, candAt, candsFrom, candsOf, Fits, FitsAt, StandsForCandidates}
 use Rattle.encode_states.specs.Packed.{setOf}
@@ -49,7 +49,7 @@ module _ (k : Cands) where
   matched f =
       record {
         many = length-from 0 (k .count);
-        each = λ j h. let e : 0 + j ≡ j = omega arith in rw (at-from 0 (k .count) j (plain 0 0) h, e) (matches (getD (k .sets) j 0) (getD (k .codes) j 0) (getD (k .sizes) j 0) (f j h));
+        each = λ j h. let e : 0 + j ≡ j = omega arith in rw (at-from 0 (k .count) j (plain 0 either) h, e) (matches (getD (k .sets) j 0) (getD (k .codes) j 0) (getD (k .sizes) j 0) (f j h));
       }
 
 -- the next layer, for the character

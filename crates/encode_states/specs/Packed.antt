@@ -2,6 +2,7 @@
 use Prim.Native.Nat.{ℕ, zero, suc, _+_, _/_, _%_, _<_}
 use mathlib.Core.Path.{_≡_}
 use Rattle.coding.specs.State.{State}
+use Rattle.coding.specs.Candidates.{Size, either, narrow, wide}
 
 -- 01's set of a code: the six sets of the coder's candidates, then Macro, which stands in G3 at the Caption start. No two codes are one set
 unfoldable pub setOf : ℕ → ℕ
@@ -13,6 +14,12 @@ setOf (suc (suc (suc (suc zero)))) = 11
 setOf (suc (suc (suc (suc (suc zero))))) = 14
 setOf (suc (suc (suc (suc (suc (suc zero)))))) = 15
 setOf (suc (suc (suc (suc (suc (suc (suc x))))))) = 16 + x
+
+-- the size of a number: 0 either, 1 narrow, 2 wide
+unfoldable pub sizeOf : ℕ → Size
+sizeOf zero = either
+sizeOf (suc zero) = narrow
+sizeOf (suc (suc z)) = wide
 
 -- from the lowest bit on: one for the size, two for GL, two for GR, three for a code element, the rest for G0. No two numbers are one state
 unfoldable pub unpack : ℕ → State

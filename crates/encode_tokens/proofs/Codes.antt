@@ -10,7 +10,7 @@ use Rattle.tables_reverse.specs.Reverse.{kanjiReverse, additionalReverse}
 use Rattle.coding.specs.Candidates.{graphic, plain, candidates, codeLength, shortest}
 use Rattle.encode_candidates.specs.declared.Cands.{Cands}
 use Rattle.encode_candidates.specs.Packed.{packed, codeOf, candOf, candAt, candsFrom, candsOf, StandsForCandidates}
-use Rattle.encode_states.specs.Packed.{setOf}
+use Rattle.encode_states.specs.Packed.{setOf, sizeOf}
 use Rattle.encode_tokens.specs.Steps.{Appended}
 
 record OneOrTwo (n : ℕ) : Type 0 where
@@ -21,7 +21,7 @@ cand-length : (x b z : ℕ) → OneOrTwo (codeLength (candOf x b z))
 unfolding candOf codeOf codeLength
 cand-length x b z = go (eqb x 7) (ltb b 256)
   where
-    go : (u v : Bool) → OneOrTwo (codeLength (cond u (plain b z) (graphic (setOf x) (cond v (b ∷ []) ((b / 256) ∷ (b % 256) ∷ [])) z)))
+    go : (u v : Bool) → OneOrTwo (codeLength (cond u (plain b (sizeOf z)) (graphic (setOf x) (cond v (b ∷ []) ((b / 256) ∷ (b % 256) ∷ [])) (sizeOf z))))
     go true v = record { least = omega arith; most = omega arith }
     go false true = record { least = omega arith; most = omega arith }
     go false false = record { least = omega arith; most = omega arith }

@@ -1,6 +1,6 @@
 -- The nodes of a candidate: its size control, its numbers, its ways. Assumes nothing.
-use mathlib.Core.Path.{_≡_, refl, sym, ap, _∙_, subst}
-use mathlib.Core.Bool.{Bool, true, false, cond, _&&_}
+use mathlib.Core.Path.{_≡_, refl, sym, ap, _∙_}
+use mathlib.Core.Bool.{cond}
 use mathlib.Core.List.{List, [], _∷_, _++_, map}
 use Prim.Native.Nat.{ℕ, zero, suc, _+_, _*_, _/_, _%_, _≤_, _<_}
 use native.Mathlib.Decide.{decLt}
@@ -10,38 +10,46 @@ use lib.ListN.{length, getD, drop, replicate, length-append, length-replicate}
 use borrow.Author.Tests.{eq-eqb, ne-eqb}
 use Rattle.sets.specs.Sets.{designation}
 use Rattle.coding.specs.State.{State, resize}
-use Rattle.coding.specs.Candidates.{Cand, graphic, plain}
+use Rattle.coding.specs.Candidates.{Size, either, wide, Cand, graphic, plain}
 use Rattle.coding.specs.Ways.{ways}
 use Rattle.coding.specs.Search.{Node, node, sizeBytes, sized, byWays, byCand}
-use Rattle.encode_states.specs.Packed.{setOf, unpack, Proper, Packs}
-use Rattle.encode_states.specs.Written.{sizeControl, invocation, half, writtenBy, writtenAt, written, howOf}
+use Rattle.encode_states.specs.Packed.{setOf, sizeOf, unpack, Proper, Packs}
+use Rattle.encode_states.specs.Written.{sizeControl, invocation, half, writtenBy, written, howOf}
 use Rattle.encode_states.proofs.Bytes.{written-how, written-at}
 use Rattle.encode_layer.specs.Entries.{entry, nodeOf}
 use Rattle.encode_layer.specs.Layer.{Bounds, Pushes}
-use Rattle.encode_ways.specs.Turn.{Turn, By, Control, Matches, MatchAll, Is, lengthOf, prefix, bytesOf}
+use Rattle.encode_ways.specs.Turn.{Turn, By, Control, Matches, MatchAll, Is, lengthOf}
 use Rattle.encode_ways.proofs.Chain.{pushes-as}
+
+-- a number that is neither 0 nor 1 is the wide size
+is-wide : (size : ℕ) → (size ≡ 0 → ⊥) → (size ≡ 1 → ⊥) → sizeOf size ≡ wide
+unfolding sizeOf
+is-wide zero e f = absurd (e refl)
+is-wide (suc zero) e f = absurd (f refl)
+is-wide (suc (suc z)) e f = refl
 
 -- the size control, by the tests of `sizeBytes`
 module _ (s : State) (size : ℕ) where
-  pub msz : size ≡ 1 → s .narrow ≡ 0 → Control 1 (sizeBytes s size)
-  unfolding sizeBytes sizeControl
+  pub no-size : size ≡ 0 → Control 0 (sizeBytes s (sizeOf size))
+  unfolding sizeBytes sizeOf sizeControl
+  no-size e = record { small = omega arith; is = rw e }
+
+  pub msz : size ≡ 1 → s .narrow ≡ 0 → Control 1 (sizeBytes s (sizeOf size))
+  unfolding sizeBytes sizeOf sizeControl
   msz e f = record { small = omega arith; is = rw (e, eq-eqb _ _ f) }
 
-  pub narrow-already : size ≡ 1 → (s .narrow ≡ 0 → ⊥) → Control 0 (sizeBytes s size)
-  unfolding sizeBytes sizeControl
+  pub narrow-already : size ≡ 1 → (s .narrow ≡ 0 → ⊥) → Control 0 (sizeBytes s (sizeOf size))
+  unfolding sizeBytes sizeOf sizeControl
   narrow-already e f = record { small = omega arith; is = rw (e, ne-eqb _ _ f) }
 
-  pub nsz : size ≡ 2 → s .narrow ≡ 1 → Control 2 (sizeBytes s size)
-  unfolding sizeBytes sizeControl
-  nsz e f = record { small = omega arith; is = rw (e, eq-eqb _ _ f) }
+  module _ (e : size ≡ 0 → ⊥) (f : size ≡ 1 → ⊥) where
+    pub nsz : s .narrow ≡ 1 → Control 2 (sizeBytes s (sizeOf size))
+    unfolding sizeBytes sizeControl
+    nsz g = record { small = omega arith; is = rw (is-wide size e f, eq-eqb _ _ g) }
 
-  pub wide-already : size ≡ 2 → (s .narrow ≡ 1 → ⊥) → Control 0 (sizeBytes s size)
-  unfolding sizeBytes sizeControl
-  wide-already e f = record { small = omega arith; is = rw (e, ne-eqb _ _ f) }
-
-  pub no-size : (size ≡ 1 → ⊥) → (size ≡ 2 → ⊥) → Control 0 (sizeBytes s size)
-  unfolding sizeBytes sizeControl
-  no-size e f = record { small = omega arith; is = rw (ne-eqb _ _ e, ne-eqb _ _ f) }
+    pub wide-already : (s .narrow ≡ 1 → ⊥) → Control 0 (sizeBytes s (sizeOf size))
+    unfolding sizeBytes sizeControl
+    wide-already g = record { small = omega arith; is = rw (is-wide size e f, ne-eqb _ _ g) }
 
 pub no-bytes : (z : ℕ) → z ≡ 0 → 0 ≡ length (sizeControl z)
 unfolding sizeControl
@@ -60,19 +68,17 @@ few-bytes (suc zero) = omega arith
 few-bytes (suc (suc z)) = omega arith
 
 -- the state after it
-pub any-size : (a size : ℕ) → Proper a → size ≡ 0 → Packs a (sized (unpack a) size)
-unfolding sized
+pub any-size : (a size : ℕ) → Proper a → size ≡ 0 → Packs a (sized (unpack a) (sizeOf size))
+unfolding sized sizeOf
 any-size a size p e = record { proper = p; is = rw e }
 
-pub to-narrow : (a b size : ℕ) → size ≡ 1 → Packs b (resize (unpack a) 1) → Packs b (sized (unpack a) size)
-unfolding sized
+pub to-narrow : (a b size : ℕ) → size ≡ 1 → Packs b (resize (unpack a) 1) → Packs b (sized (unpack a) (sizeOf size))
+unfolding sized sizeOf
 to-narrow a b size e p = rw e p
 
-pub to-wide : (a b size : ℕ) → (size ≡ 0 → ⊥) → (size ≡ 1 → ⊥) → Packs b (resize (unpack a) 0) → Packs b (sized (unpack a) size)
+pub to-wide : (a b size : ℕ) → (size ≡ 0 → ⊥) → (size ≡ 1 → ⊥) → Packs b (resize (unpack a) 0) → Packs b (sized (unpack a) (sizeOf size))
 unfolding sized
-to-wide a b zero e f p = absurd (e refl)
-to-wide a b (suc zero) e f p = absurd (f refl)
-to-wide a b (suc (suc size)) e f p = p
+to-wide a b size e f p = rw (is-wide size e f) p
 
 -- what a link of the candidate k says
 module _ (cs : List Cand) (k : Cand) (ks : List Cand) (link z : ℕ) (at : drop (link / 131072) cs ≡ k ∷ ks) (h : link < 2097152) (small : z < 3) where
@@ -85,16 +91,16 @@ module _ (cs : List Cand) (k : Cand) (ks : List Cand) (link z : ℕ) (at : drop 
   place j = omega arith
 
 -- the turn of a graphic candidate
-abbrev pub turnOf : ℕ → ℕ → ℕ → ℕ → List ℕ → Turn
+abbrev pub turnOf : ℕ → Size → ℕ → ℕ → List ℕ → Turn
 turnOf a size cost link code = record { base = cost; place = link % 131072; pre = sizeBytes (unpack a) size; code = code }
 
-module _ (cs ks : List Cand) (n : Node) (a b x size len cost link z c back : ℕ) (h : link < 2097152) (i : Is n a cost) (q : Control z (sizeBytes (unpack a) size))
-    (lc : c ≡ length (sizeControl z)) (u : unpack b ≡ sized (unpack a) size) where
-  pub graphic-numbers : (s w : ℕ) (code : List ℕ) → drop (link / 131072) cs ≡ graphic s code w ∷ ks → setOf x ≡ s → len ≡ length code →
-      By cs (turnOf a size cost link code) x (cost + c + len) (link + z * 2097152)
+module _ (cs ks : List Cand) (n : Node) (a b x size len cost link z c back : ℕ) (h : link < 2097152) (i : Is n a cost) (q : Control z (sizeBytes (unpack a) (sizeOf size)))
+    (lc : c ≡ length (sizeControl z)) (u : unpack b ≡ sized (unpack a) (sizeOf size)) where
+  pub graphic-numbers : (s : ℕ) (w : Size) (code : List ℕ) → drop (link / 131072) cs ≡ graphic s code w ∷ ks → setOf x ≡ s → len ≡ length code →
+      By cs (turnOf a (sizeOf size) cost link code) x (cost + c + len) (link + z * 2097152)
   unfolding writtenBy
   graphic-numbers s w code at es el =
-      let m : length (sizeBytes (unpack a) size) ≡ c = ap length (sym (q .is)) ∙ sym lc in
+      let m : length (sizeBytes (unpack a) (sizeOf size)) ≡ c = ap length (sym (q .is)) ∙ sym lc in
       record {
         costs = omega arith;
         prev = place cs (graphic s code w) ks link z at h (q .small);
@@ -103,26 +109,26 @@ module _ (cs ks : List Cand) (n : Node) (a b x size len cost link z c back : ℕ
             (λ j. q .is j ++ ((cond (eqb d 1) (designation (sym es j) e) [] ++ invocation v e) ++ map (λ b. b + half v) code));
       }
 
-  pub graphic-nodes : (s w : ℕ) (code : List ℕ) → setOf x ≡ s → size ≡ w → byWays cost (link % 131072) (sizeBytes (unpack a) size) code (ways (unpack b) (setOf x)) ≡ byCand n
+  pub graphic-nodes : (s : ℕ) (w : Size) (code : List ℕ) → setOf x ≡ s → sizeOf size ≡ w → byWays cost (link % 131072) (sizeBytes (unpack a) (sizeOf size)) code (ways (unpack b) (setOf x)) ≡ byCand n
       (link % 131072) (graphic s code w)
   unfolding byCand
   graphic-nodes s w code es ew =
-      ap (λ (y : State). byWays cost (link % 131072) (sizeBytes (unpack a) size) code (ways y (setOf x))) u ∙
+      ap (λ (y : State). byWays cost (link % 131072) (sizeBytes (unpack a) (sizeOf size)) code (ways y (setOf x))) u ∙
       (λ j. byWays (sym (i .costs) j) (link % 131072) (sizeBytes (sym (i .state) j) (ew j)) code (ways (sized (sym (i .state) j) (ew j)) (es j)))
 
   -- SP or APR: its node
-  plain-node : (y w : ℕ) → drop (link / 131072) cs ≡ plain y w ∷ ks → size ≡ w → nodeOf cs (entry b (cost + c + 1) (link + z * 2097152) back) ≡ node (n .cost) (link % 131072)
+  plain-node : (y : ℕ) (w : Size) → drop (link / 131072) cs ≡ plain y w ∷ ks → sizeOf size ≡ w → nodeOf cs (entry b (cost + c + 1) (link + z * 2097152) back) ≡ node (n .cost) (link % 131072)
       (sized (n .state) w) (sizeBytes (n .state) w ++ (y ∷ []))
   unfolding nodeOf writtenBy
   plain-node y w at ew =
       let e0 : link + z * 2097152 ≡ link + z * 2097152 + 0 * 8388608 = omega arith in
       let es : unpack b ≡ sized (n .state) w = u ∙ (λ j. sized (sym (i .state) j) (ew j)) in
-      let eb : sizeBytes (unpack a) size ++ (y ∷ []) ≡ sizeBytes (n .state) w ++ (y ∷ []) = λ j. sizeBytes (sym (i .state) j) (ew j) ++ (y ∷ []) in
+      let eb : sizeBytes (unpack a) (sizeOf size) ++ (y ∷ []) ≡ sizeBytes (n .state) w ++ (y ∷ []) = λ j. sizeBytes (sym (i .state) j) (ew j) ++ (y ∷ []) in
       let ep : (link + z * 2097152) % 131072 ≡ link % 131072 = ap (λ (v : ℕ). v % 131072) e0 ∙ place cs (plain y w) ks link z at h (q .small) 0 in
       let ew : written cs ((link + z * 2097152) / 131072) ≡ sizeBytes (n .state) w ++ (y ∷ []) =
       ap (λ (v : ℕ). written cs (v / 131072)) e0 ∙ (how cs (plain y w) ks link z at h (q .small) 0 0 0 (omega arith) (omega arith) ∙ (ap (λ (v : List ℕ). v ++ (y ∷ [])) (q .is) ∙ eb)) in
-      let m : length (sizeBytes (unpack a) size) ≡ c = ap length (sym (q .is)) ∙ sym lc in
-      let ec : cost + c + 1 ≡ n .cost + length (sizeBytes (n .state) w ++ (y ∷ [])) = omega (arith, i .costs, ap length eb, length-append (sizeBytes (unpack a) size) (y ∷ [])) in
+      let m : length (sizeBytes (unpack a) (sizeOf size)) ≡ c = ap length (sym (q .is)) ∙ sym lc in
+      let ec : cost + c + 1 ≡ n .cost + length (sizeBytes (n .state) w ++ (y ∷ [])) = omega (arith, i .costs, ap length eb, length-append (sizeBytes (unpack a) (sizeOf size)) (y ∷ [])) in
       λ j. record { state = es j; cost = ec j; prev = ep j; bytes = ew j }
 
   module _ {r : Bounds} {s ix s′ ix′ : List ℕ} {count count′ : ℕ} where
@@ -139,13 +145,13 @@ module _ (cs ks : List Cand) (n : Node) (a b x size len cost link z c back : ℕ
         Pushes cs r s ix count s′ ix′ count′ (byCand n (link % 131072) k)
     unfolding Matches
     as-graphic (plain y w) at m e p = absurd (omega (arith, m .0))
-    as-graphic (graphic y code w) at m e p = pushes-as _ _ (graphic-nodes y w code (m .1) (m .2)) (p (turnOf a size cost link code) (graphic-numbers y w code at (m .1) (m .3)))
+    as-graphic (graphic y code w) at m e p = pushes-as _ _ (graphic-nodes y w code (m .1) (m .2)) (p (turnOf a (sizeOf size) cost link code) (graphic-numbers y w code at (m .1) (m .3)))
 
 -- any numbers are those of some candidate, at any place
 module _ (x size len : ℕ) where
   pub any : Dec (x < 6) → Cand
-  any (yes h) = graphic (setOf x) (replicate len 0) size
-  any (no h) = plain 0 size
+  any (yes h) = graphic (setOf x) (replicate len 0) (sizeOf size)
+  any (no h) = plain 0 (sizeOf size)
 
   pub any-matches : (d : Dec (x < 6)) → Matches x size len (any d)
   unfolding Matches any
@@ -182,6 +188,6 @@ module _ (sets codes sizes : List ℕ) where
       record {
         many = length-any 0 m;
         each =
-            λ j h. let e : 0 + j ≡ j = omega arith in rw (any-get 0 m j (plain 0 0) h, e)
+            λ j h. let e : 0 + j ≡ j = omega arith in rw (any-get 0 m j (plain 0 either) h, e)
             (any-matches (getD sets j 0) (getD sizes j 0) (lengthOf (getD codes j 0)) (decLt (getD sets j 0) 6));
       }

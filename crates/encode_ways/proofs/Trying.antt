@@ -2,16 +2,16 @@
 use mathlib.Core.Path.{_≡_, refl, sym, ap, _∙_, subst}
 use mathlib.Core.Bool.{Bool, true, false, cond}
 use mathlib.Core.List.{List, [], _∷_, _++_}
-use Prim.Native.Nat.{ℕ, zero, suc, _+_, _*_, _/_, _%_, _≤_, _<_}
+use Prim.Native.Nat.{ℕ, suc, _+_, _*_, _/_, _%_, _≤_, _<_}
 use native.Mathlib.Numerals.{add-one}
 use native.Mathlib.Omega.{arith}
 use lib.Dec.{ltb}
 use lib.ListN.{length, getD, take, drop}
 use lib.Seq.{take-suc, take-all, drop-cons}
 use borrow.Author.Tests.{lt-ltb, le-ltb}
-use Rattle.coding.specs.Candidates.{Cand, plain}
+use Rattle.coding.specs.Candidates.{either, Cand, plain}
 use Rattle.coding.specs.Search.{Node, pushAll, byCand, byCands}
-use Rattle.encode_layer.specs.Layer.{Bounds, Represents, Changes, Pushes}
+use Rattle.encode_layer.specs.Layer.{Bounds, Represents, Changes}
 use Rattle.encode_ways.specs.Turn.{lengthOf}
 
 pub one-byte-code : (code : ℕ) → code < 256 → 1 ≡ lengthOf code
@@ -49,8 +49,8 @@ snoc n i l [] k = refl
 snoc n i l (c ∷ cs) k = snoc n i (pushAll l (byCand n i c)) cs k
 
 pub one-more : (n : Node) (i : ℕ) (cs : List Cand) (k : ℕ) → k < length cs → (l : List Node) →
-    pushAll (byCands n i l (take k cs)) (byCand n i (getD cs k (plain 0 0))) ≡ byCands n i l (take (k + 1) cs)
-one-more n i cs k h l = sym (ap (byCands n i l) (ap (λ (j : ℕ). take j cs) (add-one k) ∙ take-suc cs k (plain 0 0) h) ∙ snoc n i l (take k cs) (getD cs k (plain 0 0)))
+    pushAll (byCands n i l (take k cs)) (byCand n i (getD cs k (plain 0 either))) ≡ byCands n i l (take (k + 1) cs)
+one-more n i cs k h l = sym (ap (byCands n i l) (ap (λ (j : ℕ). take j cs) (add-one k) ∙ take-suc cs k (plain 0 either) h) ∙ snoc n i l (take k cs) (getD cs k (plain 0 either)))
 
 pub none-yet : (n : Node) (i : ℕ) (cs : List Cand) (l : List Node) → l ≡ byCands n i l (take 0 cs)
 unfolding byCands
@@ -60,8 +60,8 @@ pub all-of : (n : Node) (i : ℕ) (cs : List Cand) (k : ℕ) → length cs ≤ k
 all-of n i cs k h l = ap (byCands n i l) (take-all k cs h)
 
 -- the link of a candidate
-pub at-link : (cs : List Cand) (i k : ℕ) → i < 131072 → k < length cs → drop ((i + k * 131072) / 131072) cs ≡ getD cs k (plain 0 0) ∷ drop (suc k) cs
-at-link cs i k h l = let e : (i + k * 131072) / 131072 ≡ k = omega arith in rw e (drop-cons cs k (plain 0 0) l)
+pub at-link : (cs : List Cand) (i k : ℕ) → i < 131072 → k < length cs → drop ((i + k * 131072) / 131072) cs ≡ getD cs k (plain 0 either) ∷ drop (suc k) cs
+at-link cs i k h l = let e : (i + k * 131072) / 131072 ≡ k = omega arith in rw e (drop-cons cs k (plain 0 either) l)
 
 pub place-link : (i k : ℕ) → i < 131072 → (i + k * 131072) % 131072 ≡ i
 place-link i k h = omega arith

@@ -1,16 +1,16 @@
 -- What is known of the numbers with which nodes are pushed, so that they stand for the nodes of `byCand`.
 use Prim.Native.Nat.{ℕ, zero, suc, _+_, _*_, _/_, _%_, _≤_, _<_}
 use mathlib.Core.Path.{_≡_}
-use mathlib.Core.Bool.{Bool, true, false, cond}
-use mathlib.Core.List.{List, [], _∷_, _++_, map}
+use mathlib.Core.Bool.{cond}
+use mathlib.Core.List.{List, [], _++_, map}
 use lib.Dec.{eqb, ltb}
 use lib.ListN.{length, getD}
 use Rattle.sets.specs.Sets.{designation}
 use Rattle.coding.specs.State.{State}
-use Rattle.coding.specs.Candidates.{Cand, graphic, plain}
+use Rattle.coding.specs.Candidates.{either, Cand, graphic, plain}
 use Rattle.coding.specs.Ways.{Way, byElement}
 use Rattle.coding.specs.Search.{Node}
-use Rattle.encode_states.specs.Packed.{setOf, unpack}
+use Rattle.encode_states.specs.Packed.{setOf, sizeOf, unpack}
 use Rattle.encode_states.specs.Written.{sizeControl, written, invocation, half}
 
 -- the code element n is invoked neither in GL nor in GR; the two that are
@@ -77,9 +77,9 @@ pub record Is (n : Node) (a cost : ℕ) : Type 0 where
 
 -- a candidate by the code of its set (7 for SP and APR, which need none), its size and the bytes of its code
 unfoldable pub Matches : ℕ → ℕ → ℕ → Cand → Type 0
-unfolding setOf
-Matches x size len (graphic s code z) = (x < 6) × (setOf x ≡ s) × (size ≡ z) × (len ≡ length code)
-Matches x size len (plain b z) = (6 ≤ x) × (size ≡ z)
+unfolding setOf sizeOf
+Matches x size len (graphic s code z) = (x < 6) × (setOf x ≡ s) × (sizeOf size ≡ z) × (len ≡ length code)
+Matches x size len (plain b z) = (6 ≤ x) × (sizeOf size ≡ z)
 
 -- the bytes of a code
 unfoldable pub lengthOf : ℕ → ℕ
@@ -88,4 +88,4 @@ lengthOf code = cond (ltb code 256) 1 2
 -- m candidates by their numbers
 pub record MatchAll (cs : List Cand) (m : ℕ) (sets codes sizes : List ℕ) : Type 0 where
   pub many : length cs ≡ m
-  pub each : (j : ℕ) → j < m → Matches (getD sets j 0) (getD sizes j 0) (lengthOf (getD codes j 0)) (getD cs j (plain 0 0))
+  pub each : (j : ℕ) → j < m → Matches (getD sets j 0) (getD sizes j 0) (lengthOf (getD codes j 0)) (getD cs j (plain 0 either))

@@ -9,7 +9,7 @@ ghost use Rattle.coding.specs.State.{State};
 ghost use Rattle.coding.specs.Candidates.{Cand};
 ghost use Rattle.coding.specs.Ways.{through, byElement, ways};
 ghost use Rattle.coding.specs.Search.{Node, sizeBytes, sized, byWays, byCand, byCands};
-ghost use Rattle.encode_states.specs.Packed.{setOf, unpack, Proper, Packs, Codes, Element};
+ghost use Rattle.encode_states.specs.Packed.{setOf, sizeOf, unpack, Proper, Packs, Codes, Element};
 ghost use Rattle.encode_states.specs.Written.{sizeControl};
 ghost use Rattle.encode_layer.specs.Layer.{bounds, HasRoom, Changes, Pushes};
 ghost use Rattle.encode_ways.specs.Turn.{Apart, Invoked, Sized, Small, Turn, Through, By, upTo, Control, Is, Matches, lengthOf, MatchAll};
@@ -333,20 +333,20 @@ fn by_ways(
 
 /// The size control before a candidate of a size: none (0), MSZ (1) or NSZ (2).
 fn size_control(a: u32, size: u32) -> u32
-    ensures { λ z. ⌜ Control z (sizeBytes (unpack a) size) ⌝ }
+    ensures { λ z. ⌜ Control z (sizeBytes (unpack a) (sizeOf size)) ⌝ }
 {
     let narrow = encode_states::narrow(a);
+    if size == 0 {
+        return 0;
+    }
     if size == 1 {
         if narrow == 0 {
             return 1;
         }
         return 0;
     }
-    if size == 2 {
-        if narrow == 1 {
-            return 2;
-        }
-        return 0;
+    if narrow == 1 {
+        return 2;
     }
     0
 }
@@ -361,7 +361,7 @@ fn control_length(z: u32) -> u32
 /// The state after it.
 fn sized(a: u32, size: u32) -> u32
     requires { ⌜ Proper a ⌝ }
-    ensures { λ r. ⌜ Packs r (sized (unpack a) size) ⌝ }
+    ensures { λ r. ⌜ Packs r (sized (unpack a) (sizeOf size)) ⌝ }
 {
     if size == 0 {
         return a;

@@ -9,7 +9,7 @@ ghost use Prim.Native.Nat.{ℕ, _+_, _/_, _%_, _≤_, _<_};
 ghost use lib.Dec.{eqb};
 ghost use lib.ListN.{length};
 ghost use Rattle.sets.specs.Sets.{HoldsBytes, setNumber, shiftBytes, designation};
-ghost use Rattle.coding.specs.Candidates.{graphic, plain};
+ghost use Rattle.coding.specs.Candidates.{Size, graphic, plain};
 ghost use Rattle.encode_states.specs.Packed.{setOf};
 ghost use Rattle.encode_states.specs.Written.{sizeControl, invocation, half, writtenBy};
 ghost use Rattle.encode_candidates.specs.Packed.{codeOf};
@@ -164,7 +164,7 @@ fn put_code(coding: &mut [u8], at: usize, code: u16, h: u8) -> usize
 /// Writes a code of a set, by its three bits, as `how` says.
 pub fn put_graphic(coding: &mut [u8], at: usize, x: u32, code: u16, how: u32) -> usize
     requires { ⌜ (at ≤ 4294967296) × (x < 7) × (code / 256 < 128) × (code % 256 < 128) ⌝ }
-    ensures { λ r. ⌜ ((size : ℕ) → WritesAt (now (coding .entry)) at
+    ensures { λ r. ⌜ ((size : Size) → WritesAt (now (coding .entry)) at
         (writtenBy (graphic (setOf x) (codeOf code) size) (how / 16 % 4) (how / 64 % 4) (how / 256 % 2) (how / 512)) (now (coding .exit)) r) ⌝ }
 {
     let e = how / 64 % 4;
@@ -178,7 +178,7 @@ pub fn put_graphic(coding: &mut [u8], at: usize, x: u32, code: u16, how: u32) ->
 /// Writes SP or APR, as `how` says.
 pub fn put_plain(coding: &mut [u8], at: usize, x: u8, how: u32) -> usize
     requires { ⌜ at ≤ 4294967296 ⌝ }
-    ensures { λ r. ⌜ ((size : ℕ) → WritesAt (now (coding .entry)) at (writtenBy (plain x size) (how / 16 % 4) (how / 64 % 4) (how / 256 % 2) (how / 512)) (now (coding .exit)) r) ⌝ }
+    ensures { λ r. ⌜ ((size : Size) → WritesAt (now (coding .entry)) at (writtenBy (plain x size) (how / 16 % 4) (how / 64 % 4) (how / 256 % 2) (how / 512)) (now (coding .exit)) r) ⌝ }
 {
     let to = put_size(&mut *coding, at, how / 16 % 4);
     put(coding, to, x)

@@ -2,7 +2,7 @@
 use mathlib.Core.Path.{_≡_, refl, _∙_, ap}
 use mathlib.Core.Bool.{Bool, true, false, cond}
 use mathlib.Core.List.{List, [], _∷_}
-use mathlib.Core.Option.{none}
+use mathlib.Core.Option.{Option, none, some}
 use Prim.Native.Nat.{ℕ, zero, suc, _+_, _-_, _≤_, _<_}
 use native.Mathlib.Omega.{arith}
 use lib.Dec.{eqb}
@@ -11,14 +11,10 @@ use Rattle.tables.specs.Kanji.{nonSpacing, hasCharacter, cellWith}
 use Rattle.tables_onebyte.specs.Reverse.{oneByteReverse}
 use Rattle.tables_reverse.specs.Reverse.{kanjiReverse, additionalReverse}
 use Rattle.tables_onebyte.specs.declared.OneByteTable.the-variants.{Alphanumeric, Fullwidth, Hiragana, Katakana, JisX0201Katakana}
-use Rattle.tables_onebyte.specs.declared.Code.{Code}
-use Rattle.tables_onebyte.specs.declared.Code.the-variants.{Gl, Nothing}
-use Rattle.tables.specs.declared.Place.{Place}
-use Rattle.tables.specs.declared.Place.the-variants.{At, Nowhere}
 use Rattle.utf8.specs.Utf8.{utf8, sequence, scalarsFrom, scalars}
 use Rattle.utf8.specs.declared.Sequence.{Sequence}
 use Rattle.utf8.specs.declared.Sequence.the-variants.{Scalar, Fault, End}
-use Rattle.coding.specs.Candidates.{Cand, plain, ofCode, ofPlace, fullwidth, letters, candidates, candidatesOf}
+use Rattle.coding.specs.Candidates.{Size, either, narrow, wide, Cand, plain, ofCode, ofPlace, fullwidth, letters, candidates, candidatesOf}
 use Rattle.coding.specs.Tokens.{Token, placed, tokens, ordered, inOrder, chars}
 use Rattle.coding.specs.Call.{Lent, ordering, choices, without}
 use Rattle.coding.specs.Admissible.{here}
@@ -27,48 +23,48 @@ use Rattle.base.proofs.Every.{all-append}
 use Rattle.laws_coding.proofs.Written.{OfTables}
 use Rattle.laws_coding.proofs.Cheapest.{Filled}
 
-of-code : (x size : ℕ) → x < 15 → size ≤ 2 → (k : Code) → All OfTables (ofCode x size k)
+of-code : (x : ℕ) (size : Size) → x < 15 → (k : Option ℕ) → All OfTables (ofCode x size k)
 unfolding ofCode
-of-code x size h z Nothing = tt
-of-code x size h z (Gl b) = ((h, omega arith, z), tt)
+of-code x size h none = tt
+of-code x size h (some b) = ((h, omega arith), tt)
 
-of-place : (x size : ℕ) → x < 15 → size ≤ 2 → (p : Place) → All OfTables (ofPlace x size p)
+of-place : (x : ℕ) (size : Size) → x < 15 → (p : Option (ℕ × ℕ)) → All OfTables (ofPlace x size p)
 unfolding ofPlace
-of-place x size h z Nowhere = tt
-of-place x size h z (At row cell) = ((h, omega arith, z), tt)
+of-place x size h none = tt
+of-place x size h (some p) = ((h, omega arith), tt)
 
-of-space : (b : Bool) (size : ℕ) → size ≤ 2 → All OfTables (when b (plain 0x20 size))
-of-space true size z = (z, tt)
-of-space false size z = tt
+of-space : (b : Bool) (size : Size) → All OfTables (when b (plain 0x20 size))
+of-space true size = (tt, tt)
+of-space false size = tt
 
 of-fullwidth : (annexE : Bool) (c : ℕ) → All OfTables (fullwidth annexE c)
 unfolding fullwidth
 of-fullwidth true c = tt
-of-fullwidth false c = of-code 1 2 (omega arith) (omega arith) (oneByteReverse Fullwidth c)
+of-fullwidth false c = of-code 1 wide (omega arith) (oneByteReverse Fullwidth c)
 
-of-wide-space : (annexE : Bool) (c : ℕ) → All OfTables (cond annexE [] (when (eqb c 0x3000) (plain 0x20 2)))
+of-wide-space : (annexE : Bool) (c : ℕ) → All OfTables (cond annexE [] (when (eqb c 0x3000) (plain 0x20 wide)))
 of-wide-space true c = tt
-of-wide-space false c = of-space (eqb c 0x3000) 2 (omega arith)
+of-wide-space false c = of-space (eqb c 0x3000) wide
 
 letters-fine : (cells : List ℕ) (annexE : Bool) (c : ℕ) → All OfTables (letters cells annexE c)
 unfolding letters
 letters-fine cells annexE c =
-    all-append OfTables (ofCode 2 2 (oneByteReverse Hiragana c)) _ (of-code 2 2 (omega arith) (omega arith) (oneByteReverse Hiragana c))
-    (all-append OfTables (ofCode 3 2 (oneByteReverse Katakana c)) _ (of-code 3 2 (omega arith) (omega arith) (oneByteReverse Katakana c))
-    (all-append OfTables (ofCode 1 1 (oneByteReverse Alphanumeric c)) _ (of-code 1 1 (omega arith) (omega arith) (oneByteReverse Alphanumeric c))
+    all-append OfTables (ofCode 2 wide (oneByteReverse Hiragana c)) _ (of-code 2 wide (omega arith) (oneByteReverse Hiragana c))
+    (all-append OfTables (ofCode 3 wide (oneByteReverse Katakana c)) _ (of-code 3 wide (omega arith) (oneByteReverse Katakana c))
+    (all-append OfTables (ofCode 1 narrow (oneByteReverse Alphanumeric c)) _ (of-code 1 narrow (omega arith) (oneByteReverse Alphanumeric c))
     (all-append OfTables (fullwidth annexE c) _ (of-fullwidth annexE c)
-    (all-append OfTables (ofPlace 0 2 (kanjiReverse cells c)) _ (of-place 0 2 (omega arith) (omega arith) (kanjiReverse cells c))
-    (all-append OfTables (ofPlace 14 2 (additionalReverse c)) _ (of-place 14 2 (omega arith) (omega arith) (additionalReverse c))
-    (all-append OfTables (ofCode 11 1 (oneByteReverse JisX0201Katakana c)) _ (of-code 11 1 (omega arith) (omega arith) (oneByteReverse JisX0201Katakana c))
-    (all-append OfTables (when (eqb c 0x20) (plain 0x20 1)) _ (of-space (eqb c 0x20) 1 (omega arith)) (of-wide-space annexE c))))))))
+    (all-append OfTables (ofPlace 0 wide (kanjiReverse cells c)) _ (of-place 0 wide (omega arith) (kanjiReverse cells c))
+    (all-append OfTables (ofPlace 14 wide (additionalReverse c)) _ (of-place 14 wide (omega arith) (additionalReverse c))
+    (all-append OfTables (ofCode 11 narrow (oneByteReverse JisX0201Katakana c)) _ (of-code 11 narrow (omega arith) (oneByteReverse JisX0201Katakana c))
+    (all-append OfTables (when (eqb c 0x20) (plain 0x20 narrow)) _ (of-space (eqb c 0x20) narrow) (of-wide-space annexE c))))))))
 
 pub candidates-fine : (cells : List ℕ) (annexE : Bool) (c : ℕ) → All OfTables (candidates cells annexE c)
 unfolding candidates
 candidates-fine cells annexE c = go (eqb c 10) (hasCharacter nonSpacing c)
   where
-    go : (newline mark : Bool) → All OfTables (elim newline [ true ↦ plain 0x0D 0 ∷ [] | false ↦ elim mark [ true ↦ ofPlace 0 0 (cellWith nonSpacing c) | false ↦ letters cells annexE c ] ])
-    go true mark = (omega arith, tt)
-    go false true = of-place 0 0 (omega arith) (omega arith) (cellWith nonSpacing c)
+    go : (newline mark : Bool) → All OfTables (elim newline [ true ↦ plain 0x0D either ∷ [] | false ↦ elim mark [ true ↦ ofPlace 0 either (cellWith nonSpacing c) | false ↦ letters cells annexE c ] ])
+    go true mark = (tt, tt)
+    go false true = of-place 0 either (omega arith) (cellWith nonSpacing c)
     go false false = letters-fine cells annexE c
 
 all-fine : (cells : List ℕ) (annexE : Bool) (cs : List ℕ) → All (All OfTables) (candidatesOf cells annexE cs)

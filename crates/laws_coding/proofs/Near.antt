@@ -9,10 +9,10 @@ use lib.Dec.{eqb, leb}
 use lib.ListN.{length, length-append, length-map}
 use borrow.Author.Tests.{eqb-true, leb-true, leb-false}
 use Rattle.coding.specs.State.{State, sameState, resize}
-use Rattle.coding.specs.Candidates.{Cand}
+use Rattle.coding.specs.Candidates.{Size, either, narrow, wide, Cand}
 use Rattle.coding.specs.Ways.{Way}
 use Rattle.coding.specs.Search.{Node, node, sizeBytes, sized, byWays, byCand, reach}
-use Rattle.coding.specs.Admissible.{Some, here, there, Sized, either, narrow, wide, Shows, left, right, shifted, direct}
+use Rattle.coding.specs.Admissible.{Some, here, there, Sized, Shows, left, right, shifted, direct}
 use Rattle.base.proofs.Tests.{by-test}
 use Rattle.laws_coding.proofs.Somewhere.{some-map, some-left, some-right}
 use Rattle.laws_coding.proofs.Distance.{distance, distance-same, resized, sized-closer}
@@ -30,14 +30,14 @@ pub record Invokes (a : State) : Type 0 where
   pub gr-most : a .gr < 4
 
 -- a size control is as long as the way that it saves
-sized-near : (s a : State) (size : ℕ) → Sized a size → length (sizeBytes s size) + distance (sized s size) a ≤ distance s a
+sized-near : (s a : State) (size : Size) → Sized a size → length (sizeBytes s size) + distance (sized s size) a ≤ distance s a
 unfolding sizeBytes sized
-sized-near s a size either = omega arith
-sized-near s a size (narrow e) =
-    by-test (λ (l : List ℕ). length (l ++ []) + distance (resize s 1) a ≤ distance s a) (eqb (s .narrow) 0)
+sized-near s a either z = omega arith
+sized-near s a narrow e =
+    by-test (λ (l : List ℕ). length l + distance (resize s 1) a ≤ distance s a) (eqb (s .narrow) 0)
     (λ t. rw (← e) (omega (arith, eqb-true (s .narrow) 0 t, resized s a (λ q. omega (arith, eqb-true (s .narrow) 0 t)))))
     (λ t. rw (← e) (omega (arith, sized-closer s a)))
-sized-near s a size (wide e) =
+sized-near s a wide e =
     by-test (λ (l : List ℕ). length l + distance (resize s 0) a ≤ distance s a) (eqb (s .narrow) 1)
     (λ t. rw (← e) (omega (arith, resized s a (λ q. omega (arith, eqb-true (s .narrow) 1 t)))))
     (λ t. rw (← e) (omega (arith, sized-closer s a)))

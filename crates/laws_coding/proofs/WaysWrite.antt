@@ -10,9 +10,9 @@ use lib.ListN.{length, length-append}
 use borrow.Author.Tests.{eqb-true, ltb-true, leb-true, lt-leb}
 use Rattle.sets.specs.Sets.{designation, sequence, bytesPerChar, finalByte}
 use Rattle.coding.specs.State.{State, setIn, designate, invokeGL, invokeGR, lockGL, lockGR, single}
-use Rattle.coding.specs.Candidates.{Cand, graphic}
+use Rattle.coding.specs.Candidates.{Size, either, narrow, wide, Cand, graphic}
 use Rattle.coding.specs.Ways.{Way, way, through, byElement, ways}
-use Rattle.coding.specs.Admissible.{Some, Sized, either, narrow, wide, Shows, left, right, shifted, low, Control, designates, locksGL, locksGR, Admissible, control, write}
+use Rattle.coding.specs.Admissible.{Some, Sized, Shows, left, right, shifted, low, Control, designates, locksGL, locksGR, Admissible, control, write}
 use Rattle.base.specs.Lists.{All, when}
 use Rattle.base.proofs.Every.{all-append}
 use Rattle.base.proofs.Tests.{by-test, either as anyway}
@@ -30,13 +30,13 @@ leads-on s t p f {q} k css bs d = rw append-assoc (f css (q ++ bs) (control k d)
 pub record Writes (x : ℕ) (s : State) (w : Way) : Type 0 where
   pub few : length (w .pre) ≤ 6
   pub size : w .to .narrow ≡ s .narrow
-  pub write : (ks : List Cand) (code : List ℕ) (size : ℕ) → Some (λ k. k ≡ graphic x code size) ks → Sized s size → (css : List (List Cand)) (bs : List ℕ) →
+  pub write : (ks : List Cand) (code : List ℕ) (size : Size) → Some (λ k. k ≡ graphic x code size) ks → Sized s size → (css : List (List Cand)) (bs : List ℕ) →
       Admissible (w .to) css bs → Admissible s (ks ∷ css) (w .pre ++ (map (λ b. b + w .hi) code ++ bs))
 
-resized : (s t : State) (size : ℕ) → s .narrow ≡ t .narrow → Sized s size → Sized t size
-resized s t size e either = either
-resized s t size e (narrow z) = narrow (sym e ∙ z)
-resized s t size e (wide z) = wide (sym e ∙ z)
+resized : (s t : State) (size : Size) → s .narrow ≡ t .narrow → Sized s size → Sized t size
+resized s t either e z = tt
+resized s t narrow e z = sym e ∙ z
+resized s t wide e z = sym e ∙ z
 
 pub shown : (t : State) {ks : List Cand} (k : Cand) (bs : List ℕ) → Some (λ j. j ≡ k) ks → Shows t k bs → Some (λ j. Shows t j bs) ks
 shown t k bs m sh = some-map m (λ j e. subst (λ (j : Cand). Shows t j bs) (sym e) sh)

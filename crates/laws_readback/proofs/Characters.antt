@@ -8,7 +8,7 @@ use native.Mathlib.Omega.{arith}
 use lib.ListN.{length, length-map}
 use Rattle.decode_output.specs.Output.{Output}
 use Rattle.coding.specs.State.{State, setIn, single}
-use Rattle.coding.specs.Candidates.{Cand, candidates}
+use Rattle.coding.specs.Candidates.{Size, Cand, candidates}
 use Rattle.coding.specs.Admissible.{Some, here, there, Sized, Half, low, high, Shows, left, right, shifted, direct}
 use Rattle.reading.specs.State as reading
 use Rattle.reading.specs.Macros.{Run}
@@ -56,7 +56,7 @@ module _ (g : reading.Given) (depth : ℕ) (R : Run) where
   step-ss3 rest place at s = refl
 
 module _ (g : reading.Given) (depth : ℕ) (R : Run) (base origin : ℕ) (z : reading.State) where
-  module _ (c n a : ℕ) (bs : List ℕ) (size h : ℕ) (s : State) (small : n < 4) (r : ReadsCode g depth R z c (setIn s n) a bs size) (w : Sized s size) (k : Half h) (o : Output) where
+  module _ (c n a : ℕ) (bs : List ℕ) (size : Size) (h : ℕ) (s : State) (small : n < 4) (r : ReadsCode g depth R z c (setIn s n) a bs size) (w : Sized s size) (k : Half h) (o : Output) where
     -- the code from a code element
     from-element : (rest : List ℕ) (at : ℕ) → graphic g depth R n (a + h) (map (λ b. b + h) bs ++ rest) at (read z s o) ≡ reading.took (suc (length (map (λ b. b + h) bs)))
         (read z s (puts c at o))

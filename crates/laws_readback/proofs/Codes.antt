@@ -3,6 +3,7 @@ use Prim.Native.Nat.{ℕ, zero, suc, _+_, _-_, _*_, _%_, _≤_}
 use mathlib.Core.Path.{_≡_, refl, sym, ap, _∙_}
 use mathlib.Core.Bool.{Bool, true, false, cond, _||_}
 use mathlib.Core.List.{List, [], _∷_, _++_, map}
+use mathlib.Core.Option.{Option, none, some}
 use native.Mathlib.Omega.{arith}
 use borrow.Author.Tests.{eqb-true}
 use lib.Dec.{eqb}
@@ -15,18 +16,14 @@ use Rattle.tables_reverse.specs.Reverse.{kanjiReverse, additionalReverse}
 use Rattle.tables_onebyte.specs.declared.OneByteTable.{OneByteTable}
 use Rattle.tables_onebyte.specs.declared.OneByteTable.the-variants.{Alphanumeric, Fullwidth, Hiragana, Katakana, JisX0201Katakana}
 use Rattle.tables.specs.declared.Assignment.{Assignment}
-use Rattle.tables_onebyte.specs.declared.Code.{Code}
-use Rattle.tables_onebyte.specs.declared.Code.the-variants.{Gl, Nothing}
-use Rattle.tables.specs.declared.Place.{Place}
-use Rattle.tables.specs.declared.Place.the-variants.{At, Nowhere}
 use Rattle.tables_onebyte.proofs.Laws.{one-byte-found}
 use Rattle.tables_reverse.proofs.Laws.{FirstCell, kanji-found, additional-found}
 use Rattle.issues.specs.declared.IssueKind.{IssueKind}
 use Rattle.issues.specs.declared.IssueKind.the-variants.{UndefinedCode}
 use Rattle.decode_output.specs.Output.{Output, emit, mark, newline}
 use Rattle.coding.specs.State.{State}
-use Rattle.coding.specs.Candidates.{Cand, graphic, plain, ofCode, ofPlace, fullwidth, letters, candidates}
-use Rattle.coding.specs.Admissible.{Sized, narrow, wide, Half}
+use Rattle.coding.specs.Candidates.{Size, either, narrow, wide, Cand, graphic, plain, ofCode, ofPlace, fullwidth, letters, candidates}
+use Rattle.coding.specs.Admissible.{Sized, Half}
 use Rattle.reading.specs.State as reading
 use Rattle.reading.specs.Macros.{Run}
 use Rattle.reading.specs.Characters.{emitOr, cellOr, char2, letter, graphic2, graphicOf}
@@ -53,7 +50,7 @@ record Letter (c : ℕ) : Type 0 where
 
 module _ (g : reading.Given) (depth : ℕ) (R : Run) (z : reading.State) where
   -- The code a ∷ bs of the set x, in either half and in a state of its size, writes c and nothing else.
-  pub record ReadsCode (c x a : ℕ) (bs : List ℕ) (size : ℕ) : Type 0 where
+  pub record ReadsCode (c x a : ℕ) (bs : List ℕ) (size : Size) : Type 0 where
     pub first : Byte a
     pub reads : (s : State) (h : ℕ) → Sized s size → Half h → (rest : List ℕ) (at : ℕ) (o : Output)
         → graphicOf g depth R x (a + h) (map (λ b. b + h) bs ++ rest) at (read z s o) ≡ reading.took (suc (length bs)) (read z s (puts c at o))
@@ -91,34 +88,34 @@ module _ (g : reading.Given) (depth : ℕ) (R : Run) (z : reading.State) where
   cell-sets = (λ row cell at s. refl, λ row cell at s. refl)
 
   -- the sizes
-  is-narrow : (s : State) (o : Output) → Sized s 1 → reading.isNarrow g (read z s o) ≡ true
+  is-narrow : (s : State) (o : Output) → Sized s narrow → reading.isNarrow g (read z s o) ≡ true
   unfolding reading.isNarrow
-  is-narrow s o (narrow e) = rw e (go (g .annexE))
+  is-narrow s o e = rw e (go (g .annexE))
     where
       go : (b : Bool) → b || true ≡ true
       go true = refl
       go false = refl
 
-  is-wide : g .annexE ≡ false → (s : State) (o : Output) → Sized s 2 → reading.isNarrow g (read z s o) ≡ false
+  is-wide : g .annexE ≡ false → (s : State) (o : Output) → Sized s wide → reading.isNarrow g (read z s o) ≡ false
   unfolding reading.isNarrow
-  is-wide e s o (wide f) = rw (e, f)
+  is-wide e s o f = rw (e, f)
 
   -- SP
-  narrow-space : Reads 0x20 (plain 0x20 1)
+  narrow-space : Reads 0x20 (plain 0x20 narrow)
   unfolding step puts
   narrow-space s w rest place at o = rw (is-narrow s o w)
 
-  wide-space : g .annexE ≡ false → Reads 0x3000 (plain 0x20 2)
+  wide-space : g .annexE ≡ false → Reads 0x3000 (plain 0x20 wide)
   unfolding step puts
   wide-space e s w rest place at o = rw (is-wide e s o w)
 
   -- APR
-  newline-read : Reads 10 (plain 0x0D 0)
+  newline-read : Reads 10 (plain 0x0D either)
   unfolding step puts
   newline-read s w rest place at o = refl
 
   -- a cell of a two-byte set
-  two-byte : (c x size row cell : ℕ) → Grid row cell → TwoByteSet x
+  two-byte : (c x : ℕ) (size : Size) (row cell : ℕ) → Grid row cell → TwoByteSet x
       → ((s : State) (at : ℕ) (o : Output) → char2 g x (0x20 + row) (0x20 + cell) at (read z s o) ≡ read z s (puts c at o))
       → Reads c (graphic x ((0x20 + row) ∷ (0x20 + cell) ∷ []) size)
   two-byte c x size row cell h two reads =
@@ -149,15 +146,15 @@ module _ (g : reading.Given) (depth : ℕ) (R : Run) (z : reading.State) where
     cell-or kind at s o h = rw (l .mark) (emit-or kind at s o h)
 
     -- a candidate of a one-byte set
-    one-byte : (x size : ℕ) (table : OneByteTable) → OneByteSet x
+    one-byte : (x : ℕ) (size : Size) (table : OneByteTable) → OneByteSet x
         → ((s : State) (o : Output) (b : ℕ) → Sized s size → letter (reading.isNarrow g (read z s o)) x b ≡ oneByteAt table b)
         → All (Reads c) (ofCode x size (oneByteReverse table c))
     unfolding ofCode
     one-byte x size table reads sized = go (oneByteReverse table c) refl
       where
-        go : (r : Code) → oneByteReverse table c ≡ r → All (Reads c) (ofCode x size r)
-        go Nothing e = tt
-        go (Gl b) e =
+        go : (r : Option ℕ) → oneByteReverse table c ≡ r → All (Reads c) (ofCode x size r)
+        go none e = tt
+        go (some b) e =
             let f = one-byte-found table c b e in
             let p : Byte b = record { from = f .from; to = f .to } in (
               record {
@@ -170,11 +167,11 @@ module _ (g : reading.Given) (depth : ℕ) (R : Run) (z : reading.State) where
             )
 
     -- a candidate of a two-byte set
-    places : (x size : ℕ) (at-cell : ℕ → ℕ → ℕ) → TwoByteSet x → CellSet x at-cell
-        → (p : Place) → ((row cell : ℕ) → p ≡ At row cell → FirstCell at-cell c row cell) → All (Reads c) (ofPlace x size p)
+    places : (x : ℕ) (size : Size) (at-cell : ℕ → ℕ → ℕ) → TwoByteSet x → CellSet x at-cell
+        → (p : Option (ℕ × ℕ)) → ((row cell : ℕ) → p ≡ some (row, cell) → FirstCell at-cell c row cell) → All (Reads c) (ofPlace x size p)
     unfolding ofPlace
-    places x size at-cell two reads Nowhere found = tt
-    places x size at-cell two reads (At row cell) found =
+    places x size at-cell two reads none found = tt
+    places x size at-cell two reads (some (row, cell)) found =
         let f = found row cell refl in
         let r : 0x20 + row - 0x20 ≡ row = omega arith in
         let k : 0x20 + cell - 0x20 ≡ cell = omega arith in (
@@ -186,25 +183,25 @@ module _ (g : reading.Given) (depth : ℕ) (R : Run) (z : reading.State) where
     fullwidths : (annexE : Bool) → g .annexE ≡ annexE → All (Reads c) (fullwidth annexE c)
     unfolding fullwidth letter
     fullwidths true e = tt
-    fullwidths false e = one-byte 1 2 Fullwidth (one-byte-sets .0) (λ s o b w. rw (is-wide e s o w))
+    fullwidths false e = one-byte 1 wide Fullwidth (one-byte-sets .0) (λ s o b w. rw (is-wide e s o w))
 
     where-it-holds : (k : Cand) (t : Bool) → (t ≡ true → Reads c k) → All (Reads c) (when t k)
     where-it-holds k true f = (f refl, tt)
     where-it-holds k false f = tt
 
-    -- in the order of `letters`; the sizes are 1 narrow and 2 wide
+    -- in the order of `letters`
     letters-read : All (Reads c) (letters (g .cells) (g .annexE) c)
     unfolding letters letter
     letters-read =
-        all-append (Reads c) (ofCode 2 2 (oneByteReverse Hiragana c)) _ (one-byte 2 2 Hiragana (one-byte-sets .1) (λ s o b w. refl))
-        (all-append (Reads c) (ofCode 3 2 (oneByteReverse Katakana c)) _ (one-byte 3 2 Katakana (one-byte-sets .2) (λ s o b w. refl))
-        (all-append (Reads c) (ofCode 1 1 (oneByteReverse Alphanumeric c)) _ (one-byte 1 1 Alphanumeric (one-byte-sets .0) (λ s o b w. rw (is-narrow s o w)))
+        all-append (Reads c) (ofCode 2 wide (oneByteReverse Hiragana c)) _ (one-byte 2 wide Hiragana (one-byte-sets .1) (λ s o b w. refl))
+        (all-append (Reads c) (ofCode 3 wide (oneByteReverse Katakana c)) _ (one-byte 3 wide Katakana (one-byte-sets .2) (λ s o b w. refl))
+        (all-append (Reads c) (ofCode 1 narrow (oneByteReverse Alphanumeric c)) _ (one-byte 1 narrow Alphanumeric (one-byte-sets .0) (λ s o b w. rw (is-narrow s o w)))
         (all-append (Reads c) (fullwidth (g .annexE) c) _ (fullwidths (g .annexE) refl)
-        (all-append (Reads c) (ofPlace 0 2 (kanjiReverse (g .cells) c)) _ (places 0 2 (kanjiAt (g .cells)) (two-byte-sets .0) (cell-sets .0) _ (kanji-found (g .cells) c))
-        (all-append (Reads c) (ofPlace 14 2 (additionalReverse c)) _ (places 14 2 symbol (two-byte-sets .1) (cell-sets .1) _ (additional-found c))
-        (all-append (Reads c) (ofCode 11 1 (oneByteReverse JisX0201Katakana c)) _ (one-byte 11 1 JisX0201Katakana (one-byte-sets .3) (λ s o b w. refl))
-        (all-append (Reads c) (when (eqb c 0x20) (plain 0x20 1)) _ (where-it-holds (plain 0x20 1) (eqb c 0x20) (λ e. rw (eqb-true c 0x20 e) narrow-space))
-        (by-test (All (Reads c)) (g .annexE) (λ e. tt) (λ e. where-it-holds (plain 0x20 2) (eqb c 0x3000) (λ d. rw (eqb-true c 0x3000 d) (wide-space e)))))))))))
+        (all-append (Reads c) (ofPlace 0 wide (kanjiReverse (g .cells) c)) _ (places 0 wide (kanjiAt (g .cells)) (two-byte-sets .0) (cell-sets .0) _ (kanji-found (g .cells) c))
+        (all-append (Reads c) (ofPlace 14 wide (additionalReverse c)) _ (places 14 wide symbol (two-byte-sets .1) (cell-sets .1) _ (additional-found c))
+        (all-append (Reads c) (ofCode 11 narrow (oneByteReverse JisX0201Katakana c)) _ (one-byte 11 narrow JisX0201Katakana (one-byte-sets .3) (λ s o b w. refl))
+        (all-append (Reads c) (when (eqb c 0x20) (plain 0x20 narrow)) _ (where-it-holds (plain 0x20 narrow) (eqb c 0x20) (λ e. rw (eqb-true c 0x20 e) narrow-space))
+        (by-test (All (Reads c)) (g .annexE) (λ e. tt) (λ e. where-it-holds (plain 0x20 wide) (eqb c 0x3000) (λ d. rw (eqb-true c 0x3000 d) (wide-space e)))))))))))
 
   -- the seven marks, each by its cell, computed
   abbrev MarkCell : Assignment → Type 0
@@ -226,12 +223,12 @@ module _ (g : reading.Given) (depth : ℕ) (R : Run) (z : reading.State) where
     ),
   )
 
-  marks-read : (c : ℕ) (ms : List Assignment) → All MarkCell ms → All (Reads c) (ofPlace 0 0 (cellWith ms c))
+  marks-read : (c : ℕ) (ms : List Assignment) → All MarkCell ms → All (Reads c) (ofPlace 0 either (cellWith ms c))
   unfolding ofPlace cellWith
   marks-read c [] h = tt
   marks-read c (a ∷ ms) h =
-      by-test (λ (p : Place). All (Reads c) (ofPlace 0 0 p)) (eqb (a .character) c)
-      (λ e. rw (← (eqb-true (a .character) c e)) (two-byte (a .character) 0 0 (a .row) (a .cell) (h .0 .0) (two-byte-sets .0) (h .0 .1), tt))
+      by-test (λ (p : Option (ℕ × ℕ)). All (Reads c) (ofPlace 0 either p)) (eqb (a .character) c)
+      (λ e. rw (← (eqb-true (a .character) c e)) (two-byte (a .character) 0 either (a .row) (a .cell) (h .0 .0) (two-byte-sets .0) (h .0 .1), tt))
       (λ e. marks-read c ms (h .1))
 
   pub candidates-read : (c : ℕ) → All (Reads c) (candidates (g .cells) (g .annexE) c)

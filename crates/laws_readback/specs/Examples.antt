@@ -1,13 +1,13 @@
 -- A worked example: an admissible coding that the search does not choose.
-use Prim.Native.Nat.{ℕ}
 use mathlib.Core.Path.{refl}
-use mathlib.Core.List.{List, [], _∷_}
+use mathlib.Core.List.{[], _∷_}
 use native.Mathlib.Omega.{arith}
 use lib.ListN.{replicate}
 use Rattle.utf8.specs.Utf8.{utf8s}
 use Rattle.coding.specs.State.{start, setIn, lockGL, single}
 use Rattle.coding.specs.Tokens.{tokens, baseless}
-use Rattle.coding.specs.Admissible.{here, left, shifted, either, wide, high, control, write, done, msz, nsz, locksGL}
+use Rattle.coding.specs.Candidates.{either, wide}
+use Rattle.coding.specs.Admissible.{here, left, shifted, high, control, write, done, msz, nsz, locksGL}
 use Rattle.coding.specs.Call as coding
 use Rattle.laws_readback.specs.ReadBack.{Codes, Based}
 
@@ -24,5 +24,5 @@ based = refl
 pub longer : Codes accented (0x89 ∷ 0x21 ∷ 0x2D ∷ 0x8A ∷ 0x19 ∷ 0xA2 ∷ 0x0E ∷ [])
 unfolding coding.choices utf8s start setIn lockGL single
 longer =
-    control msz (write (here (left (0x21 ∷ 0x2D ∷ []) 0 either))
-    (control nsz (write (here (shifted (0x22 ∷ []) 2 2 128 high (wide refl) (omega arith) (omega arith))) (control (locksGL 1 (omega arith)) (done _)))))
+    control msz (write (here (left (0x21 ∷ 0x2D ∷ []) either tt))
+    (control nsz (write (here (shifted (0x22 ∷ []) wide 2 128 high refl (omega arith) (omega arith))) (control (locksGL 1 (omega arith)) (done _)))))

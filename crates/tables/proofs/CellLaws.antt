@@ -3,6 +3,7 @@
 use mathlib.Core.Path.{_≡_, refl, sym, _∙_}
 use mathlib.Core.Bool.{Bool, true, false, cond}
 use mathlib.Core.List.{List, [], _∷_}
+use mathlib.Core.Option.{none, some}
 use Prim.Native.Nat.{ℕ, suc, _+_, _<_, _≤_}
 use native.Mathlib.Numerals.{add-one}
 use native.Mathlib.Omega.{arith}
@@ -13,7 +14,6 @@ use borrow.Author.Tests.{eq-eqb, ne-eqb, lt-ltb, le-ltb, ltb-true, ltb-false}
 use Rattle.tables.specs.Kanji.{assigned, hasCharacter, cellWith}
 use Rattle.tables.specs.Contracts.{placeWith}
 use Rattle.tables.specs.declared.Assignment.{Assignment}
-use Rattle.tables.specs.declared.Place.the-variants.{At, Nowhere}
 
 abbrev pub outside : Assignment
 outside = record { row = 0; cell = 0; character = 0 }
@@ -72,24 +72,24 @@ has-place (a ∷ more) c = go (eqb (a .character) c) (has-place more c)
 
 -- and its cell is that of the place
 pub cell-there : (list : List Assignment) (c : ℕ) → placeWith list c < length list →
-    At (getD list (placeWith list c) outside .row) (getD list (placeWith list c) outside .cell) ≡ cellWith list c
+    some (getD list (placeWith list c) outside .row, getD list (placeWith list c) outside .cell) ≡ cellWith list c
 unfolding placeWith cellWith
 cell-there [] c h = absurd (omega arith)
 cell-there (a ∷ more) c h = go (eqb (a .character) c) h (cell-there more c)
   where
     go : (b : Bool) → cond b 0 (suc (placeWith more c)) < suc (length more)
-        → (placeWith more c < length more → At (getD more (placeWith more c) outside .row) (getD more (placeWith more c) outside .cell) ≡ cellWith more c)
-        → At (getD (a ∷ more) (cond b 0 (suc (placeWith more c))) outside .row) (getD (a ∷ more) (cond b 0 (suc (placeWith more c))) outside .cell)
-        ≡ cond b (At (a .row) (a .cell)) (cellWith more c)
+        → (placeWith more c < length more → some (getD more (placeWith more c) outside .row, getD more (placeWith more c) outside .cell) ≡ cellWith more c)
+        → some (getD (a ∷ more) (cond b 0 (suc (placeWith more c))) outside .row, getD (a ∷ more) (cond b 0 (suc (placeWith more c))) outside .cell)
+        ≡ cond b (some (a .row, a .cell)) (cellWith more c)
     go true l r = refl
     go false l r = r (omega arith)
 
-pub cell-nowhere : (list : List Assignment) (c : ℕ) → length list ≤ placeWith list c → Nowhere ≡ cellWith list c
+pub cell-nowhere : (list : List Assignment) (c : ℕ) → length list ≤ placeWith list c → none ≡ cellWith list c
 unfolding placeWith cellWith
 cell-nowhere [] c h = refl
 cell-nowhere (a ∷ more) c h = go (eqb (a .character) c) h (cell-nowhere more c)
   where
-    go : (b : Bool) → suc (length more) ≤ cond b 0 (suc (placeWith more c)) → (length more ≤ placeWith more c → Nowhere ≡ cellWith more c)
-        → Nowhere ≡ cond b (At (a .row) (a .cell)) (cellWith more c)
+    go : (b : Bool) → suc (length more) ≤ cond b 0 (suc (placeWith more c)) → (length more ≤ placeWith more c → none ≡ cellWith more c)
+        → none ≡ cond b (some (a .row, a .cell)) (cellWith more c)
     go true l r = absurd (omega arith)
     go false l r = r (omega arith)

@@ -2,6 +2,7 @@
 use Prim.Native.Nat.{ℕ, _+_, _*_, _-_, _≤_}
 use mathlib.Core.Bool.{Bool, true, false, cond, _&&_, _||_}
 use mathlib.Core.List.{List, [], _∷_}
+use mathlib.Core.Option.{Option, none, some}
 use mathlib.Core.Path.{_≡_, refl}
 use lib.Dec.{eqb, leb}
 use lib.ListN.{getD}
@@ -43,10 +44,15 @@ unfoldable pub hasCharacter : List Assignment → ℕ → Bool
 hasCharacter [] c = false
 hasCharacter (a ∷ more) c = cond (eqb (a .character) c) true (hasCharacter more c)
 
--- the first cell of a list with a character, for the coding of a mark (`candidates` of encode.rs)
-unfoldable pub cellWith : List Assignment → ℕ → Place
-cellWith [] c = Nowhere
-cellWith (a ∷ more) c = cond (eqb (a .character) c) (At (a .row) (a .cell)) (cellWith more c)
+-- the row and the cell that a reverse look-up answers, or none
+abbrev pub placeValue : Place → Option (ℕ × ℕ)
+placeValue (At row cell) = some (row, cell)
+placeValue Nowhere = none
+
+-- the first cell of a list with a character, for the coding of a mark (`candidates` of encode.rs): its row and its cell
+unfoldable pub cellWith : List Assignment → ℕ → Option (ℕ × ℕ)
+cellWith [] c = none
+cellWith (a ∷ more) c = cond (eqb (a .character) c) (some (a .row, a .cell)) (cellWith more c)
 
 -- "row by row": the place of a cell in the lent table
 abbrev pub place : ℕ → ℕ → ℕ

@@ -5,7 +5,7 @@ ghost use mathlib.Core.Path.{_≡_};
 ghost use mathlib.Core.Bool.{_&&_};
 ghost use lib.Dec.{leb, ltb};
 ghost use Rattle.addsym.specs.Symbols.{symbol};
-ghost use Rattle.tables.specs.Kanji.{CellReads, nonSpacing, kanjiOverrides, assigned, hasCharacter, cellWith, tableAt, jisX0208At, gap, kanjiSymbol, kanjiAt};
+ghost use Rattle.tables.specs.Kanji.{CellReads, nonSpacing, kanjiOverrides, assigned, hasCharacter, placeValue, cellWith, tableAt, jisX0208At, gap, kanjiSymbol, kanjiAt};
 ghost use Rattle.tables.specs.Contracts.{placeWith};
 
 /// What a cell of a two-byte set reads as.
@@ -146,7 +146,7 @@ pub fn is_override(c: u32) -> bool
 
 /// The cell of the Kanji set that codes a mark.
 pub fn mark_cell(c: u32) -> Place
-    ensures { λ r. ⌜ r ≡ cellWith nonSpacing c ⌝ }
+    ensures { λ r. ⌜ placeValue r ≡ cellWith nonSpacing c ⌝ }
 {
     let i = place_with(NON_SPACING, c);
     if i < 7 {

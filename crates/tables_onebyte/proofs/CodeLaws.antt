@@ -1,6 +1,7 @@
 -- A rule that agrees with a table answers as the table's reverse look-up does. Assumes nothing.
 use mathlib.Core.Path.{_≡_, refl, sym, _∙_}
 use mathlib.Core.Bool.{Bool, true, false, not}
+use mathlib.Core.Option.{Option, none, some}
 use Prim.Native.Nat.{ℕ, _+_, _-_, _<_, _≤_}
 use native.Mathlib.Omega.{arith}
 use lib.Dec.{T, eqb, leb, ltb}
@@ -13,8 +14,6 @@ use Rattle.tables_onebyte.specs.Contracts.{runAt, alphanumericAt, kanaAt
 use Rattle.tables_onebyte.specs.declared.OneByteTable.{OneByteTable}
 use Rattle.tables_onebyte.specs.declared.OneByteTable.the-variants.{Alphanumeric, Fullwidth, Hiragana, Katakana, JisX0201Katakana}
 use Rattle.tables_onebyte.specs.declared.Kana.{Kana}
-use Rattle.tables_onebyte.specs.declared.Code.{Code}
-use Rattle.tables_onebyte.specs.declared.Code.the-variants.{Gl, Nothing}
 use Rattle.tables_onebyte.proofs.OneByteLaws.{agrees, agree, code-reads}
 use Rattle.tables_onebyte.proofs.Laws.{firstIs, code-again, one-byte-found}
 
@@ -38,18 +37,18 @@ module _ (table : OneByteTable) (f : ℕ → ℕ) (a : T (agrees table f)) (c : 
           let z : c ≡ 0 = sym e ∙ code-reads table code l ∙ List·getD-eq-default (tableOf table) 0 (ltb-false (code - 0x21) (length (tableOf table)) q) in
           absurd (omega arith)
 
-  pub inverse : (r : Code) → Inverse f c r → r ≡ oneByteReverse table c
-  inverse (Gl code) p =
+  pub inverse : (r : Option ℕ) → Inverse f c r → r ≡ oneByteReverse table c
+  inverse (some code) p =
       let l = p .from in
       let h = p .to in
       let n = p .character in
       let e = agree table f a code (omega arith) ∙ p .reads in
       sym (code-again table (once table) c code (λ z. omega arith) l (inside code l n e) e)
-  inverse Nothing p = go (oneByteReverse table c) refl
+  inverse none p = go (oneByteReverse table c) refl
     where
-      go : (r : Code) → oneByteReverse table c ≡ r → Nothing ≡ oneByteReverse table c
-      go Nothing q = sym q
-      go (Gl code) q =
+      go : (r : Option ℕ) → oneByteReverse table c ≡ r → none ≡ oneByteReverse table c
+      go none q = sym q
+      go (some code) q =
           let x = one-byte-found table c code q in
           let h = x .to in
           absurd (x .character (p code (sym (agree table f a code (omega arith)) ∙ x .reads)))
@@ -101,15 +100,15 @@ module _ (first yen c : ℕ) (n : c ≡ yen → ⊥) where
       go false q = (eqb-false code 0x5C q, rw q at e)
 
   -- the run's place at 5C is not the set's
-  pub no-solidus : c ≡ first + 0x3B → Inverse (alphanumericAt first yen) c Nothing
+  pub no-solidus : c ≡ first + 0x3B → Inverse (alphanumericAt first yen) c none
   no-solidus s code e = let p = yen-or-run code e in run-out first 0x7E code c (λ a b w. p .0 (omega arith)) (p .1)
 
-  pub alphanumeric-run : (c ≡ first + 0x3B → ⊥) → (r : Code) → Inverse (runAt first 0x7E) c r → Inverse (alphanumericAt first yen) c r
-  alphanumeric-run s (Gl code) p =
+  pub alphanumeric-run : (c ≡ first + 0x3B → ⊥) → (r : Option ℕ) → Inverse (runAt first 0x7E) c r → Inverse (alphanumericAt first yen) c r
+  alphanumeric-run s (some code) p =
       let i = run-to first 0x7E code c (p .character) (p .reads) in
       let w = sym (run-in first 0x7E code (i .0) (i .1)) ∙ p .reads in
       record { from = p .from; to = p .to; character = p .character; reads = off-yen first yen code (λ q. s (omega arith)) ∙ p .reads }
-  alphanumeric-run s Nothing p = λ code e. p code (yen-or-run code e .1)
+  alphanumeric-run s none p = λ code e. p code (yen-or-run code e .1)
 
 -- ---- the kana sets
 
@@ -156,14 +155,14 @@ module _ (kana : Kana) (fits : KanaFits kana) where
       let l = fits .last-to in
       sym (off-them code (λ h. omega arith))
 
-  pub kana-run : (c : ℕ) → ((k : ℕ) → getD (signs (kana .iteration)) k 0 ≡ c → c ≡ 0) → (r : Code) → Inverse (runAt (kana .first) (kana .last)) c r → Inverse (kanaAt kana) c r
+  pub kana-run : (c : ℕ) → ((k : ℕ) → getD (signs (kana .iteration)) k 0 ≡ c → c ≡ 0) → (r : Option ℕ) → Inverse (runAt (kana .first) (kana .last)) c r → Inverse (kanaAt kana) c r
   unfolding kanaAt
-  kana-run c s (Gl code) p =
+  kana-run c s (some code) p =
       let i = run-to (kana .first) (kana .last) code c (p .character) (p .reads) in
       let j = i .1 in
       let l = fits .last-to in
       record { from = p .from; to = p .to; character = p .character; reads = off-them code (λ h. omega arith) ∙ p .reads }
-  kana-run c s Nothing p = sign-or-run
+  kana-run c s none p = sign-or-run
     where
       sign-or-run : (code : ℕ) → kanaAt kana code ≡ c → c ≡ 0
       sign-or-run code e = go (leb 0x77 code) refl

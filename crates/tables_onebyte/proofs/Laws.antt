@@ -15,7 +15,6 @@ use Rattle.tables_onebyte.specs.OneByte.{tableOf, oneByteAt, fullwidthOf
 use Rattle.tables_onebyte.specs.Reverse.{number, codeOf, oneByteReverse}
 use Rattle.tables_onebyte.specs.declared.OneByteTable.{OneByteTable}
 use Rattle.tables_onebyte.specs.declared.OneByteTable.the-variants.{Alphanumeric, Fullwidth}
-use Rattle.tables_onebyte.specs.declared.Code.the-variants.{Gl, Nothing}
 use Rattle.tables_onebyte.proofs.OneByteLaws.{code-reads, under, fullwidth-at}
 
 -- A reverse look-up in a one-byte table: c is read at the code, and at none before it.
@@ -34,7 +33,7 @@ place-read table c d h r = go (ltb d 0x21) refl
     go true e = absurd (h (sym r ∙ under table d (ltb-true d 0x21 e)))
     go false e = (ltb-false d 0x21 e, sym (code-reads table d (ltb-false d 0x21 e)) ∙ r)
 
-pub one-byte-found : (table : OneByteTable) (c code : ℕ) → oneByteReverse table c ≡ Gl code → FirstCode table c code
+pub one-byte-found : (table : OneByteTable) (c code : ℕ) → oneByteReverse table c ≡ some code → FirstCode table c code
 unfolding oneByteReverse codeOf
 one-byte-found table c code e = go (first number 94 c (tableOf table)) refl e
   where
@@ -50,20 +49,20 @@ one-byte-found table c code e = go (first number 94 c (tableOf table)) refl e
           earlier = λ x l w. let r = place-read table c x (p .character) w in p .earlier (x - 0x21) (omega arith) (r .1);
         }
 
-    go : (o : Option ℕ) → first number 94 c (tableOf table) ≡ o → codeOf o ≡ Gl code → FirstCode table c code
+    go : (o : Option ℕ) → first number 94 c (tableOf table) ≡ o → codeOf o ≡ some code → FirstCode table c code
     go none q z = absurd (let w : _≡_ {A = ℕ} 0 1 = cc in omega arith)
     go (some k) q z = at-code k (first-some number 94 c (tableOf table) k q) (cc)
 
-pub one-byte-nothing : (table : OneByteTable) (c : ℕ) → (c ≡ 0 → ⊥) → oneByteReverse table c ≡ Nothing → (code : ℕ) → code ≤ 0x7E → oneByteAt table code ≡ c → ⊥
+pub one-byte-nothing : (table : OneByteTable) (c : ℕ) → (c ≡ 0 → ⊥) → oneByteReverse table c ≡ none → (code : ℕ) → code ≤ 0x7E → oneByteAt table code ≡ c → ⊥
 unfolding oneByteReverse codeOf
 one-byte-nothing table c h e code b w = go (first number 94 c (tableOf table)) refl e
   where
-    go : (o : Option ℕ) → first number 94 c (tableOf table) ≡ o → codeOf o ≡ Nothing → ⊥
+    go : (o : Option ℕ) → first number 94 c (tableOf table) ≡ o → codeOf o ≡ none → ⊥
     go none q z = let r = place-read table c code h w in first-none number 94 c (tableOf table) h q (code - 0x21) (omega arith) (r .1)
     go (some k) q z = let v : _≡_ {A = ℕ} 0 1 = cc in omega arith
 
 -- `half` answers the code whose full-width form is c
-pub half-found : (c code : ℕ) → oneByteReverse Fullwidth c ≡ Gl code → fullwidthOf (oneByteAt Alphanumeric code) ≡ c
+pub half-found : (c code : ℕ) → oneByteReverse Fullwidth c ≡ some code → fullwidthOf (oneByteAt Alphanumeric code) ≡ c
 half-found c code e = fullwidth-at code ∙ one-byte-found Fullwidth c code e .reads
 
 -- is it place k that was found?
@@ -86,20 +85,20 @@ found-again table k x h t = go (first number 94 x (tableOf table)) refl (rw (ne-
 
 -- Where every character of a table stands there once, which one test of the table says, the look-up answers the code at which it stands.
 pub code-again : (table : OneByteTable) → T (every (firstIs table) 0 (tableOf table)) → (c code : ℕ) → (c ≡ 0 → ⊥) → 0x21 ≤ code → code - 0x21 < length (tableOf table)
-    → oneByteAt table code ≡ c → oneByteReverse table c ≡ Gl code
+    → oneByteAt table code ≡ c → oneByteReverse table c ≡ some code
 unfolding oneByteReverse codeOf
 code-again table t c code h a b e =
     let k = code - 0x21 in
     let q : k + 0x21 ≡ code = omega arith in
     let r : getD (tableOf table) k 0 ≡ c = sym (code-reads table code a) ∙ e in
     ap codeOf (found-again table k c h (subst (λ (x : ℕ). T (firstIs table k x)) r (at 0 (firstIs table) (tableOf table) t k b)))
-    ∙ ap Gl q
+    ∙ ap some q
 
 abbrev isSome : ℕ → ℕ → Bool
 isSome k x = not (eqb x 0)
 
 -- The full-width forms of the 94 alphanumerics are distinct: `half` answers the code of each.
-pub half-again : (code : ℕ) → 0x21 ≤ code → code ≤ 0x7E → oneByteReverse Fullwidth (fullwidthOf (oneByteAt Alphanumeric code)) ≡ Gl code
+pub half-again : (code : ℕ) → 0x21 ≤ code → code ≤ 0x7E → oneByteReverse Fullwidth (fullwidthOf (oneByteAt Alphanumeric code)) ≡ some code
 unfolding firstIs
 half-again code a b = code-again Fullwidth tt (fullwidthOf (oneByteAt Alphanumeric code)) code none-0 a (omega arith) (sym (fullwidth-at code))
   where

@@ -2,12 +2,11 @@
 use Prim.Native.Nat.{ℕ, _+_, _-_, _≤_, _<_}
 use mathlib.Core.Bool.{cond, _&&_}
 use mathlib.Core.List.{List, [], _∷_}
+use mathlib.Core.Option.{Option, none, some}
 use mathlib.Core.Path.{_≡_}
 use lib.Dec.{eqb, leb}
 use lib.ListN.{getD}
 use Rattle.tables_onebyte.specs.declared.Kana.{Kana}
-use Rattle.tables_onebyte.specs.declared.Code.{Code}
-use Rattle.tables_onebyte.specs.declared.Code.the-variants.{Gl, Nothing}
 
 -- a run of characters from the code 21 on, to the code last
 unfoldable pub runAt : ℕ → ℕ → ℕ → ℕ
@@ -51,6 +50,6 @@ pub record Reads (f : ℕ → ℕ) (c code : ℕ) : Type 0 where
   pub reads : f code ≡ c
 
 -- an answer for c: a code that reads as c, or none, where no code does
-abbrev pub Inverse : (ℕ → ℕ) → ℕ → Code → Type 0
-Inverse f c (Gl code) = Reads f c code
-Inverse f c Nothing = (code : ℕ) → f code ≡ c → c ≡ 0
+abbrev pub Inverse : (ℕ → ℕ) → ℕ → Option ℕ → Type 0
+Inverse f c (some code) = Reads f c code
+Inverse f c none = (code : ℕ) → f code ≡ c → c ≡ 0

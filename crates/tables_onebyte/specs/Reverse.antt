@@ -10,17 +10,22 @@ use Rattle.tables_onebyte.specs.declared.OneByteTable.the-variants.{Alph
 use Rattle.tables_onebyte.specs.declared.Code.{Code}
 use Rattle.tables_onebyte.specs.declared.Code.the-variants.{Gl, Nothing}
 
+-- the GL code that a reverse look-up answers, or none
+abbrev pub codeValue : Code → Option ℕ
+codeValue (Gl code) = some code
+codeValue Nothing = none
+
 -- the GL code of a place of a one-byte table
-unfoldable pub codeOf : Option ℕ → Code
-codeOf none = Nothing
-codeOf (some i) = Gl (i + 0x21)
+unfoldable pub codeOf : Option ℕ → Option ℕ
+codeOf none = none
+codeOf (some i) = some (i + 0x21)
 
 -- a place that reads as its number
 abbrev pub number : ℕ → ℕ → ℕ
 number i x = x
 
 -- `one_byte_reverse`; with `Fullwidth`, the alphanumeric whose full-width form is c (`candidates` of encode.rs)
-unfoldable pub oneByteReverse : OneByteTable → ℕ → Code
+unfoldable pub oneByteReverse : OneByteTable → ℕ → Option ℕ
 unfolding tableOf first codeOf
 oneByteReverse table c = codeOf (first number 94 c (tableOf table))
 
@@ -28,6 +33,6 @@ oneByteReverse table c = codeOf (first number 94 c (tableOf table))
 codes :
     oneByteReverse Hiragana 0x3042 ∷ oneByteReverse Fullwidth 0xFF21 ∷ oneByteReverse Alphanumeric 0x5C ∷ oneByteReverse Fullwidth 0xFF3C
     ∷ oneByteReverse Hiragana 0 ∷ []
-    ≡ Gl 0x22 ∷ Gl 0x41 ∷ Nothing ∷ Nothing ∷ Nothing ∷ []
+    ≡ some 0x22 ∷ some 0x41 ∷ none ∷ none ∷ none ∷ []
 unfolding oneByteReverse
 codes = refl

@@ -7,7 +7,7 @@
 ghost use mathlib.Core.Path.{_≡_};
 ghost use Prim.Native.Nat.{_≤_, _<_};
 ghost use Rattle.tables_onebyte.specs.OneByte.{fullwidthOf, oneByteAt, OneByteReads};
-ghost use Rattle.tables_onebyte.specs.Reverse.{oneByteReverse};
+ghost use Rattle.tables_onebyte.specs.Reverse.{codeValue, oneByteReverse};
 ghost use Rattle.tables_onebyte.specs.Contracts.{runAt, alphanumericAt, kanaAt, KanaFits, Inverse};
 
 /// What a code of a one-byte set reads as.
@@ -154,7 +154,7 @@ fn run_reverse(first: u32, last: u8, c: u32) -> Code
     requires { ⌜ 1 ≤ first ⌝ }
     requires { ⌜ 0x21 ≤ last ⌝ }
     requires { ⌜ last < 0x7F ⌝ }
-    ensures { λ r. ⌜ Inverse (runAt first last) c r ⌝ }
+    ensures { λ r. ⌜ Inverse (runAt first last) c (codeValue r) ⌝ }
 {
     if c < first {
         return Code::Nothing;
@@ -171,7 +171,7 @@ fn alphanumeric_reverse(first: u32, yen: u32, c: u32) -> Code
     requires { ⌜ 1 ≤ first ⌝ }
     requires { ⌜ first < 0x10000 ⌝ }
     requires { ⌜ 1 ≤ yen ⌝ }
-    ensures { λ r. ⌜ Inverse (alphanumericAt first yen) c r ⌝ }
+    ensures { λ r. ⌜ Inverse (alphanumericAt first yen) c (codeValue r) ⌝ }
 {
     if c == yen {
         return Code::Gl(0x5C);
@@ -184,7 +184,7 @@ fn alphanumeric_reverse(first: u32, yen: u32, c: u32) -> Code
 
 /// The alphanumeric whose full-width form is `c`.
 pub fn half(c: u32) -> Code
-    ensures { λ r. ⌜ r ≡ oneByteReverse OneByteTable.Fullwidth c ⌝ }
+    ensures { λ r. ⌜ codeValue r ≡ oneByteReverse OneByteTable.Fullwidth c ⌝ }
 {
     alphanumeric_reverse(0xFF01, 0xFFE5, c)
 }
@@ -192,7 +192,7 @@ pub fn half(c: u32) -> Code
 /// The code of a kana set that reads as `c`.
 fn kana_reverse(kana: Kana, c: u32) -> Code
     requires { ⌜ KanaFits kana ⌝ }
-    ensures { λ r. ⌜ Inverse (kanaAt kana) c r ⌝ }
+    ensures { λ r. ⌜ Inverse (kanaAt kana) c (codeValue r) ⌝ }
 {
     if c == kana.iteration {
         return Code::Gl(0x77);
@@ -213,7 +213,7 @@ fn kana_reverse(kana: Kana, c: u32) -> Code
 
 /// The first code of a one-byte table that reads as `c`.
 pub fn one_byte_reverse(table: OneByteTable, c: u32) -> Code
-    ensures { λ r. ⌜ r ≡ oneByteReverse table c ⌝ }
+    ensures { λ r. ⌜ codeValue r ≡ oneByteReverse table c ⌝ }
 {
     match table {
         OneByteTable::Alphanumeric => alphanumeric_reverse(0x21, 0xA5, c),

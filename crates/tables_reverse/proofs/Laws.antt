@@ -1,8 +1,8 @@
 -- What the reverse look-ups find, for the crates above: the first cell that reads as the character, and nothing only
 -- where no cell does. Assumes nothing.
-use mathlib.Core.Path.{_≡_, refl, sym, _∙_, subst}
+use mathlib.Core.Path.{_≡_, refl, sym, ap, _∙_, subst}
 use mathlib.Core.List.{List, []}
-use mathlib.Core.Option.{Option, none, some}
+use mathlib.Core.Option.{Option, none, some, Option·some-injective}
 use Prim.Native.Nat.{ℕ, _+_, _/_, _%_, _<_, _≤_}
 use native.Mathlib.Omega.{arith}
 use lib.ListN.{getD}
@@ -10,7 +10,6 @@ use Rattle.base.specs.First.{first}
 use Rattle.base.proofs.FirstLaws.{First, first-some, first-none}
 use Rattle.addsym.specs.Symbols.{symbol}
 use Rattle.tables.specs.Kanji.{place, kanjiAt}
-use Rattle.tables.specs.declared.Place.the-variants.{At, Nowhere}
 use Rattle.tables_reverse.specs.Reverse.{placeOf, kanjiPlace, symbolPlace, kanjiReverse, additionalReverse}
 use Rattle.tables_reverse.proofs.PlaceLaws.{kanji-place, symbol-place}
 
@@ -48,36 +47,36 @@ module _ (f : ℕ → ℕ → ℕ) (t : List ℕ) (read : ℕ → ℕ → ℕ) (
         earlier = λ r m hr hm hm′ h w. p .earlier (place r m) (omega arith) (link r m hr (omega arith) hm hm′ ∙ w);
       }
 
-  cell-some : (c row cell : ℕ) → placeOf (first f 8836 c t) ≡ At row cell → FirstCell read c row cell
+  cell-some : (c row cell : ℕ) → placeOf (first f 8836 c t) ≡ some (row, cell) → FirstCell read c row cell
   unfolding placeOf
   cell-some c row cell e = go (first f 8836 c t) refl e
     where
-      go : (o : Option ℕ) → first f 8836 c t ≡ o → placeOf o ≡ At row cell → FirstCell read c row cell
+      go : (o : Option ℕ) → first f 8836 c t ≡ o → placeOf o ≡ some (row, cell) → FirstCell read c row cell
       go none q z = absurd (let w : _≡_ {A = ℕ} 0 1 = cc in omega arith)
-      go (some k) q z = at-cell c row cell k (first-some f 8836 c t k q) (cc) (cc)
+      go (some k) q z = let p = Option·some-injective _ _ z in at-cell c row cell k (first-some f 8836 c t k q) (ap (λ (x : ℕ × ℕ). x .0) p) (ap (λ (x : ℕ × ℕ). x .1) p)
 
-  cell-none : (c : ℕ) → (c ≡ 0 → ⊥) → placeOf (first f 8836 c t) ≡ Nowhere → NoCell read c
+  cell-none : (c : ℕ) → (c ≡ 0 → ⊥) → placeOf (first f 8836 c t) ≡ none → NoCell read c
   unfolding placeOf
   cell-none c h e row cell a b d g w = go (first f 8836 c t) refl e
     where
-      go : (o : Option ℕ) → first f 8836 c t ≡ o → placeOf o ≡ Nowhere → ⊥
+      go : (o : Option ℕ) → first f 8836 c t ≡ o → placeOf o ≡ none → ⊥
       go none q z = first-none f 8836 c t h q (place row cell) (omega arith) (link row cell a b d g ∙ w)
       go (some k) q z = let w : _≡_ {A = ℕ} 0 1 = cc in omega arith
 
 -- `kanji_reverse` and `kanji`
-pub kanji-found : (t : List ℕ) (c row cell : ℕ) → kanjiReverse t c ≡ At row cell → FirstCell (kanjiAt t) c row cell
+pub kanji-found : (t : List ℕ) (c row cell : ℕ) → kanjiReverse t c ≡ some (row, cell) → FirstCell (kanjiAt t) c row cell
 unfolding kanjiReverse
 kanji-found t = cell-some kanjiPlace t (kanjiAt t) (λ row cell a b d e. kanji-place row cell a b d e t)
 
-pub kanji-nowhere : (t : List ℕ) (c : ℕ) → (c ≡ 0 → ⊥) → kanjiReverse t c ≡ Nowhere → NoCell (kanjiAt t) c
+pub kanji-nowhere : (t : List ℕ) (c : ℕ) → (c ≡ 0 → ⊥) → kanjiReverse t c ≡ none → NoCell (kanjiAt t) c
 unfolding kanjiReverse
 kanji-nowhere t = cell-none kanjiPlace t (kanjiAt t) (λ row cell a b d e. kanji-place row cell a b d e t)
 
 -- `additional_reverse` and `additional_symbols`
-pub additional-found : (c row cell : ℕ) → additionalReverse c ≡ At row cell → FirstCell symbol c row cell
+pub additional-found : (c row cell : ℕ) → additionalReverse c ≡ some (row, cell) → FirstCell symbol c row cell
 unfolding additionalReverse
 additional-found = cell-some symbolPlace [] symbol (λ row cell a b d e. symbol-place row cell a b d e 0)
 
-pub additional-nowhere : (c : ℕ) → (c ≡ 0 → ⊥) → additionalReverse c ≡ Nowhere → NoCell symbol c
+pub additional-nowhere : (c : ℕ) → (c ≡ 0 → ⊥) → additionalReverse c ≡ none → NoCell symbol c
 unfolding additionalReverse
 additional-nowhere = cell-none symbolPlace [] symbol (λ row cell a b d e. symbol-place row cell a b d e 0)

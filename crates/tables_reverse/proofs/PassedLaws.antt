@@ -1,14 +1,14 @@
 -- A search of the grid, cell by cell in row order: what the loops over rows and cells go by. Assumes nothing.
 use mathlib.Core.Path.{_≡_, refl, sym, ap, _∙_}
 use mathlib.Core.List.{List}
-use mathlib.Core.Option.{Option}
+use mathlib.Core.Option.{Option, some}
 use Prim.Native.Nat.{ℕ, zero, suc, _+_, _-_, _<_, _≤_}
 use native.Mathlib.Omega.{arith}
 use lib.ListN.{getD}
-use Rattle.tables.specs.Kanji.{place}
+use Rattle.tables.specs.Kanji.{placeValue, place}
 use Rattle.tables_reverse.specs.Reverse.{placeOf}
 use Rattle.tables.specs.declared.Place.{Place}
-use Rattle.tables.specs.declared.Place.the-variants.{At, Nowhere}
+use Rattle.tables.specs.declared.Place.the-variants.{Nowhere}
 use Rattle.base.proofs.FirstLaws.{onFrom, hit, miss, done}
 use Rattle.tables_reverse.proofs.PlaceLaws.{place-of}
 
@@ -71,22 +71,22 @@ module _ {f : ℕ → ℕ → ℕ} {c : ℕ} {t : List ℕ} {o : Option ℕ} {ro
           let q : place row (n + 1) + 1 ≡ place row (suc n + 1) = omega arith in
           upto n (omega arith) ∙ miss f c t 8836 (place row (n + 1)) (omega arith) (e (n + 1) (omega arith) (omega arith)) ∙ ap (onFrom f c t 8836) q
 
-  pub found-here : row < 95 → cell < 95 → f (place row cell) (getD t (place row cell) 0) ≡ c → At row cell ≡ placeOf o
+  pub found-here : row < 95 → cell < 95 → f (place row cell) (getD t (place row cell) 0) ≡ c → some (row, cell) ≡ placeOf o
   found-here a b e =
       let r = p .row-from in
       let k = p .cell-from in
       sym (place-of row cell r (omega arith) k (omega arith))
       ∙ ap placeOf (sym (hit f c t 8836 (place row cell) (omega arith) e) ∙ p .same)
 
-  pub found-nowhere : 95 ≤ row → found ≡ placeOf o
+  pub found-nowhere : 95 ≤ row → placeValue found ≡ placeOf o
   unfolding placeOf
   found-nowhere a =
       let k = p .cell-from in
-      p .nowhere ∙ ap placeOf (sym (done f c t 8836 (place row cell) (omega arith)) ∙ p .same)
+      ap placeValue (p .nowhere) ∙ ap placeOf (sym (done f c t 8836 (place row cell) (omega arith)) ∙ p .same)
 
 -- none of the rows from one on has a cell that reads as c
 pub past-rows : {f : ℕ → ℕ → ℕ} {c : ℕ} {t : List ℕ} {o : Option ℕ} {found : Place} (n row : ℕ) → row + n ≡ 95 → Passed f c t o row 1 found
-    → ((r k : ℕ) → row ≤ r → r ≤ 94 → 1 ≤ k → k ≤ 94 → f (place r k) (getD t (place r k) 0) ≡ c → ⊥) → found ≡ placeOf o
+    → ((r k : ℕ) → row ≤ r → r ≤ 94 → 1 ≤ k → k ≤ 94 → f (place r k) (getD t (place r k) 0) ≡ c → ⊥) → placeValue found ≡ placeOf o
 past-rows zero row h p e = found-nowhere p (omega arith)
 past-rows (suc n) row h p e =
     past-rows n (row + 1) (omega arith) (past-row p (omega arith) refl (λ k a b. e row k (omega arith) (omega arith) a b))

@@ -8,7 +8,6 @@ use native.Mathlib.Omega.{arith}
 use lib.ListN.{getD}
 use Rattle.addsym.specs.Symbols.{symbol}
 use Rattle.tables.specs.Kanji.{place, gap, tableAt, kanjiSymbol, kanjiOf, kanjiAt}
-use Rattle.tables.specs.declared.Place.the-variants.{At}
 use Rattle.tables.proofs.KanjiLaws.{on-grid, rows-90-94}
 use Rattle.tables_reverse.specs.Reverse.{kanjiPlace, symbolPlace, placeOf}
 
@@ -32,9 +31,9 @@ module _ (row cell : ℕ) (a : 1 ≤ row) (b : row ≤ 94) (c : 1 ≤ cell) (d :
   symbol-place x =
       ap (λ (r : ℕ). symbol r (place row cell % 94 + 1)) (row-of row cell a c d) ∙ ap (symbol row) (cell-of row cell c d)
 
-  pub place-of : placeOf (some (place row cell)) ≡ At row cell
+  pub place-of : placeOf (some (place row cell)) ≡ some (row, cell)
   unfolding placeOf
-  place-of = ap (λ (r : ℕ). At r (place row cell % 94 + 1)) (row-of row cell a c d) ∙ ap (At row) (cell-of row cell c d)
+  place-of = λ i. some (row-of row cell a c d i, cell-of row cell c d i)
 
 -- in rows 90 to 94 it is the symbol's, but for the gaps
 pub symbol-cell : (t : List ℕ) (row cell : ℕ) → 90 ≤ row → row ≤ 94 → 1 ≤ cell → cell ≤ 94 → kanjiPlace (place row cell) (getD t (place row cell) 0) ≡ kanjiSymbol row cell

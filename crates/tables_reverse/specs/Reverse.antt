@@ -7,13 +7,11 @@ use lib.ListN.{replicate}
 use Rattle.base.specs.First.{first}
 use Rattle.addsym.specs.Symbols.{symbol}
 use Rattle.tables.specs.Kanji.{kanjiOf}
-use Rattle.tables.specs.declared.Place.{Place}
-use Rattle.tables.specs.declared.Place.the-variants.{At, Nowhere}
 
 -- the row and the cell of a place of a two-byte set
-unfoldable pub placeOf : Option ℕ → Place
-placeOf none = Nowhere
-placeOf (some i) = At (i / 94 + 1) (i % 94 + 1)
+unfoldable pub placeOf : Option ℕ → Option (ℕ × ℕ)
+placeOf none = none
+placeOf (some i) = some (i / 94 + 1, i % 94 + 1)
 
 -- `kanji` at a place in row order, the lent table having x there
 unfoldable pub kanjiPlace : ℕ → ℕ → ℕ
@@ -21,7 +19,7 @@ unfolding kanjiOf
 kanjiPlace i x = kanjiOf (i / 94 + 1) (i % 94 + 1) x
 
 -- "the first cell in row order that `kanji` reads as the character"
-unfoldable pub kanjiReverse : List ℕ → ℕ → Place
+unfoldable pub kanjiReverse : List ℕ → ℕ → Option (ℕ × ℕ)
 unfolding kanjiPlace first placeOf
 kanjiReverse t c = placeOf (first kanjiPlace 8836 c t)
 
@@ -31,7 +29,7 @@ unfolding symbol
 symbolPlace i x = symbol (i / 94 + 1) (i % 94 + 1)
 
 -- `additional_reverse`: the first cell in row order of the additional symbols set
-unfoldable pub additionalReverse : ℕ → Place
+unfoldable pub additionalReverse : ℕ → Option (ℕ × ℕ)
 unfolding symbolPlace first placeOf
 additionalReverse c = placeOf (first symbolPlace 8836 c [])
 
@@ -40,6 +38,6 @@ additionalReverse c = placeOf (first symbolPlace 8836 c [])
 cells :
     kanjiReverse (replicate 8836 0) 0xAC ∷ kanjiReverse (replicate 8836 0) 0x20DD ∷ kanjiReverse (replicate 8836 0) 0x5E74
     ∷ kanjiReverse (replicate 8836 0) 0x1F214 ∷ additionalReverse 0x1F214 ∷ kanjiReverse (replicate 8836 0) 0x41 ∷ additionalReverse 0 ∷ []
-    ≡ At 2 44 ∷ At 2 94 ∷ At 92 7 ∷ At 93 30 ∷ At 90 58 ∷ Nowhere ∷ Nowhere ∷ []
+    ≡ some (2, 44) ∷ some (2, 94) ∷ some (92, 7) ∷ some (93, 30) ∷ some (90, 58) ∷ none ∷ none ∷ []
 unfolding kanjiReverse additionalReverse
 cells = refl

@@ -6,7 +6,7 @@ ghost use Prim.Native.Nat.{ℕ, _≤_, _<_};
 ghost use lib.ListN.{length, getD, drop};
 ghost use Rattle.base.specs.First.{firstFrom};
 ghost use Rattle.addsym.specs.Symbols.{symbol};
-ghost use Rattle.tables.specs.Kanji.{tableAt, kanjiAt};
+ghost use Rattle.tables.specs.Kanji.{placeValue, tableAt, kanjiAt};
 ghost use Rattle.tables_reverse.specs.Reverse.{kanjiReverse, additionalReverse, placeOf, kanjiPlace};
 use tables::Place;
 
@@ -87,7 +87,7 @@ fn is_no_symbol(c: u32) -> bool
 /// The first cell in row order of rows 90 to 94 that `kanji` reads as `c`.
 fn kanji_symbol_reverse(c: u32) -> Place
     requires { ⌜ (c ≡ 0 → ⊥) ⌝ }
-    ensures { λ r. ⌜ ((t : List ℕ) → r ≡ placeOf (firstFrom kanjiPlace c 470 8366 (drop 8366 t))) ⌝ }
+    ensures { λ r. ⌜ ((t : List ℕ) → placeValue r ≡ placeOf (firstFrom kanjiPlace c 470 8366 (drop 8366 t))) ⌝ }
 {
     if is_no_symbol(c) {
         return Place::Nowhere;
@@ -115,7 +115,7 @@ fn kanji_symbol_reverse(c: u32) -> Place
 
 /// The first cell in row order that `kanji` reads as `c`.
 pub fn kanji_reverse(t: &[u16], c: u32) -> Place
-    ensures { λ r. ⌜ r ≡ kanjiReverse (now (t .entry)) c ⌝ }
+    ensures { λ r. ⌜ placeValue r ≡ kanjiReverse (now (t .entry)) c ⌝ }
 {
     if c == 0 {
         return Place::Nowhere;
@@ -146,7 +146,7 @@ pub fn kanji_reverse(t: &[u16], c: u32) -> Place
 
 /// The first cell in row order that `additional_symbols` reads as `c`. Rows 1 to 84 have none.
 pub fn additional_reverse(c: u32) -> Place
-    ensures { λ r. ⌜ r ≡ additionalReverse c ⌝ }
+    ensures { λ r. ⌜ placeValue r ≡ additionalReverse c ⌝ }
 {
     if c == 0 {
         return Place::Nowhere;

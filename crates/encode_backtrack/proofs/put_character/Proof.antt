@@ -4,6 +4,7 @@ use mathlib.Core.Path.{ap, _∙_}
 use native.Mathlib.Omega.{arith}
 use lib.ListN.{getD}
 use lib.Seq.{sets}
+use Rattle.encode_states.specs.Packed.{sizeOf}
 use Rattle.encode_candidates.specs.Packed.{FitsAt}
 use Rattle.encode_backtrack.proofs.Character.{written-none, written-plain, written-graphic}
 use borrow.Author.Needs.{needs}
@@ -42,7 +43,7 @@ returns-2 c =
     let at-put-plain = c .before .before in
     let at-if2 = at-put-plain .before .before in
     let at-start = at-if2 .before .before .before .before .before in
-    at-put-plain .put-plain .ensures (getD (at-start .args .t3 .sizes) (at-start .args .how % 16) 0) .written ∙
+    at-put-plain .put-plain .ensures (sizeOf (getD (at-start .args .t3 .sizes) (at-start .args .how % 16) 0)) .written ∙
     ap (sets (at-start .args .coding .now) (at-start .args .at)) (written-plain (at-start .args .t3) (at-start .args .how) (omega arith) (at-if2 .if2 .taken))
 
 cast-put-graphic : tie.Need-cast-put-graphic
@@ -64,7 +65,7 @@ returns-3 c =
     let at-if2 = at-put-graphic .before .before in
     let at-start = at-if2 .before .before .before .before .before in
     let a = at-start .args in
-    at-put-graphic .put-graphic .ensures (getD (a .t3 .sizes) (a .how % 16) 0) .written ∙
+    at-put-graphic .put-graphic .ensures (sizeOf (getD (a .t3 .sizes) (a .how % 16) 0)) .written ∙
     ap (sets (a .coding .now) (a .at)) (written-graphic (a .t3) (a .how) (omega arith) (at-if2 .if2 .left))
 
 pub put-character-spec : {M : Type 1} → statement M

@@ -3,7 +3,7 @@ use mathlib.Core.Path.{_≡_, refl, sym, ap, _∙_}
 use native.Mathlib.Omega.{arith}
 use borrow.Author.Needs.{needs}
 use Rattle.tables.specs.Kanji.{nonSpacing, cellWith}
-use Rattle.encode_states.specs.Packed.{setOf}
+use Rattle.encode_states.specs.Packed.{setOf, sizeOf}
 use Rattle.encode_candidates.specs.Packed.{packed, candOf}
 use Rattle.encode_candidates.proofs.Adding.{cell-more, empty, alone}
 use Rattle.encode_candidates.proofs.Cases.{mark-grid, is-mark, no-mark, at-newline, at-mark, at-letter}
@@ -38,7 +38,7 @@ own : (c : tie.After-pack) → c .pack .result ≡ packed (cellWith nonSpacing (
 own c = c .pack .ensures ∙ ap packed (c .before .mark-cell .ensures)
 
 returns-2 : tie.Need-returns-2
-unfolding setOf
+unfolding setOf sizeOf
 returns-2 c =
     let at-if2 = c .before in
     let at-place = at-if2 .before in

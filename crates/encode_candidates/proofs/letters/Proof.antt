@@ -3,7 +3,7 @@ use Prim.Native.Nat.{_≤_}
 use native.Mathlib.Omega.{arith}
 use Rattle.tables_reverse.specs.Reverse.{kanjiReverse, additionalReverse}
 use Rattle.coding.specs.Candidates.{letters}
-use Rattle.encode_states.specs.Packed.{setOf}
+use Rattle.encode_states.specs.Packed.{setOf, sizeOf}
 use Rattle.encode_candidates.proofs.Adding.{then, cell-more, empty, alone, kanji-grid, symbol-grid}
 use Rattle.encode_candidates.proofs.letters.Statement.{statement}
 use Rattle.encode_candidates.proofs.letters.Tie as tie
@@ -58,7 +58,7 @@ with-space-requires : tie.Need-with-space-requires
 with-space-requires c κs = (omega (arith, count7 c), c .with-code4 .ensures .good)
 
 returns : tie.Need-returns
-unfolding letters setOf
+unfolding letters setOf sizeOf
 returns c =
     let at-with-code4 = c .before in
     let at-with-cell2 = at-with-code4 .before in

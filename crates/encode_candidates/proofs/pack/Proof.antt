@@ -1,6 +1,8 @@
 -- `encode_candidates::pack` meets its contract. Assumes nothing.
 use borrow.Author.Needs.{needs}
 use mathlib.Core.Path.{sym, ap}
+use Rattle.tables.specs.Kanji.{placeValue}
+use Rattle.tables.specs.declared.Place.{Place}
 use Rattle.encode_candidates.specs.Packed.{packed}
 use Rattle.encode_candidates.proofs.pack.Statement.{statement}
 use Rattle.encode_candidates.proofs.pack.Tie as tie
@@ -25,11 +27,11 @@ enum-told c = search needs
 
 returns : tie.Need-returns
 unfolding packed
-returns c = ap packed (sym (c .before .p .given .1))
+returns c = ap (λ (p : Place). packed (placeValue p)) (sym (c .before .p .given .1))
 
 returns-2 : tie.Need-returns-2
 unfolding packed
-returns-2 c = ap packed (sym (c .enum-told .given .1))
+returns-2 c = ap (λ (p : Place). packed (placeValue p)) (sym (c .enum-told .given .1))
 
 pub pack-spec : {M : Type 1} → statement M
 pack-spec =

@@ -4,7 +4,6 @@ use mathlib.Core.Bool.{Bool, true, false}
 use Prim.Native.Nat.{ℕ, zero, suc, _+_, _-_, _<_, _≤_}
 use native.Mathlib.Nat.{zero-add}
 use native.Mathlib.Omega.{arith}
-use borrow.Author.Needs.{needs}
 use lib.Dec.{ltb}
 use lib.ListN.{getD}
 use borrow.Author.Tests.{ltb-true, ltb-false}
@@ -28,9 +27,19 @@ unfolding candsOf
 two k zero e n t = absurd (n refl)
 two k (suc i) e n t = sym (ap (λ (m : ℕ). shortest (candsFrom k 0 m)) e ∙ is-two k 0 i (λ j h. t j (omega arith)))
 
-byte : (k : Cands) (i : ℕ) → getD (k .codes) i 0 < 256 → codeLength (candAt k i) ≡ 1
-unfolding candAt
-byte k i h = of-byte (getD (k .sets) i 0) (getD (k .codes) i 0) (getD (k .sizes) i 0) h
+-- the length of a candidate, by what the loop asks of it
+module _ (k : Cands) (i : ℕ) where
+  no-set : getD (k .sets) i 0 ≡ 7 → codeLength (candAt k i) ≡ 1
+  unfolding candAt
+  no-set = without-set (getD (k .sets) i 0) (getD (k .codes) i 0) (getD (k .sizes) i 0)
+
+  byte : getD (k .codes) i 0 < 256 → codeLength (candAt k i) ≡ 1
+  unfolding candAt
+  byte = of-byte (getD (k .sets) i 0) (getD (k .codes) i 0) (getD (k .sizes) i 0)
+
+  bytes : (getD (k .sets) i 0 ≡ 7 → ⊥) → 256 ≤ getD (k .codes) i 0 → codeLength (candAt k i) ≡ 2
+  unfolding candAt
+  bytes = of-bytes (getD (k .sets) i 0) (getD (k .codes) i 0) (getD (k .sizes) i 0)
 
 more : (k : Cands) (i : ℕ) → Twos k i → codeLength (candAt k i) ≡ 2 → Twos k (i + 1)
 more k i t e j h = go (ltb j i) refl
@@ -52,10 +61,9 @@ element-copy-out-if1 : tie.Need-element-copy-out-if1 Inv-loop μ-loop
 element-copy-out-if1 c = omega (arith, c .before .before .pre)
 
 returns : tie.Need-returns Inv-loop μ-loop
-unfolding candAt
 returns c =
     let l = c .before .before .before in
-    one (l .before .args .t1) (l .loop .i) (c .before .before .loop-test .taken) (without-set _ _ _ (c .if1 .taken))
+    one (l .before .args .t1) (l .loop .i) (c .before .before .loop-test .taken) (no-set (l .before .args .t1) (l .loop .i) (c .if1 .taken))
 
 mul-if2 : tie.Need-mul-if2 Inv-loop μ-loop
 mul-if2 c = record { fits = omega (arith, c .before .before .before .before .pre) }
@@ -78,12 +86,11 @@ loop-less : tie.Need-loop-less Inv-loop μ-loop
 loop-less c = omega arith
 
 loop-again : tie.Need-loop-again Inv-loop μ-loop
-unfolding candAt
 loop-again c =
     let at-if1 = c .before .before in
     let l = at-if1 .before .before .before in
     let k = l .before .args .t1 in
-    (omega arith, more k (l .loop .i) (l .loop .inv .1) (of-bytes _ _ _ (at-if1 .if1 .left) (c .if2 .left)))
+    (omega arith, more k (l .loop .i) (l .loop .inv .1) (bytes k (l .loop .i) (at-if1 .if1 .left) (c .if2 .left)))
 
 returns-3 : tie.Need-returns-3 Inv-loop μ-loop
 unfolding candsOf

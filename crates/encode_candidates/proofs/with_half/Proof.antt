@@ -3,7 +3,7 @@ use borrow.Author.Needs.{needs}
 use mathlib.Core.Path.{sym, ap}
 use mathlib.Core.Bool.{Bool}
 use Rattle.coding.specs.Candidates.{fullwidth}
-use Rattle.encode_states.specs.Packed.{setOf}
+use Rattle.encode_states.specs.Packed.{setOf, sizeOf}
 use Rattle.encode_candidates.proofs.Adding.{likewise, none-more}
 use Rattle.encode_candidates.proofs.with_half.Statement.{statement}
 use Rattle.encode_candidates.proofs.with_half.Tie as tie
@@ -16,7 +16,7 @@ with-code-requires : tie.Need-with-code-requires
 with-code-requires c κs = search needs
 
 returns-2 : tie.Need-returns-2
-unfolding fullwidth setOf
+unfolding fullwidth setOf sizeOf
 returns-2 c = likewise (c .with-code .ensures) (ap (λ (a : Bool). fullwidth a (c .before .before .args .c)) (sym (c .before .if1 .left)))
 
 pub with-half-spec : {M : Type 1} → statement M

@@ -1,12 +1,12 @@
 -- `encode_candidates::with_space` meets its contract. Assumes nothing.
 use borrow.Author.Needs.{needs}
-use mathlib.Core.Path.{_≡_, refl, sym}
+use mathlib.Core.Path.{_≡_}
 use mathlib.Core.Bool.{Bool, true, false, cond}
 use mathlib.Core.List.{List, [], _∷_, _++_}
 use Prim.Native.Nat.{ℕ}
 use lib.Dec.{eqb}
-use borrow.Author.Tests.{eq-eqb, ne-eqb}
-use Rattle.coding.specs.Candidates.{Cand, plain}
+use borrow.Author.Tests.{ne-eqb}
+use Rattle.coding.specs.Candidates.{narrow, wide, Cand, plain}
 use Rattle.base.specs.Lists.{when}
 use Rattle.encode_candidates.specs.Packed.{candOf}
 use Rattle.encode_candidates.proofs.Adding.{likewise, none-more}
@@ -14,17 +14,17 @@ use Rattle.encode_candidates.proofs.with_space.Statement.{statement}
 use Rattle.encode_candidates.proofs.with_space.Tie as tie
 
 abbrev spaces : ℕ → Bool → List Cand
-spaces c annex = when (eqb c 0x20) (plain 0x20 1) ++ cond annex [] (when (eqb c 0x3000) (plain 0x20 2))
+spaces c annex = when (eqb c 0x20) (plain 0x20 narrow) ++ cond annex [] (when (eqb c 0x3000) (plain 0x20 wide))
 
-narrow : (c : ℕ) (annex : Bool) → c ≡ 0x20 → plain 0x20 1 ∷ [] ≡ spaces c annex
-narrow c true e = rw e
-narrow c false e = rw e
+narrow-space : (c : ℕ) (annex : Bool) → c ≡ 0x20 → plain 0x20 narrow ∷ [] ≡ spaces c annex
+narrow-space c true e = rw e
+narrow-space c false e = rw e
 
 in-annex : (c : ℕ) (annex : Bool) → (c ≡ 0x20 → ⊥) → annex ≡ true → [] ≡ spaces c annex
 in-annex c annex n e = rw (ne-eqb c 0x20 n, e)
 
-wide : (c : ℕ) (annex : Bool) → annex ≡ false → c ≡ 0x3000 → plain 0x20 2 ∷ [] ≡ spaces c annex
-wide c annex a e = rw (e, a)
+wide-space : (c : ℕ) (annex : Bool) → annex ≡ false → c ≡ 0x3000 → plain 0x20 wide ∷ [] ≡ spaces c annex
+wide-space c annex a e = rw (e, a)
 
 no-space : (c : ℕ) (annex : Bool) → (c ≡ 0x20 → ⊥) → annex ≡ false → (c ≡ 0x3000 → ⊥) → [] ≡ spaces c annex
 no-space c annex n a m = rw (ne-eqb c 0x20 n, a, ne-eqb c 0x3000 m)
@@ -34,7 +34,7 @@ with-requires c κs = search needs
 
 returns : tie.Need-returns
 unfolding candOf
-returns c = let z = c .before .before in likewise (c .with .ensures) (narrow (z .args .c) (z .args .annex) (c .before .if1 .taken))
+returns c = let z = c .before .before in likewise (c .with .ensures) (narrow-space (z .args .c) (z .args .annex) (c .before .if1 .taken))
 
 returns-2 : tie.Need-returns-2
 returns-2 c =
@@ -48,7 +48,7 @@ returns-3 : tie.Need-returns-3
 unfolding candOf
 returns-3 c =
     let z = c .before .before .before .before in
-    likewise (c .with2 .ensures) (wide (z .args .c) (z .args .annex) (c .before .before .if2 .left) (c .before .if3 .taken))
+    likewise (c .with2 .ensures) (wide-space (z .args .c) (z .args .annex) (c .before .before .if2 .left) (c .before .if3 .taken))
 
 returns-4 : tie.Need-returns-4
 returns-4 c =

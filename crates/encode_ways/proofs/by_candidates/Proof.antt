@@ -6,7 +6,7 @@ use native.Mathlib.Decide.{decLt}
 use native.Mathlib.Omega.{arith}
 use borrow.Author.Needs.{needs}
 use lib.ListN.{length, getD, take, drop, replicate}
-use Rattle.coding.specs.Candidates.{Cand, plain}
+use Rattle.coding.specs.Candidates.{either, Cand, plain}
 use Rattle.coding.specs.Search.{Node, node, pushAll, byCand, byCands}
 use Rattle.encode_states.specs.Packed.{unpack}
 use Rattle.encode_layer.specs.Layer.{bounds, Changes}
@@ -111,9 +111,9 @@ loop-again c =
       q .before ∙ at-loop .loop .inv .3,
       λ cs most n m i h.
           let lt : k < length cs = omega (arith, m .many) in
-          changes-as _ _ (λ l. ap (λ (j : ℕ). pushAll (byCands n (a .i) l (take k cs)) (byCand n j (getD cs k (plain 0 0)))) (place-link (a .i) k (at-start .pre .3)) ∙
+          changes-as _ _ (λ l. ap (λ (j : ℕ). pushAll (byCands n (a .i) l (take k cs)) (byCand n j (getD cs k (plain 0 either)))) (place-link (a .i) k (at-start .pre .3)) ∙
           one-more n (a .i) cs k lt l)
-          (then _ _ (at-loop .loop .inv .4 cs most n m i h) (at-by-candidate .by-candidate .ensures cs (getD cs k (plain 0 0)) (drop (suc k) cs) most n
+          (then _ _ (at-loop .loop .inv .4 cs most n m i h) (at-by-candidate .by-candidate .ensures cs (getD cs k (plain 0 either)) (drop (suc k) cs) most n
           (at-link cs (a .i) k (at-start .pre .3) lt) (rw (at-wide .wide .ensures, at-wide2 .wide2 .ensures, at-code-length .code-length .ensures)
           (m .each k (omega arith))) i h)),
     )

@@ -1,23 +1,22 @@
 -- `tables::mark_cell` meets its contract. Assumes nothing.
-use mathlib.Core.Path.{_≡_, subst, sym, ap, _∙_}
+use mathlib.Core.Path.{_≡_, subst, ap, _∙_}
+use mathlib.Core.Option.{none, some}
 use Prim.Native.Nat.{ℕ, _<_, _≤_}
-use native.Mathlib.Omega.{arith}
 use borrow.Author.Needs.{needs}
 use lib.ListN.{getD}
 use Rattle.tables.specs.Kanji.{nonSpacing, cellWith}
 use Rattle.tables.specs.Contracts.{placeWith}
-use Rattle.tables.specs.declared.Place.the-variants.{At, Nowhere}
 use Rattle.tables.proofs.CellLaws.{outside, cell-there, cell-nowhere}
 use Rattle.tables.proofs.mark_cell.Statement.{statement}
 use Rattle.tables.proofs.mark_cell.Tie as tie
 
 -- the cell at the place found
-there : (c i : ℕ) → i ≡ placeWith nonSpacing c → i < 7 → At (getD nonSpacing i outside .row) (getD nonSpacing i outside .cell) ≡ cellWith nonSpacing c
+there : (c i : ℕ) → i ≡ placeWith nonSpacing c → i < 7 → some (getD nonSpacing i outside .row, getD nonSpacing i outside .cell) ≡ cellWith nonSpacing c
 there c i e h =
-    ap (λ (n : ℕ). At (getD nonSpacing n outside .row) (getD nonSpacing n outside .cell)) e
+    ap (λ (n : ℕ). some (getD nonSpacing n outside .row, getD nonSpacing n outside .cell)) e
     ∙ cell-there nonSpacing c (subst (λ (n : ℕ). n < 7) e h)
 
-nowhere : (c i : ℕ) → i ≡ placeWith nonSpacing c → 7 ≤ i → Nowhere ≡ cellWith nonSpacing c
+nowhere : (c i : ℕ) → i ≡ placeWith nonSpacing c → 7 ≤ i → none ≡ cellWith nonSpacing c
 nowhere c i e h = cell-nowhere nonSpacing c (subst (λ (n : ℕ). 7 ≤ n) e h)
 
 place-with-requires : tie.Need-place-with-requires

@@ -1,6 +1,7 @@
 -- `tables_onebyte::alphanumeric_reverse` meets its contract: a run, but for 5C. Assumes nothing.
 use native.Mathlib.Omega.{arith}
 use borrow.Author.Needs.{needs}
+use Rattle.tables_onebyte.specs.Reverse.{codeValue}
 use Rattle.tables_onebyte.specs.Contracts.{alphanumericAt}
 use Rattle.tables_onebyte.proofs.CodeLaws.{key, no-solidus, alphanumeric-run}
 use Rattle.tables_onebyte.proofs.alphanumeric_reverse.Statement.{statement}
@@ -26,7 +27,7 @@ run-reverse-requires c κs = search needs
 returns-3 : tie.Need-returns-3
 returns-3 c =
     let a = c .before .before .before .args in
-    alphanumeric-run (a .first) (a .yen) (a .c) (c .before .before .if1 .left) (c .before .if2 .left) (c .run-reverse .result) (c .run-reverse .ensures)
+    alphanumeric-run (a .first) (a .yen) (a .c) (c .before .before .if1 .left) (c .before .if2 .left) (codeValue (c .run-reverse .result)) (c .run-reverse .ensures)
 
 pub alphanumeric-reverse-spec : {M : Type 1} → statement M
 alphanumeric-reverse-spec =

@@ -4,6 +4,7 @@ use Prim.Native.Nat.{_+_}
 use native.Mathlib.Omega.{arith}
 use borrow.Author.Needs.{needs}
 use borrow.Author.Tests.{ne-eqb}
+use Rattle.tables_onebyte.specs.Reverse.{codeValue}
 use Rattle.tables_onebyte.specs.Contracts.{kanaAt}
 use Rattle.tables_onebyte.proofs.CodeLaws.{key, no-sign, kana-run}
 use Rattle.tables_onebyte.proofs.kana_reverse.Statement.{statement}
@@ -90,7 +91,7 @@ returns-9 c =
       ne-eqb 0x3001 x (λ e. n .0 .1 (sym e)),
       ne-eqb 0x30FB x (λ e. n .1 (sym e)),
     ) tt))
-    (c .run-reverse .result)
+    (codeValue (c .run-reverse .result))
     (c .run-reverse .ensures)
 
 pub kana-reverse-spec : {M : Type 1} → statement M

@@ -1,6 +1,7 @@
 -- `tables_reverse::additional_reverse` meets its contract. The invariant: nothing is found before the cell. Assumes nothing.
 use mathlib.Core.Path.{_≡_, refl, sym, ap, _∙_}
 use mathlib.Core.List.{[]}
+use mathlib.Core.Option.{none}
 use Prim.Native.Nat.{ℕ, _-_}
 use native.Mathlib.Omega.{arith}
 use borrow.Author.Needs.{needs}
@@ -8,7 +9,6 @@ use borrow.Author.Tests.{not-true}
 use Rattle.addsym.specs.Symbols.{symbol}
 use Rattle.base.specs.First.{firstFrom}
 use Rattle.tables_reverse.specs.Reverse.{symbolPlace, additionalReverse, placeOf}
-use Rattle.tables.specs.declared.Place.the-variants.{Nowhere}
 use Rattle.base.proofs.FirstLaws.{first-char, first-zero}
 use Rattle.tables_reverse.proofs.PlaceLaws.{symbol-place}
 use Rattle.tables_reverse.proofs.RowLaws.{no-cell}
@@ -18,7 +18,7 @@ use Rattle.tables_reverse.proofs.additional_reverse.Statement.{statemen
 use Rattle.tables_reverse.proofs.additional_reverse.Tie as tie
 
 -- a character that no cell reads as
-nowhere : (c : ℕ) → (c ≡ 0 → ⊥) → ((row cell : ℕ) → symbol row cell ≡ c → ⊥) → Nowhere ≡ additionalReverse c
+nowhere : (c : ℕ) → (c ≡ 0 → ⊥) → ((row cell : ℕ) → symbol row cell ≡ c → ⊥) → none ≡ additionalReverse c
 unfolding additionalReverse
 nowhere c h n =
     past-rows 10 85 refl (from-85 c h) (λ r k a b d e q. n r k (sym (symbol-place r k (omega arith) b d e 0) ∙ q))
