@@ -1,6 +1,6 @@
 -- The coding call: the questions in order, and what it leaves in every element of buffer and store. 01, "The questions, put in this order".
-use Prim.Native.Nat.{ℕ, zero, suc, _/_}
-use mathlib.Core.Bool.{Bool, true, false, cond}
+use Prim.Native.Nat.{ℕ, zero, suc}
+use mathlib.Core.Bool.{false, cond}
 use mathlib.Core.List.{List, [], _∷_}
 use mathlib.Core.Option.{Option, none, some}
 use lib.Dec.{eqb, leb}
@@ -11,8 +11,9 @@ use Rattle.utf8.specs.Utf8.{firstFault}
 use Rattle.utf8.specs.declared.Text.{Text}
 use Rattle.utf8.specs.declared.Text.the-variants.{WellFormed, FaultAt}
 use Rattle.coding.specs.Tokens.{Token, tokens, inOrder, chars, baseless}
-use Rattle.coding.specs.Candidates.{Cand, candidates, candidatesOf}
+use Rattle.coding.specs.Candidates.{Cand, candidatesOf}
 use Rattle.coding.specs.Search.{Coded, code}
+use Rattle.coding.specs.Store.{needs, fit}
 
 -- what the caller lends: the cell table, the two options, the text, and how many numbers and bytes the store and the buffer hold
 pub record Lent : Type 0 where
@@ -32,7 +33,7 @@ unfoldable pub choices : Lent → List (List Cand)
 unfolding candidatesOf ordering chars
 choices c = candidatesOf (c .cells) (eqb (c .width) 1) (chars (ordering c))
 
--- the coding to which the search leads, with its gap and the states that it needs
+-- the coding to which the search leads, with its gap
 unfoldable pub coding : Lent → Coded
 unfolding code choices
 coding c = code (choices c) (c .initial)
@@ -56,15 +57,15 @@ refuse number place = record { number = number; place = place }
 unfoldable pub question8 : ℕ → Coded → Refusal
 question8 room k = cond (leb (length (k .out)) room) (refuse 0 0) (refuse 8 0)
 
--- "If no, 7": the states fit the store, "four to a state, a remainder unused"
-unfoldable pub question7 : ℕ → ℕ → Coded → Refusal
-unfolding question8
-question7 storeRoom room k = cond (leb (k .states) (storeRoom / 4)) (question8 room k) (refuse 7 0)
+-- "If no, 7": at each layer the states fit the store
+unfoldable pub question7 : Lent → Refusal
+unfolding fit needs choices question8 coding
+question7 c = cond (fit (c .storeRoom) (needs (choices c) (c .initial))) (question8 (c .codingRoom) (coding c)) (refuse 7 0)
 
 -- "If no, 6 at the first without"
 unfoldable pub question6 : Lent → Refusal
-unfolding without ordering choices question7 coding
-question6 c = elim (without (ordering c) (choices c)) [ some p ↦ refuse 6 p | none ↦ question7 (c .storeRoom) (c .codingRoom) (coding c) ]
+unfolding without ordering choices question7
+question6 c = elim (without (ordering c) (choices c)) [ some p ↦ refuse 6 p | none ↦ question7 c ]
 
 -- "If no, 5 at the first such mark, even behind a character of 6"
 unfoldable pub question5 : Lent → Refusal

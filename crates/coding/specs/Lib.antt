@@ -3,6 +3,7 @@ pub mod Candidates
 pub mod Tokens
 pub mod Ways
 pub mod Search
+pub mod Store
 pub mod Admissible
 pub mod Call
 pub mod Arrangements

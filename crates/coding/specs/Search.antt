@@ -1,6 +1,6 @@
 -- The search: 01, "The search, in short", and encode.rs, `encode_with`.
-use Prim.Native.Nat.{ℕ, zero, suc, _+_, _-_, min, max}
-use mathlib.Core.Bool.{Bool, true, false, cond}
+use Prim.Native.Nat.{ℕ, zero, suc, _+_, _-_, min}
+use mathlib.Core.Bool.{true, false, cond}
 use mathlib.Core.List.{List, [], _∷_, _++_, map}
 use lib.Dec.{eqb, leb}
 use lib.ListN.{length}
@@ -73,12 +73,15 @@ least (n ∷ []) = n .cost
 least (n ∷ m ∷ ns) = min (n .cost) (least (m ∷ ns))
 
 -- "each of its states that costs over the layer's least cost + 10 is dropped and the others are kept"
+abbrev pub top : List Node → ℕ
+top full = least full + 10
+
 unfoldable pub keep : ℕ → List Node → List Node
 keep most [] = []
 keep most (n ∷ ns) = elim (leb (n .cost) most) [ true ↦ n ∷ keep most ns | false ↦ keep most ns ]
 
--- "the least, over all dropped states, of the state's cost plus the shortest candidate code of each character after it": 0 where nothing was
--- dropped, else one more than it
+-- "the least, over all dropped states, of the state's cost plus the shortest candidate code of each character after it": kept as 0 where nothing
+-- was dropped, else as one more than it
 unfoldable pub lower : ℕ → ℕ → ℕ
 lower zero b = suc b
 lower (suc a) b = suc (min a b)
@@ -88,13 +91,10 @@ unfolding lower
 floorOf most rest f [] = f
 floorOf most rest f (n ∷ ns) = floorOf most rest (cond (leb (n .cost) most) f (lower f (n .cost + rest))) ns
 
--- where the search stands: the kept layers, the newest first; the floor; the states kept in them; and the most states that any layer needs, "the
--- states kept in all layers before it, the start included, plus those reached in it before dropping"
+-- where the search stands: the kept layers, the newest first; and the floor of what was dropped so far, 0 for none, else one more than it
 pub record Run : Type 0 where
   pub layers : List (List Node)
   pub floor : ℕ
-  pub kept : ℕ
-  pub most : ℕ
 
 unfoldable pub newest : List (List Node) → List Node
 newest [] = []
@@ -103,15 +103,15 @@ newest (l ∷ ls) = l
 -- a layer that was reached, before the characters with the candidates css
 unfoldable pub layer : Run → List Node → List (List Cand) → Run
 unfolding least keep floorOf restOf
-layer r full css =
-    let top : ℕ = least full + 10 in
-    let kept : List Node = keep top full in
-    record { layers = kept ∷ r .layers; floor = floorOf top (restOf css) (r .floor) full; kept = r .kept + length kept; most = max (r .most) (r .kept + length full) }
+layer r full css = record { layers = keep (top full) full ∷ r .layers; floor = floorOf (top full) (restOf css) (r .floor) full }
 
 -- "before the first layer stands the start alone, kept at cost 0"
+abbrev pub alone : ℕ → List Node
+alone initial = node 0 0 (start initial) [] ∷ []
+
 unfoldable pub begin : ℕ → Run
 unfolding start
-begin initial = record { layers = (node 0 0 (start initial) [] ∷ []) ∷ []; floor = 0; kept = 1; most = 0 }
+begin initial = record { layers = alone initial ∷ []; floor = 0 }
 
 -- a layer for each character, by its candidates
 unfoldable pub run : List (List Cand) → Run → Run
@@ -136,11 +136,10 @@ unfolding nodeAt
 back [] i acc = acc
 back (l ∷ ls) i acc = back ls (nodeAt l i .1) (nodeAt l i .0 ++ acc)
 
--- what the search gives: the coding, the gap, and the states that the store must hold
+-- what the search gives: the coding and the gap
 pub record Coded : Type 0 where
   pub out : List ℕ
   pub gap : ℕ
-  pub states : ℕ
 
 -- "The gap is the coding's length less the floor, or 0 if that is negative or nothing was dropped"
 unfoldable pub gapOf : ℕ → ℕ → ℕ
@@ -153,7 +152,7 @@ unfolding back firstOf least newest gapOf
 finish r =
     let last : List Node = newest (r .layers) in
     let out : List ℕ = back (r .layers) (firstOf (least last) last) [] in
-    record { out = out; gap = gapOf (length out) (r .floor); states = r .most }
+    record { out = out; gap = gapOf (length out) (r .floor) }
 
 -- the coding of characters, by their candidates
 unfoldable pub code : List (List Cand) → ℕ → Coded

@@ -1,10 +1,9 @@
 -- The search for a coding, against the definition. Assumes nothing.
 use mathlib.Core.Path.{_≡_, refl, sym, ap, subst, _∙_}
-use mathlib.Core.Bool.{Bool, true, false, not}
+use mathlib.Core.Bool.{Bool, true, false, cond, not}
 use mathlib.Core.List.{List, [], _∷_, reverseAux}
-use Prim.Native.Nat.{ℕ, zero, suc, _+_, _-_, _*_, _/_, _≤_, _<_}
+use Prim.Native.Nat.{ℕ, zero, suc, _+_, _-_, _*_, _≤_, _<_}
 use native.Mathlib.Omega.{arith}
-use borrow.Author.Tests.{lt-leb, le-leb}
 use mathlib.Core.Option.{none}
 use lib.Dec.{eqb}
 use lib.ListN.{length, getD}
@@ -14,7 +13,8 @@ use Rattle.coding.specs.Candidates.{Cand, candidates, candidatesOf}
 use Rattle.coding.specs.Search.{Node, begin, Run, run, newest, least, firstOf, nodeAt, back, gapOf, Coded, finish, code}
 use Rattle.coding.specs.Admissible.{Some, here}
 use Rattle.coding.specs.Tokens.{tokens, inOrder, chars}
-use Rattle.coding.specs.Call.{question7, question8, without, coding, choices, ordering}
+use Rattle.coding.specs.Store.{needs, fit}
+use Rattle.coding.specs.Call.{question7, question8, refuse, without, coding, choices, ordering}
 use Rattle.encode_tokens.specs.Contracts.{HoldCharacters, Ready, Tokenised, answered}
 use Rattle.encode_tokens.specs.Contracts as tokens-contracts
 use Rattle.encode_tokens.specs.declared.Tokens.{Tokens}
@@ -67,15 +67,13 @@ module _ (cells : List ℕ) (annexE : Bool) where
   no-candidates (c ∷ cs) e = absurd (omega arith)
 
 -- the coding of no character
-code-none : (initial : ℕ) → code [] initial ≡ record { out = []; gap = 0; states = 0 }
+code-none : (initial : ℕ) → code [] initial ≡ record { out = []; gap = 0 }
 unfolding code finish run begin back nodeAt firstOf least newest gapOf
 code-none initial = refl
 
-question-none : (k : Coded) (s : List ℕ) (room : ℕ) → k ≡ record { out = []; gap = 0; states = 0 } → question7 (length s) room k ≡ question8 room k
-unfolding question7
-question-none k s room e =
-    let h : k .states ≤ length s / 4 = omega (arith, ap (λ (x : Coded). x .states) e) in
-    rw (le-leb _ _ h) refl
+fit-none : (room initial : ℕ) → fit room (needs [] initial) ≡ true
+unfolding fit needs
+fit-none room initial = refl
 
 -- a test the other way round
 pub not-so : (b : Bool) → not b ≡ true → b ≡ false
@@ -97,19 +95,20 @@ module _ (annexE : Bool) (initial : ℕ) (s s′ chs ks ss : List ℕ) (n rest :
   abbrev last : List Node
   last = newest (ran .layers)
 
-  pub led-nothing : n ≡ 0 → Led annexE (code css initial) Nothing s′ chs ks ss
+  pub led-nothing : n ≡ 0 → Led annexE (code css initial) (needs css initial) Nothing s′ chs ks ss
   unfolding planned leads
   led-nothing e =
-      let k : code css initial ≡ record { out = []; gap = 0; states = 0 } = ap (λ (x : List (List Cand)). code x initial)
-      (no-candidates (t .cells) annexE (t .chars) (sym e ∙ t .count)) ∙ code-none initial in
-      record { answer = λ room. question-none _ s′ room k; found = (ap (λ (x : Coded). x .out) k, ap (λ (x : Coded). x .gap) k) }
+      let n = no-candidates (t .cells) annexE (t .chars) (sym e ∙ t .count) in
+      let k : code css initial ≡ record { out = []; gap = 0 } = ap (λ (x : List (List Cand)). code x initial) n ∙ code-none initial in
+      let f : fit (length s′) (needs css initial) ≡ true = ap (λ (x : List (List Cand)). fit (length s′) (needs x initial)) n ∙ fit-none (length s′) initial in
+      record { answer = λ room. rw f refl; found = (ap (λ (x : Coded). x .out) k, ap (λ (x : Coded). x .gap) k) }
 
   module _ {fits : Bool} {from count floor : ℕ} (d : search.Searched chs ks ss n annexE initial rest s s′ fits from count floor) where
-    pub led-full : fits ≡ false → Led annexE (code css initial) (Refused 7 0) s′ chs ks ss
-    unfolding code finish question7 planned leads
+    pub led-full : fits ≡ false → Led annexE (code css initial) (needs css initial) (Refused 7 0) s′ chs ks ss
+    unfolding planned leads
     led-full e =
-        let h : length s′ / 4 < ran .most = omega (arith, d .full (t .cells) (t .chars) (t .holds) (t .count) e, same) in
-        record { answer = λ room. rw (lt-leb _ _ h) refl; found = omega arith }
+        let h : fit (length s′) (needs css initial) ≡ false = rw same (d .full (t .cells) (t .chars) (t .holds) (t .count) e) in
+        record { answer = λ room. rw h refl; found = omega arith }
 
     module _ (e : fits ≡ true) where
       found-at : Found css initial s′ n from count floor
@@ -130,8 +129,8 @@ module _ (annexE : Bool) (initial : ℕ) (s s′ chs ks ss : List ℕ) (n rest :
       filled = run-filled css (t .each) (begin initial) (here tt)
 
       pub led-found : (best node gap : ℕ) → Held chs ks ss n → ((cs : List Cand) → best ≡ least (layerOf cs s′ from count)) →
-          ((cs : List Cand) → node ≡ firstOf best (layerOf cs s′ from count)) → gap ≡ gapOf best floor → Led annexE (code css initial) (Leads n from node best gap) s′ chs ks ss
-      unfolding code finish question7 planned leads
+          ((cs : List Cand) → node ≡ firstOf best (layerOf cs s′ from count)) → gap ≡ gapOf best floor → Led annexE (code css initial) (needs css initial) (Leads n from node best gap) s′ chs ks ss
+      unfolding code finish planned leads
       led-found best node gap held eb en eg =
           let f = found-at in
           let b : best ≡ least last = eb (head .cs) ∙ ap least (sym (head .is)) in
@@ -141,7 +140,7 @@ module _ (annexE : Bool) (initial : ℕ) (s s′ chs ks ss : List ℕ) (n rest :
           let o : length (code css initial .out) ≡ least last = omega (arith, back-length ⊥ (start initial) chain (firstOf (least last) last) (q .0) [], q .1) in
           let z : best ≡ length (code css initial .out) = b ∙ sym o in
           record {
-            answer = λ room. rw (le-leb _ _ (f .room)) refl;
+            answer = λ room. rw (f .room) refl;
             found = record {
               held = held;
               searched = record {
@@ -190,13 +189,15 @@ module _ (cells : List ℕ) (initial width : ℕ) (text : List ℕ) (chs ks ss :
       record { chars = omega (arith, q .few); kanji = omega (arith, q .few); symbols = omega (arith, q .few); few = omega (arith, q .few); rest-small = omega (arith, q .few, q .short) }
 
   pub planned-on : {n rest : ℕ} (s s′ : List ℕ) (room : ℕ) {p : Plan} → r ≡ tokens-variants.Ordered n rest → length s′ ≡ length s →
-      Led (eqb width 1) (code (candidatesOf cells (eqb width 1) (chars (inOrder (tokens text)))) initial) p s′ chs ks ss →
+      Led (eqb width 1) (code (candidatesOf cells (eqb width 1) (chars (inOrder (tokens text)))) initial)
+      (needs (candidatesOf cells (eqb width 1) (chars (inOrder (tokens text)))) initial) p s′ chs ks ss →
       Planned (asked cells initial width text s room) p s′ chs ks ss
-  unfolding answered coding choices ordering
+  unfolding answered question7 coding choices ordering
   planned-on s s′ room {p} e m l =
       let c = asked cells initial width text s room in
       record {
-        answer = d .answer c refl refl refl ∙ ap (λ (x : Tokens). answered x c) e ∙ ap (λ (x : ℕ). question7 x room (coding c)) (sym m) ∙ l .answer room;
+        answer = d .answer c refl refl refl ∙ ap (λ (x : Tokens). answered x c) e ∙
+            ap (λ (x : ℕ). cond (fit x (needs (choices c) initial)) (question8 room (coding c)) (refuse 7 0)) (sym m) ∙ l .answer room;
         found = l .found;
       }
 

@@ -1,7 +1,7 @@
 -- What the search for a coding promises, before any byte is written.
 use Prim.Native.Nat.{ℕ, _≤_}
 use mathlib.Core.Path.{_≡_}
-use mathlib.Core.Bool.{Bool}
+use mathlib.Core.Bool.{Bool, cond}
 use mathlib.Core.List.{List, []}
 use lib.Dec.{eqb}
 use lib.ListN.{length}
@@ -10,7 +10,8 @@ use Rattle.coding.specs.Candidates.{candidatesOf, restOf}
 use Rattle.coding.specs.Admissible.{Some}
 use Rattle.encode_tokens.specs.Contracts.{HoldCharacters}
 use Rattle.coding.specs.Search.{begin, run, back, Coded}
-use Rattle.coding.specs.Call.{Lent, coding, Refusal, refuse, question4, question7, question8}
+use Rattle.coding.specs.Store.{fit}
+use Rattle.coding.specs.Call.{Lent, coding, Refusal, refuse, question4, question8}
 use Rattle.encode_backtrack.specs.Contracts.{Searched, Held}
 use Rattle.encode_find.specs.declared.Plan.{Plan}
 use Rattle.encode_find.specs.declared.Plan.the-variants.{Nothing, Leads, Refused}
@@ -54,7 +55,7 @@ pub record Planned (c : Lent) (r : Plan) (s chs kanji symbols : List ℕ) : Type
   pub answer : question4 c ≡ planned r (c .codingRoom) (coding c)
   pub found : leads r (eqb (c .width) 1) (coding c) s chs kanji symbols
 
--- question 7 of a search that gives k
-pub record Led (annexE : Bool) (k : Coded) (r : Plan) (s chs kanji symbols : List ℕ) : Type 0 where
-  pub answer : (room : ℕ) → question7 (length s) room k ≡ planned r room k
+-- question 7 of a search that gives k, its layers needing the store as in ns
+pub record Led (annexE : Bool) (k : Coded) (ns : List ℕ) (r : Plan) (s chs kanji symbols : List ℕ) : Type 0 where
+  pub answer : (room : ℕ) → cond (fit (length s) ns) (question8 room k) (refuse 7 0) ≡ planned r room k
   pub found : leads r annexE k s chs kanji symbols

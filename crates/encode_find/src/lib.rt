@@ -5,6 +5,7 @@ ghost use Prim.Native.Nat.{ℕ, _≤_};
 ghost use lib.ListN.{length};
 ghost use Rattle.coding.specs.Candidates.{candidatesOf};
 ghost use Rattle.coding.specs.Search.{code, gapOf};
+ghost use Rattle.coding.specs.Store.{needs};
 ghost use Rattle.encode_tokens.specs.Contracts as tokens;
 ghost use Rattle.encode_search.specs.Layers.{Arrays};
 ghost use Rattle.encode_find.specs.Plans.{asked, Characters, Planned, Led};
@@ -56,7 +57,8 @@ fn lead(
 ) -> Plan
     requires { ⌜ Arrays (now chars) (now kanji) (now symbols) n rest ⌝ }
     ensures { λ r. ⌜ ((t : Characters annex (now (chars .entry)) (now (kanji .entry)) (now (symbols .entry)) n rest) →
-        Led annex (code (candidatesOf (t .cells) annex (t .chars)) initial) r (now (store .exit)) (now (chars .entry)) (now (kanji .entry)) (now (symbols .entry))) ⌝ }
+        Led annex (code (candidatesOf (t .cells) annex (t .chars)) initial) (needs (candidatesOf (t .cells) annex (t .chars)) initial) r (now (store .exit)) (now (chars .entry))
+        (now (kanji .entry)) (now (symbols .entry))) ⌝ }
 {
     if n == 0 {
         return Plan::Nothing;

@@ -1,19 +1,20 @@
 -- The layers so far, and one more. Assumes nothing.
 use mathlib.Core.Path.{_≡_, refl, sym, ap, _∙_, subst}
-use mathlib.Core.Bool.{Bool, true, false, false≢true, true≢false}
+use mathlib.Core.Bool.{Bool, true, false, false≢true, _&&_}
 use mathlib.Core.List.{List, [], _∷_}
-use Prim.Native.Nat.{ℕ, zero, suc, _+_, _-_, _*_, _/_, _≤_, _<_, max}
+use Prim.Native.Nat.{ℕ, zero, suc, _+_, _-_, _*_, _/_, _≤_, _<_}
 use native.Mathlib.Numerals.{add-one}
 use native.Mathlib.Omega.{arith}
+use lib.Dec.{leb}
 use lib.ListN.{length, getD, take, drop, drop-of-length-le}
 use lib.Seq.{drop-cons, getD-take, take-take}
+use borrow.Author.Tests.{lt-leb, le-leb}
 use Rattle.base.specs.Lists.{All}
 use Rattle.base.proofs.Every.{all-map}
-use Rattle.tables_reverse.specs.Reverse.{kanjiReverse, additionalReverse}
 use Rattle.coding.specs.State.{State, start}
 use Rattle.coding.specs.Candidates.{Cand, candidates, candidatesOf, restOf, shortest}
-use Rattle.coding.specs.Search.{Node, node, Run, reach, least, keep, floorOf, newest, layer, run, begin}
-use Rattle.encode_candidates.specs.Packed.{packed}
+use Rattle.coding.specs.Search.{Node, node, Run, reach, top, keep, floorOf, alone, newest, layer, run, begin}
+use Rattle.coding.specs.Store.{needsFrom, needs, fit}
 use Rattle.encode_tokens.specs.Contracts.{HoldCharacters}
 use Rattle.encode_states.specs.Packed.{Packs}
 use Rattle.encode_states.specs.Written.{written, writtenAt}
@@ -22,7 +23,7 @@ use Rattle.encode_layer.specs.Layer.{Sound}
 use Rattle.encode_layer.proofs.Entries.{same-entries}
 use Rattle.encode_layer.proofs.Standing.{of-new}
 use Rattle.encode_layer.proofs.Costs.{length-layer}
-use Rattle.encode_search.specs.Layers.{Able, Next, Turned, Layers, first, behind, found, Found, Searched, Begins, Arrays}
+use Rattle.encode_search.specs.Layers.{Able, Next, Turned, Layers, first, behind, found, Found, Searched, Begins}
 
 -- the candidates of the newest layer's character
 pub lastOf : List (List Cand) → ℕ → List Cand
@@ -47,12 +48,6 @@ layers-stay css s s′ j from count ls e (behind {j = i} {back} {before} {ls = k
     let d : take ((back + before) * 4) s′ ≡ take ((back + before) * 4) s = earlier s s′ (back + before) (from + count) (omega arith) e in
     behind from count most l (layers-stay css s s′ i back before ks d x) ef (el ∙ ap (λ (q : List Entry). mathlib.Core.List.map (nodeOf (getD css i [])) q) (sym q)) (rw q a)
 
--- a run only needs more
-run-most : (css : List (List Cand)) (r : Run) → r .most ≤ run css r .most
-unfolding run layer
-run-most [] r = omega arith
-run-most (cs ∷ css) r = omega (arith, run-most css (layer r (reach cs (newest (r .layers)) 0 []) css))
-
 -- the candidates of the j-th character
 length-of : (cells : List ℕ) (annexE : Bool) (cs : List ℕ) → length (candidatesOf cells annexE cs) ≡ length cs
 unfolding candidatesOf
@@ -66,22 +61,21 @@ cand-at cells annexE (c ∷ cs) zero h = refl
 cand-at cells annexE (c ∷ cs) (suc j) h = cand-at cells annexE cs j (omega arith)
 
 -- where the search stands after j characters
-pub record At (css : List (List Cand)) (initial rest room : ℕ) (s : List ℕ) (j from count left floor : ℕ) : Type 0 where
+pub record At (css : List (List Cand)) (initial rest store : ℕ) (s : List ℕ) (j from count left floor : ℕ) : Type 0 where
   pub at : Run
   pub steps : run (drop j css) at ≡ found css initial
   pub layers : Layers css s j from count (at .layers)
-  pub kept : at .kept ≡ from + count
-  pub most : at .most ≤ room
+  pub room : fit store (needs css initial) ≡ fit store (needsFrom (drop j css) from (newest (at .layers)))
   pub lefts : rest ≡ restOf css → restOf (drop j css) ≡ left
   pub floors : rest ≡ restOf css → at .floor ≡ floor
 
-pub at-start : (css : List (List Cand)) (initial rest room : ℕ) (s : List ℕ) → Begins initial s → At css initial rest room s 0 0 1 rest 0
-unfolding begin
-at-start css initial rest room s b =
-    record { at = begin initial; steps = refl; layers = first (node 0 0 (start initial) [] ∷ []) (sym b); kept = refl; most = omega arith; lefts = λ e. sym e; floors = λ e. refl }
+pub at-start : (css : List (List Cand)) (initial rest store : ℕ) (s : List ℕ) → Begins initial s → At css initial rest store s 0 0 1 rest 0
+unfolding begin newest needs
+at-start css initial rest store s b =
+    record { at = begin initial; steps = refl; layers = first (alone initial) (sym b); room = refl; lefts = λ e. sym e; floors = λ e. refl }
 
 module _ (css : List (List Cand)) (initial rest : ℕ) (s s′ : List ℕ) (j from count left floor : ℕ) (h : j < length css) (f : (from + count) * 4 ≤ length s)
-    (a : At css initial rest (length s / 4) s j from count left floor) where
+    (a : At css initial rest (length s) s j from count left floor) where
   -- the layer that is reached
   abbrev reached : List Node
   reached = reach (getD css j []) (newest (a .at .layers)) 0 []
@@ -99,12 +93,21 @@ module _ (css : List (List Cand)) (initial rest : ℕ) (s s′ : List ℕ) (j fr
   reached-is : reached ≡ reach (getD css j []) (layerOf (lastOf css j) s from count) 0 []
   reached-is = ap (λ (l : List Node). reach (getD css j []) l 0 []) (newest-of css s j from count (a .at .layers) (a .layers))
 
+  newest-count : length (newest (a .at .layers)) ≡ count
+  newest-count = ap length (newest-of css s j from count (a .at .layers) (a .layers)) ∙ length-layer (lastOf css j) s from count f
+
+  -- what the layer needs, and those after it
+  asks : fit (length s) (needs css initial) ≡
+      (leb (from + length (newest (a .at .layers)) + length reached) (length s / 4) &&
+      fit (length s) (needsFrom (drop (suc j) css) (from + length (newest (a .at .layers))) (newest (after .layers))))
+  unfolding needsFrom fit layer newest
+  asks = rw split at (a .room)
+
   -- it is too large
-  pub at-full : length s / 4 < from + count + length (reach (getD css j []) (layerOf (lastOf css j) s from count) 0 []) → length s / 4 < found css initial .most
-  unfolding layer
+  pub at-full : length s / 4 < from + count + length (reach (getD css j []) (layerOf (lastOf css j) s from count) 0 []) → fit (length s) (needs css initial) ≡ false
   at-full k =
-      let e : after .most ≤ run (drop (suc j) css) after .most = run-most (drop (suc j) css) after in
-      omega (arith, a .kept, ap (λ (l : List Node). length l) reached-is, ap (λ (r : Run). r .most) stepped)
+      let q : length s / 4 < from + length (newest (a .at .layers)) + length reached = omega (arith, newest-count, ap (λ (l : List Node). length l) reached-is) in
+      asks ∙ rw (lt-leb _ _ q) refl
 
   rest-of : restOf (drop j css) ≡ shortest (getD css j []) + restOf (drop (suc j) css)
   unfolding restOf
@@ -114,20 +117,20 @@ module _ (css : List (List Cand)) (initial rest : ℕ) (s s′ : List ℕ) (j fr
   pub at-next : (count′ rest′ floor′ most : ℕ) → take ((from + count) * 4) s′ ≡ take ((from + count) * 4) s → (from + count + count′) * 4 ≤ length s′ →
       rest′ ≡ left - shortest (getD css j []) → All (Sound from most) (entriesOf s′ (from + count) count′) →
       Next s s′ (getD css j []) (from + count) count′ rest′ floor floor′ (reach (getD css j []) (layerOf (lastOf css j) s from count) 0 []) →
-      At css initial rest (length s / 4) s′ (suc j) (from + count) count′ rest′ floor′
+      At css initial rest (length s) s′ (suc j) (from + count) count′ rest′ floor′
   unfolding layer
   at-next count′ rest′ floor′ most e i er sd n =
       let r = reached-is in
-      let l : keep (least reached + 10) reached ≡ layerOf (getD css j []) s′ (from + count) count′ = (λ k. keep (least (r k) + 10) (r k)) ∙ sym (n .layer) in
+      let l : keep (top reached) reached ≡ layerOf (getD css j []) s′ (from + count) count′ = (λ k. keep (top (r k)) (r k)) ∙ sym (n .layer) in
+      let fits : from + length (newest (a .at .layers)) + length reached ≤ length s / 4 = omega (arith, newest-count, ap (λ (x : List Node). length x) r, n .room) in
       let lefts : rest ≡ restOf css → restOf (drop (suc j) css) ≡ rest′ = λ q. omega (arith, a .lefts q, rest-of) in
       record {
         at = after;
         steps = stepped;
-        layers = behind (from + count) count′ most (keep (least reached + 10) reached) (layers-stay css s s′ j from count (a .at .layers) e (a .layers)) refl l sd;
-        kept = omega (arith, a .kept, ap (λ (x : List Node). length x) l, length-layer (getD css j []) s′ (from + count) count′ i);
-        most = omega (arith, a .most, a .kept, ap (λ (x : List Node). length x) r, n .room);
+        layers = behind (from + count) count′ most (keep (top reached) reached) (layers-stay css s s′ j from count (a .at .layers) e (a .layers)) refl l sd;
+        room = rw (le-leb _ _ fits, newest-count) at asks;
         lefts = lefts;
-        floors = λ q. (λ k. floorOf (least (r k) + 10) (lefts q k) (a .floors q k) (r k)) ∙ sym (n .lowers);
+        floors = λ q. (λ k. floorOf (top (r k)) (lefts q k) (a .floors q k) (r k)) ∙ sym (n .lowers);
       }
 
 -- where the loop stands after j characters
@@ -141,7 +144,7 @@ pub record Going (chs ks ss : List ℕ) (n : ℕ) (annexE : Bool) (rest : ℕ) (
   pub left-le : left ≤ 65535
   pub able : All (Able (9 * j)) (entriesOf s from count)
   pub going : (cells cs : List ℕ) → HoldCharacters cells cs chs ks ss → n ≡ length cs → (initial : ℕ) → Begins initial s₀ →
-      At (candidatesOf cells annexE cs) initial rest (length s₀ / 4) s j from count left floor
+      At (candidatesOf cells annexE cs) initial rest (length s₀) s j from count left floor
 
 abled : (back most : ℕ) (q : List Entry) → All (Sound back most) q → All (Able most) q
 abled back most q a = all-map (Sound back most) (Able most) q (λ e p. record { proper = p .proper; cheap = p .cheap }) a
@@ -158,7 +161,7 @@ module _ (chs ks ss : List ℕ) (n : ℕ) (annexE : Bool) (rest : ℕ) (s₀ : L
         low = omega arith;
         left-le = g;
         able = a;
-        going = λ cells cs h k initial b. at-start (candidatesOf cells annexE cs) initial rest (length s₀ / 4) s₀ b;
+        going = λ cells cs h k initial b. at-start (candidatesOf cells annexE cs) initial rest (length s₀) s₀ b;
       }
 
   module _ (s ix : List ℕ) (j from count left floor : ℕ) (g : Going chs ks ss n annexE rest s₀ s ix j from count left floor) where
@@ -170,7 +173,7 @@ module _ (chs ks ss : List ℕ) (n : ℕ) (annexE : Bool) (rest : ℕ) (s₀ : L
       cands-at : candidates cells annexE (getD chs j 0) ≡ getD (candidatesOf cells annexE cs) j []
       cands-at = ap (candidates cells annexE) char-at ∙ sym (cand-at cells annexE cs j (omega arith))
 
-      here : (initial : ℕ) → Begins initial s₀ → At (candidatesOf cells annexE cs) initial rest (length s / 4) s j from count left floor
+      here : (initial : ℕ) → Begins initial s₀ → At (candidatesOf cells annexE cs) initial rest (length s) s j from count left floor
       here initial b = rw (g .same) (g .going cells cs h k initial b)
 
       inside : j < length (candidatesOf cells annexE cs)
@@ -204,7 +207,7 @@ module _ (chs ks ss : List ℕ) (n : ℕ) (annexE : Bool) (rest : ℕ) (s₀ : L
           }
 
       pub going-full : (e : fits ≡ false) (cells cs : List ℕ) (h : HoldCharacters cells cs chs ks ss) (k : n ≡ length cs) (initial : ℕ) → Begins initial s₀ →
-          length s₀ / 4 < found (candidatesOf cells annexE cs) initial .most
+          fit (length s₀) (needs (candidatesOf cells annexE cs) initial) ≡ false
       going-full ef cells cs h k initial b =
           let css = candidatesOf cells annexE cs in
           let fl = t .full cells (h .kanji j (omega arith)) (h .symbols j (omega arith)) ef (lastOf css j) in
@@ -213,7 +216,7 @@ module _ (chs ks ss : List ℕ) (n : ℕ) (annexE : Bool) (rest : ℕ) (s₀ : L
 
     pub going-end : n ≤ j → (cells cs : List ℕ) → HoldCharacters cells cs chs ks ss → n ≡ length cs → rest ≡ restOf (candidatesOf cells annexE cs) → (initial : ℕ) →
         Begins initial s₀ → Found (candidatesOf cells annexE cs) initial s n from count floor
-    unfolding run
+    unfolding run needsFrom fit
     going-end le cells cs h k er initial b =
         let css = candidatesOf cells annexE cs in
         let a = g .going cells cs h k initial b in
@@ -221,7 +224,7 @@ module _ (chs ks ss : List ℕ) (n : ℕ) (annexE : Bool) (rest : ℕ) (s₀ : L
         let st : a .at ≡ found css initial = rw d at (a .steps) in
         let jn : j ≡ n = omega (arith, g .j-le) in
         record {
-          room = omega (arith, ap (λ (r : Run). r .most) st, a .most, ap (λ (x : ℕ). x / 4) (g .same));
+          room = rw (g .same) (a .room ∙ rw d refl);
           layers = subst (λ (i : ℕ). Layers css s i from count (found css initial .layers)) jn (subst (λ (r : Run). Layers css s j from count (r .layers)) st (a .layers));
           floors = sym (ap (λ (r : Run). r .floor) st) ∙ a .floors er;
         }
@@ -240,16 +243,18 @@ module _ (s : List ℕ) (a initial : ℕ) (h : 4 ≤ length s) (p : Packs a (sta
   able-start = rw entries-start (record { proper = p .proper; cheap = omega arith }, tt)
 
 -- any layer needs room
-needs-room : (css : List (List Cand)) (initial : ℕ) → 1 ≤ length css → 0 < found css initial .most
-unfolding run layer begin
-needs-room [] initial h = absurd (omega arith)
-needs-room (cs ∷ css) initial h = omega (arith, run-most css (layer (begin initial) (reach cs (newest (begin initial .layers)) 0 []) css))
+needs-room : (s : List ℕ) (css : List (List Cand)) (initial : ℕ) → 1 ≤ length css → length s < 4 → fit (length s) (needs css initial) ≡ false
+unfolding needs fit
+needs-room s [] initial h k = absurd (omega arith)
+needs-room s (cs ∷ css) initial h k =
+    let q : length s / 4 < 0 + 1 + length (reach cs (alone initial) 0 []) = omega arith in
+    rw (lt-leb _ _ q) refl
 
 pub no-room : (chs ks ss : List ℕ) (n : ℕ) (annexE : Bool) (initial rest : ℕ) (s s′ : List ℕ) → 1 ≤ n → length s < 4 → Searched chs ks ss n annexE initial rest s s′ false 0 0 0
 no-room chs ks ss n annexE initial rest s s′ h k =
     record {
       inside = λ e. absurd (false≢true e);
-      full = λ cells cs q e f. omega (arith, needs-room (candidatesOf cells annexE cs) initial (omega (arith, length-of cells annexE cs)));
+      full = λ cells cs q e f. needs-room s (candidatesOf cells annexE cs) initial (omega (arith, length-of cells annexE cs)) k;
       done = λ cells cs q e r f. absurd (false≢true f);
     }
 

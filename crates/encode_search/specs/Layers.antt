@@ -1,13 +1,13 @@
 -- The layers of the search as they stand in the store.
-use Prim.Native.Nat.{ℕ, zero, suc, _+_, _-_, _*_, _/_, _≤_, _<_}
+use Prim.Native.Nat.{ℕ, suc, _+_, _-_, _*_, _/_, _≤_, _<_}
 use mathlib.Core.Path.{_≡_}
 use mathlib.Core.Bool.{Bool, true, false}
 use mathlib.Core.List.{List, [], _∷_}
 use lib.ListN.{length, getD, take}
 use Rattle.base.specs.Lists.{All}
-use Rattle.coding.specs.State.{start}
 use Rattle.coding.specs.Candidates.{Cand, candidates, candidatesOf, restOf, shortest}
-use Rattle.coding.specs.Search.{Node, node, Run, reach, least, keep, floorOf, run, begin}
+use Rattle.coding.specs.Search.{Node, Run, reach, top, keep, floorOf, alone, run, begin}
+use Rattle.coding.specs.Store.{needs, fit}
 use Rattle.tables_reverse.specs.Reverse.{kanjiReverse, additionalReverse}
 use Rattle.encode_candidates.specs.Packed.{packed}
 use Rattle.encode_tokens.specs.Contracts.{HoldCharacters}
@@ -37,8 +37,8 @@ pub record Capped (len from cap : ℕ) : Type 0 where
 -- the layer l, reached from the count nodes before the node from, is kept behind them, and the floor is the definition's
 pub record Next (s s′ : List ℕ) (cs : List Cand) (from count rest floor floor′ : ℕ) (l : List Node) : Type 0 where
   pub room : from + length l ≤ length s / 4
-  pub layer : layerOf cs s′ from count ≡ keep (least l + 10) l
-  pub lowers : floor′ ≡ floorOf (least l + 10) rest floor l
+  pub layer : layerOf cs s′ from count ≡ keep (top l) l
+  pub lowers : floor′ ≡ floorOf (top l) rest floor l
 
 -- what becomes of the next layer: it is too large for the store, or is kept
 pub record Advanced (s s′ : List ℕ) (pfrom pcount m : ℕ) (sets codes sizes : List ℕ) (rest floor : ℕ) (fits : Bool) (count floor′ : ℕ) : Type 0 where
@@ -75,7 +75,7 @@ found css initial = run css (begin initial)
 
 -- it is in the store, the newest layer of count nodes from the node from on
 pub record Found (css : List (List Cand)) (initial : ℕ) (s : List ℕ) (n from count floor : ℕ) : Type 0 where
-  pub room : found css initial .most ≤ length s / 4
+  pub room : fit (length s) (needs css initial) ≡ true
   pub layers : Layers css s n from count (found css initial .layers)
   pub floors : found css initial .floor ≡ floor
 
@@ -83,13 +83,13 @@ pub record Found (css : List (List Cand)) (initial : ℕ) (s : List ℕ) (n from
 -- fit the store, and where they are then.
 pub record Searched (chs ks ss : List ℕ) (n : ℕ) (annexE : Bool) (initial rest : ℕ) (s s′ : List ℕ) (fits : Bool) (from count floor : ℕ) : Type 0 where
   pub inside : fits ≡ true → (from + count) * 4 ≤ length s
-  pub full : (cells cs : List ℕ) → HoldCharacters cells cs chs ks ss → n ≡ length cs → fits ≡ false → length s / 4 < found (candidatesOf cells annexE cs) initial .most
+  pub full : (cells cs : List ℕ) → HoldCharacters cells cs chs ks ss → n ≡ length cs → fits ≡ false → fit (length s) (needs (candidatesOf cells annexE cs) initial) ≡ false
   pub done : (cells cs : List ℕ) → HoldCharacters cells cs chs ks ss → n ≡ length cs → rest ≡ restOf (candidatesOf cells annexE cs) → fits ≡ true →
       Found (candidatesOf cells annexE cs) initial s′ n from count floor
 
 -- the start stands in the store
 abbrev pub Begins : ℕ → List ℕ → Type 0
-Begins initial s = layerOf [] s 0 1 ≡ node 0 0 (start initial) [] ∷ []
+Begins initial s = layerOf [] s 0 1 ≡ alone initial
 
 -- the arrays hold n characters, few enough that costs stay below 65,536
 pub record Arrays (chs ks ss : List ℕ) (n rest : ℕ) : Type 0 where

@@ -10,7 +10,7 @@ use Rattle.utf8.specs.declared.Text.the-variants.{WellFormed, FaultAt}
 use Rattle.utf8.specs.Utf8.{firstFault}
 use Rattle.coding.specs.Candidates.{candidatesOf}
 use Rattle.coding.specs.Tokens.{tokens, inOrder, chars, baseless}
-use Rattle.coding.specs.Call.{Lent, refuse, without, ordering, choices, question4, question5, question6, question7, coding}
+use Rattle.coding.specs.Call.{Lent, refuse, without, ordering, choices, question4, question5, question6, question7}
 use Rattle.encode_tokens.specs.declared.Bases.the-variants.{All, NoBase}
 use Rattle.encode_tokens.specs.declared.Tokens.{Tokens}
 use Rattle.encode_tokens.specs.declared.Tokens.the-variants.{Ordered, Refused}
@@ -47,7 +47,7 @@ module _ (c : Lent) where
   unfolding question6
   six-no p e = rw (e, question6)
 
-  seven : without (ordering c) (choices c) ≡ none → question6 c ≡ question7 (c .storeRoom) (c .codingRoom) (coding c)
+  seven : without (ordering c) (choices c) ≡ none → question6 c ≡ question7 c
   unfolding question6
   seven e = rw (e, question6)
 

@@ -9,7 +9,7 @@ use lib.ListN.{length, take, getD}
 use Rattle.tables_reverse.specs.Reverse.{kanjiReverse, additionalReverse}
 use Rattle.coding.specs.Candidates.{candidatesOf, restOf}
 use Rattle.coding.specs.Tokens.{tokens, inOrder, chars}
-use Rattle.coding.specs.Call.{Lent, Refusal, refuse, without, coding, question4, question7}
+use Rattle.coding.specs.Call.{Lent, Refusal, refuse, without, question4, question7}
 use Rattle.encode_candidates.specs.Packed.{packed}
 use Rattle.encode_tokens.specs.declared.Tokens.{Tokens}
 use Rattle.encode_tokens.specs.declared.Tokens.the-variants.{Ordered, Refused}
@@ -37,8 +37,8 @@ pub record Ready (cells : List ℕ) (annexE : Bool) (text : List ℕ) (n r : ℕ
 
 -- what an answer says of questions 4 to 6 of a call: the refusal, or that question 7 comes next
 unfoldable pub answered : Tokens → Lent → Refusal
-unfolding question7 coding
-answered (Ordered n rest) c = question7 (c .storeRoom) (c .codingRoom) (coding c)
+unfolding question7
+answered (Ordered n rest) c = question7 c
 answered (Refused number place) c = refuse number place
 
 -- what it says of the arrays; where it refuses, that it does

@@ -5,7 +5,7 @@ use mathlib.Core.Bool.{Bool}
 use mathlib.Core.List.{List}
 use native.Mathlib.Omega.{arith}
 use lib.ListN.{length, take, replicate, length-replicate}
-use Rattle.coding.specs.Search.{Run, begin, run, gapOf, finish, code}
+use Rattle.coding.specs.Search.{begin, run, gapOf, finish, code}
 use Rattle.coding.specs.Call.{Lent, Outcome, choices, coding, outcomeOf, outcome}
 use Rattle.laws_coding.proofs.Answers.{passes}
 use Rattle.encode.specs.declared.call.Answer.{Answer}

@@ -1,19 +1,24 @@
--- The questions of a coding call in their order: what an accepted call has passed, and that the store decides none but 7. Assumes nothing.
+-- The questions of a coding call in their order: what an accepted call has passed, what one that is answered 8 has not, and that the store decides
+-- none but 7. Assumes nothing.
 use mathlib.Core.Path.{_≡_, refl, sym, _∙_, subst}
-use mathlib.Core.Bool.{Bool, true, false, cond}
+use mathlib.Core.Bool.{Bool, true, false, cond, _&&_, false≢true}
+use mathlib.Core.List.{List, [], _∷_}
 use mathlib.Core.Option.{Option, none, some}
-use Prim.Native.Nat.{ℕ, zero, suc, _≤_, _/_}
+use Prim.Native.Nat.{ℕ, zero, suc, _≤_, _<_, _/_}
 use native.Mathlib.Omega.{arith}
 use lib.Dec.{leb}
 use lib.ListN.{length}
-use borrow.Author.Tests.{leb-true}
+use borrow.Author.Tests.{le-leb, leb-true, leb-false}
 use Rattle.questions.specs.Questions.{cellsHold, optionsHold, lengthHolds, firstRefusal, encodeLimit}
+use Rattle.questions.proofs.Refusals.{passed as passed-three}
 use Rattle.utf8.specs.Utf8.{firstFault}
 use Rattle.utf8.specs.declared.Text.{Text}
 use Rattle.utf8.specs.declared.Text.the-variants.{WellFormed, FaultAt}
 use Rattle.coding.specs.Tokens.{tokens, baseless}
+use Rattle.coding.specs.Search.{Coded}
+use Rattle.coding.specs.Store.{needs, fit}
 use Rattle.coding.specs.Call.{Lent, ordering, choices, coding, without, Refusal, refuse, question4, question5, question6, question7, question8, refusal, outcomeOf, outcome}
-use Rattle.laws_coding.specs.Coding.{lending, Alike, StoreFree}
+use Rattle.laws_coding.specs.Coding.{lending, Alike, StoreFree, MoreStore}
 
 -- the first refusal, the answers to 1 to 6 being known, and more the rest
 abbrev answers : ℕ → Text → Option ℕ → Option ℕ → Refusal → Refusal
@@ -33,6 +38,17 @@ not-seven zero WellFormed none none true true more h k = refl
 not-seven zero WellFormed none none true false more h k = absurd (k refl)
 not-seven zero WellFormed none none false room more h k = absurd (h refl)
 
+-- 7 where more fits is 7 where less does
+seven : (q : ℕ) (t : Text) (b w : Option ℕ) (fits room : Bool) (more : Refusal) → (fits ≡ true → room ≡ true) → (more .number ≡ 7 → ⊥) →
+    answers q t b w (cond room more (refuse 7 0)) .number ≡ 7 → answers q t b w (cond fits more (refuse 7 0)) .number ≡ 7
+seven (suc q) t b w fits room more m k e = e
+seven zero (FaultAt p) b w fits room more m k e = e
+seven zero WellFormed (some p) w fits room more m k e = e
+seven zero WellFormed none (some p) fits room more m k e = e
+seven zero WellFormed none none false room more m k e = refl
+seven zero WellFormed none none true true more m k e = absurd (k e)
+seven zero WellFormed none none true false more m k e = absurd (false≢true (m refl))
+
 passed : (q : ℕ) (t : Text) (b w : Option ℕ) (fits room : Bool) → answers q t b w (cond fits (cond room (refuse 0 0) (refuse 8 0)) (refuse 7 0)) .number ≡ 0 → (q ≡ 0) ×
     (w ≡ none) × (room ≡ true)
 passed zero WellFormed none none true true e = (refl, refl, refl)
@@ -43,11 +59,21 @@ passed zero WellFormed (some p) w fits room e = absurd (omega arith)
 passed zero (FaultAt p) b w fits room e = absurd (omega arith)
 passed (suc q) t b w fits room e = absurd (omega arith)
 
-short : (cells options fits : Bool) → _≡_ {A = ℕ} (cond cells (cond options (cond fits 0 3) 2) 1) 0 → fits ≡ true
-short true true true e = refl
-short true true false e = absurd (omega arith)
-short true false fits e = absurd (omega arith)
-short false options fits e = absurd (omega arith)
+eight : (q : ℕ) (t : Text) (b w : Option ℕ) (fits room : Bool) → q ≤ 3 → answers q t b w (cond fits (cond room (refuse 0 0) (refuse 8 0)) (refuse 7 0)) .number ≡ 8 → (q ≡ 0) ×
+    (room ≡ false)
+eight zero WellFormed none none true false h e = (refl, refl)
+eight zero WellFormed none none true true h e = absurd (omega arith)
+eight zero WellFormed none none false room h e = absurd (omega arith)
+eight zero WellFormed none (some p) fits room h e = absurd (omega arith)
+eight zero WellFormed (some p) w fits room h e = absurd (omega arith)
+eight zero (FaultAt p) b w fits room h e = absurd (omega arith)
+eight (suc q) t b w fits room h e = absurd (omega arith)
+
+three : (cells options fits : Bool) → cond cells (cond options (cond fits 0 3) 2) 1 ≤ 3
+three true true true = omega arith
+three true true false = omega arith
+three true false fits = omega arith
+three false options fits = omega arith
 
 number-is : (number place : ℕ) (c : Lent) → outcomeOf (refuse number place) c .refused ≡ number
 unfolding outcomeOf
@@ -66,19 +92,40 @@ unfolding outcomeOf
 given-by zero place c e = refl
 given-by (suc q) place c e = absurd (omega arith)
 
+-- questions 1 to 3, and question 7's test
+abbrev first : Lent → ℕ
+first c = firstRefusal (c .cells) (c .initial) (c .width) encodeLimit (length (c .text))
+
+short-text : (c : Lent) → first c ≡ 0 → length (c .text) ≤ encodeLimit
+short-text c e = passed-three (c .cells) (c .initial) (c .width) encodeLimit (length (c .text)) e .within
+
+abbrev fits : Lent → ℕ → Bool
+fits c room = fit room (needs (choices c) (c .initial))
+
 pub passes : (c : Lent) → outcome c .refused ≡ 0 → Passes c
-unfolding outcome refusal question4 question5 question6 question7 question8 firstRefusal
+unfolding outcome refusal question4 question5 question6 question7 question8
 passes c h =
     let e : refusal c .number ≡ 0 = sym (number-is (refusal c .number) (refusal c .place) c) ∙ h in
-    let p =
-    passed (firstRefusal (c .cells) (c .initial) (c .width) encodeLimit (length (c .text))) (firstFault (c .text)) (baseless false (tokens (c .text))) (without (ordering c) (choices c))
-    (leb (coding c .states) (c .storeRoom / 4)) (leb (length (coding c .out)) (c .codingRoom)) e in
+    let p = passed (first c) (firstFault (c .text)) (baseless false (tokens (c .text))) (without (ordering c) (choices c)) (fits c (c .storeRoom)) (leb (length (coding c .out)) (c .codingRoom)) e in
     record {
-      short = leb-true _ _ (short (cellsHold (c .cells)) (optionsHold (c .initial) (c .width)) (lengthHolds encodeLimit (length (c .text))) (p .0));
+      short = short-text c (p .0);
       choice = p .1;
       fits = leb-true _ _ (p .2);
       given = given-by (refusal c .number) (refusal c .place) c e;
     }
+
+-- what a call that is answered 8 has passed, and what it has not
+pub record Overfull (c : Lent) : Type 0 where
+  pub short : length (c .text) ≤ encodeLimit
+  pub over : c .codingRoom < length (coding c .out)
+
+pub overfull : (c : Lent) → outcome c .refused ≡ 8 → Overfull c
+unfolding outcome refusal question4 question5 question6 question7 question8 firstRefusal
+overfull c h =
+    let p = eight (first c) (firstFault (c .text)) (baseless false (tokens (c .text))) (without (ordering c) (choices c)) (fits c (c .storeRoom))
+    (leb (length (coding c .out)) (c .codingRoom)) (three (cellsHold (c .cells)) (optionsHold (c .initial) (c .width)) (lengthHolds encodeLimit (length (c .text))))
+    (sym (number-is (refusal c .number) (refusal c .place) c) ∙ h) in
+    record { short = short-text c (p .0); over = leb-false _ _ (p .1) }
 
 -- whatever the store
 alike : (number place : ℕ) (c : Lent) (n : ℕ) → Alike (outcomeOf (refuse number place) c) (outcomeOf (refuse number place) (lending c n))
@@ -90,7 +137,32 @@ pub whatever-store : StoreFree
 unfolding outcome refusal question4 question5 question6 question7
 whatever-store c n h k =
     let e : refusal c ≡ refusal (lending c n) =
-    not-seven (firstRefusal (c .cells) (c .initial) (c .width) encodeLimit (length (c .text))) (firstFault (c .text)) (baseless false (tokens (c .text))) (without (ordering c) (choices c))
-    (leb (coding c .states) (c .storeRoom / 4)) (leb (coding c .states) (n / 4)) (question8 (c .codingRoom) (coding c))
+    not-seven (first c) (firstFault (c .text)) (baseless false (tokens (c .text))) (without (ordering c) (choices c)) (fits c (c .storeRoom)) (fits c n) (question8 (c .codingRoom) (coding c))
     (λ x. h (number-is (refusal c .number) (refusal c .place) c ∙ x)) (λ x. k (number-is (refusal (lending c n) .number) (refusal (lending c n) .place) (lending c n) ∙ x)) in
     subst (λ (r : Refusal). Alike (outcome c) (outcomeOf r (lending c n))) e (alike (refusal c .number) (refusal c .place) c n)
+
+-- what fits a store fits a larger one
+fit-more : (a b : ℕ) → a ≤ b → (ns : List ℕ) → fit a ns ≡ true → fit b ns ≡ true
+unfolding fit
+fit-more a b h [] e = refl
+fit-more a b h (n ∷ ns) e = go (leb n (a / 4)) refl e (fit-more a b h ns)
+  where
+    go : (t : Bool) → leb n (a / 4) ≡ t → (t && fit a ns) ≡ true → (fit a ns ≡ true → fit b ns ≡ true) → (leb n (b / 4) && fit b ns) ≡ true
+    go true k e f = let q : n ≤ b / 4 = omega (arith, leb-true n (a / 4) k) in rw (le-leb n (b / 4) q) (f e)
+    go false k e f = absurd (false≢true e)
+
+not-eight : (room : ℕ) (k : Coded) → question8 room k .number ≡ 7 → ⊥
+unfolding question8
+not-eight room k = go (leb (length (k .out)) room)
+  where
+    go : (t : Bool) → cond t (refuse 0 0) (refuse 8 0) .number ≡ 7 → ⊥
+    go true e = absurd (omega arith)
+    go false e = absurd (omega arith)
+
+pub larger-store : MoreStore
+unfolding outcome refusal question4 question5 question6 question7
+larger-store c n h m =
+    whatever-store c n h (λ e. h (number-is (refusal c .number) (refusal c .place) c ∙
+    seven (first c) (firstFault (c .text)) (baseless false (tokens (c .text))) (without (ordering c) (choices c)) (fits c (c .storeRoom)) (fits c n) (question8 (c .codingRoom) (coding c))
+    (fit-more (c .storeRoom) n m (needs (choices c) (c .initial))) (not-eight (c .codingRoom) (coding c))
+    (sym (number-is (refusal (lending c n) .number) (refusal (lending c n) .place) (lending c n)) ∙ e)))

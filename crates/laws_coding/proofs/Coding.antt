@@ -11,12 +11,12 @@ use Rattle.coding.specs.Search.{Node, byCand}
 use Rattle.coding.specs.Admissible.{here}
 use Rattle.coding.specs.Call.{Lent, choices, coding, outcomeOf}
 use Rattle.base.specs.Lists.{All}
-use Rattle.laws_coding.specs.Coding.{NoShorter, CodingAdmissible, GapExact, NineBytes, returned, Accepted, StoreFree}
+use Rattle.laws_coding.specs.Coding.{NoShorter, CodingAdmissible, GapExact, NineBytes, returned, Accepted, StoreFree, MoreStore, NineSuffice}
 use Rattle.base.proofs.Every.{all-map}
 use Rattle.laws_coding.proofs.Written.{OfTables, Step, cand-steps}
 use Rattle.laws_coding.proofs.Choices.{candidates-fine, choices-fine, choices-length, scalars-most, choices-filled}
 use Rattle.laws_coding.proofs.Searches.{out-admissible, out-nine, gap-by, no-shorter-any}
-use Rattle.laws_coding.proofs.Answers.{Passes, passes, whatever-store}
+use Rattle.laws_coding.proofs.Answers.{Passes, passes, overfull, whatever-store, larger-store}
 
 pub no-shorter : NoShorter
 unfolding coding
@@ -68,3 +68,13 @@ accepted c e =
 
 pub store-free : StoreFree
 store-free = whatever-store
+
+pub more-store : MoreStore
+more-store = larger-store
+
+pub nine-suffice : NineSuffice
+nine-suffice =
+    record {
+      characters = λ c h e. absurd (omega (arith, overfull c e .over, nine-text c));
+      longest = λ c h e. absurd (omega (arith, overfull c e .over, nine-text c, scalars-most (c .text), overfull c e .short));
+    }

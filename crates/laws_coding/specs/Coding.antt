@@ -10,7 +10,7 @@ use Rattle.questions.specs.Questions.{encodeLimit, decodeLimit}
 use Rattle.utf8.specs.Utf8.{scalars}
 use Rattle.coding.specs.State.{start}
 use Rattle.coding.specs.Candidates.{Cand, candidates, restOf}
-use Rattle.coding.specs.Search.{Node, node, byCand, reach, least, keep, code}
+use Rattle.coding.specs.Search.{Node, byCand, reach, top, keep, alone, code}
 use Rattle.coding.specs.Admissible.{Some, Admissible}
 use Rattle.coding.specs.Call.{Lent, ordering, choices, coding, without, Outcome, outcome}
 use Rattle.base.specs.Lists.{All}
@@ -36,7 +36,7 @@ unfolding overs
 dropped [] kept = []
 dropped (cs ∷ css) kept =
     let full : List Node = reach cs kept 0 [] in
-    overs (least full + 10) (restOf css) full ++ dropped css (keep (least full + 10) full)
+    overs (top full) (restOf css) full ++ dropped css (keep (top full) full)
 
 -- f is the least of a list
 pub record Least (f : ℕ) (l : List ℕ) : Type 0 where
@@ -48,13 +48,9 @@ pub record Gap (len gap : ℕ) (sums : List ℕ) : Type 0 where
   pub nothing : sums ≡ [] → gap ≡ 0
   pub floor : (f : ℕ) → Least f sums → gap ≡ len - f
 
--- "before the first layer stands the start alone, kept at cost 0"
-abbrev pub alone : Lent → List Node
-alone c = node 0 0 (start (c .initial)) [] ∷ []
-
 -- demand 3: "The gap is exactly the coding's length less the floor that 01 derives from what the search dropped"
 abbrev pub GapExact : Type 0
-GapExact = (c : Lent) → Gap (length (coding c .out)) (coding c .gap) (dropped (choices c) (alone c))
+GapExact = (c : Lent) → Gap (length (coding c .out)) (coding c .gap) (dropped (choices c) (alone (c .initial)))
 
 -- "A character costs at most nine bytes", from every state, by each of its candidates, in each way; "so every coding can be decoded"
 pub record NineBytes : Type 0 where
@@ -71,7 +67,7 @@ pub record DemandThree (c : Lent) : Type 0 where
   pub led : returned c ≡ coding c .out
   pub admissible : Admissible (start (c .initial)) (choices c) (returned c)
   pub shortest : (bs : List ℕ) → Admissible (start (c .initial)) (choices c) bs → length (returned c) ≤ length bs + outcome c .gap
-  pub gap : Gap (length (returned c)) (outcome c .gap) (dropped (choices c) (alone c))
+  pub gap : Gap (length (returned c)) (outcome c .gap) (dropped (choices c) (alone (c .initial)))
   pub decoded : length (returned c) ≤ decodeLimit
 
 abbrev pub Accepted : Type 0
@@ -92,3 +88,12 @@ pub record Alike (a b : Outcome) : Type 0 where
 -- "What is dropped thus follows from the text, the options and the cell table, never from the store": whatever the store, unless the answer is 7
 abbrev pub StoreFree : Type 0
 StoreFree = (c : Lent) (n : ℕ) → (outcome c .refused ≡ 7 → ⊥) → (outcome (lending c n) .refused ≡ 7 → ⊥) → Alike (outcome c) (outcome (lending c n))
+
+-- more store never brings 7: a call that is not answered 7, and so each that is accepted, has the same answer, coding and gap with a larger store
+abbrev pub MoreStore : Type 0
+MoreStore = (c : Lent) (n : ℕ) → (outcome c .refused ≡ 7 → ⊥) → c .storeRoom ≤ n → Alike (outcome c) (outcome (lending c n))
+
+-- a buffer of nine bytes for each character of the text suffices: 8 is not answered; and so does one of nine for each byte of the longest text
+pub record NineSuffice : Type 0 where
+  pub characters : (c : Lent) → 9 * length (scalars (c .text)) ≤ c .codingRoom → outcome c .refused ≡ 8 → ⊥
+  pub longest : (c : Lent) → 9 * encodeLimit ≤ c .codingRoom → outcome c .refused ≡ 8 → ⊥
