@@ -8,6 +8,7 @@ use native.Mathlib.Omega.{arith}
 use lib.Dec.{eqb}
 use lib.ListN.{length, take, getD, length-append, length-take, replicate, length-replicate}
 use lib.Seq.{take-suc, take-append-seam}
+use Rattle.control.specs.Codes.{ESC, NSZ}
 use Rattle.lent.specs.Put.{Put}
 use Rattle.lent.proofs.Putting.{put-then, put-as}
 use Rattle.sets.specs.Sets.{HoldsBytes, shiftBytes, designation, sequence, bytesPerChar, isDrcsForm, finalByte}
@@ -45,7 +46,7 @@ sequence-length false false n f = omega arith
 sequence-length false true n f = omega arith
 sequence-length true false n f = go (eqb n 0)
   where
-    go : (b : Bool) → length (cond b (0x1B ∷ 0x24 ∷ f ∷ []) (0x1B ∷ 0x24 ∷ (0x28 + n) ∷ f ∷ [])) ≤ 5
+    go : (b : Bool) → length (cond b (ESC ∷ 0x24 ∷ f ∷ []) (ESC ∷ 0x24 ∷ (0x28 + n) ∷ f ∷ [])) ≤ 5
     go true = omega arith
     go false = omega arith
 sequence-length true true n f = omega arith
@@ -113,7 +114,7 @@ invoked zero e h = refl
 invoked (suc zero) e h = refl
 invoked (suc (suc v)) e h = absurd (omega arith)
 
-pub other-size : (z : ℕ) → (z ≡ 0 → ⊥) → (z ≡ 1 → ⊥) → sizeControl z ≡ 0x8A ∷ []
+pub other-size : (z : ℕ) → (z ≡ 0 → ⊥) → (z ≡ 1 → ⊥) → sizeControl z ≡ NSZ ∷ []
 unfolding sizeControl
 other-size zero f g = absurd (f refl)
 other-size (suc zero) f g = absurd (g refl)

@@ -1,4 +1,6 @@
 // The bytes of a character, written as the search chose: encode.rs, what `push` is given.
+use control::MSZ;
+use control::NSZ;
 use sets::GraphicSet;
 use sets::Sequence;
 use sets::Shift;
@@ -49,8 +51,8 @@ fn put_size(coding: &mut [u8], at: usize, z: u32) -> usize
 {
     match z {
         0 => at,
-        1 => put(coding, at, 0x89),
-        _ => put(coding, at, 0x8A),
+        1 => put(coding, at, MSZ),
+        _ => put(coding, at, NSZ),
     }
 }
 
