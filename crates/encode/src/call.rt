@@ -1,4 +1,5 @@
 // The coding call: the questions in order, and every element of buffer and store.
+use encode_backtrack::Goal;
 use encode_find::Plan;
 ghost use mathlib.Core.Path.{_≡_};
 ghost use mathlib.Core.List.{[]};
@@ -67,11 +68,13 @@ fn write(
         chars,
         kanji,
         symbols,
-        annex,
-        n,
+        Goal {
+            count: n,
+            from,
+            node,
+            annex,
+        },
         &*layers,
-        from,
-        node,
         &mut *coding,
     );
     questions::clear(coding, length);

@@ -1,3 +1,4 @@
 pub mod Character
+pub mod Stores
 pub mod Nodes
 pub mod Trail

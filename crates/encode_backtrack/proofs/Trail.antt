@@ -17,8 +17,8 @@ use Rattle.encode_layer.specs.Layer.{Sound}
 use Rattle.encode_search.specs.Layers.{Layers}
 use Rattle.laws_coding.proofs.Chains.{begins, run-chain, at}
 use Rattle.base.proofs.Every.{all-at}
-use Rattle.encode_writing.proofs.Laws.{sets-before}
 use Rattle.encode_backtrack.specs.Contracts.{Chosen, Searched}
+use Rattle.encode_backtrack.proofs.Stores.{sets-before}
 use Rattle.encode_backtrack.proofs.Nodes.{
   node-at,
   length-layer,

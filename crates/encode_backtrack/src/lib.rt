@@ -13,6 +13,15 @@ ghost use Rattle.encode_states.specs.Written.{written};
 ghost use Rattle.encode_layer.specs.Entries.{layerOf};
 ghost use Rattle.encode_backtrack.specs.Contracts.{Searched, Held, Proper};
 
+/// How many characters there are, the node to which their coding leads, by its place in the newest layer, which begins at
+/// the node from of the store, and the option under which it was searched.
+pub struct Goal {
+    pub count: usize,
+    pub from: usize,
+    pub node: usize,
+    pub annex: bool,
+}
+
 /// The place of the layer's first node of a cost; where none has it, how many nodes there are.
 pub fn first_of(store: &[u32], from: usize, count: usize, cost: u32) -> usize
     requires { ⌜ (from + count) * 4 ≤ length (now store) ⌝ }
@@ -46,31 +55,28 @@ fn put_character(coding: &mut [u8], at: usize, k: Cands, how: u32)
     encode_writing::put_graphic(coding, at, x as u32, code, how);
 }
 
-/// Writes the coding that leads to the i-th node of the newest layer, which begins at the node from:
-/// the bytes of the last of the n characters first, each character's at the cost of the node before.
+/// Writes the coding that leads to a node of the newest layer: the bytes of the last character first, each character's at
+/// the cost of the node before.
 pub fn write_back(
     chars: &[u32],
     kanji: &[u16],
     symbols: &[u16],
-    annex: bool,
-    n: usize,
+    goal: Goal,
     store: &[u32],
-    from: usize,
-    i: usize,
     coding: &mut [u8],
 )
-    requires { ⌜ Held (now chars) (now kanji) (now symbols) n × Searched annex (now chars) (now kanji) (now symbols) n (now store) from i ⌝ }
-    ensures { λ _. ⌜ ((f : Searched annex (now (chars .entry)) (now (kanji .entry)) (now (symbols .entry)) n (now (store .entry)) from i) →
-        now (coding .exit) ≡ sets (now (coding .entry)) 0 (back (run (f .css) (begin (f .initial)) .layers) i [])) ⌝ }
+    requires { ⌜ Held (now chars) (now kanji) (now symbols) (goal .count) × Searched (goal .annex) (now chars) (now kanji) (now symbols) (goal .count) (now store) (goal .from) (goal .node) ⌝ }
+    ensures { λ _. ⌜ ((f : Searched (goal .annex) (now (chars .entry)) (now (kanji .entry)) (now (symbols .entry)) (goal .count) (now (store .entry)) (goal .from) (goal .node)) →
+        now (coding .exit) ≡ sets (now (coding .entry)) 0 (back (run (f .css) (begin (f .initial)) .layers) (goal .node) [])) ⌝ }
 {
-    let mut k = n;
-    let mut p = from + i;
+    let mut k = goal.count;
+    let mut p = goal.from + goal.node;
     while k > 0 {
         k -= 1;
         let link = store[p * 4 + 2];
         let before = store[p * 4 + 3] as usize + (link % 131072) as usize;
         let cost = store[before * 4 + 1];
-        let cands = encode_candidates::candidates(chars[k], kanji[k], symbols[k], annex);
+        let cands = encode_candidates::candidates(chars[k], kanji[k], symbols[k], goal.annex);
         put_character(&mut *coding, cost as usize, cands, link / 131072);
         p = before;
     }

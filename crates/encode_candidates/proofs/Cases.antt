@@ -7,6 +7,7 @@ use Prim.Native.Nat.{ℕ, _+_, _*_, _≤_}
 use native.Mathlib.Omega.{arith}
 use lib.Dec.{T, eqb, leb, leb→le}
 use borrow.Author.Tests.{eq-eqb, ne-eqb}
+use Rattle.control.specs.Codes.{APR}
 use Rattle.tables.specs.Kanji.{nonSpacing, hasCharacter, cellWith}
 use Rattle.tables.specs.declared.Assignment.{Assignment}
 use Rattle.coding.specs.Candidates.{either, plain, ofPlace, letters, candidates}
@@ -81,7 +82,7 @@ module _ (c : ℕ) where
 -- ---- the definition in each case
 
 module _ (cells : List ℕ) (annexE : Bool) (c : ℕ) where
-  pub at-newline : c ≡ 10 → plain 0x0D either ∷ [] ≡ candidates cells annexE c
+  pub at-newline : c ≡ 10 → plain APR either ∷ [] ≡ candidates cells annexE c
   unfolding candidates
   at-newline e = rw (eq-eqb c 10 e, candidates)
 

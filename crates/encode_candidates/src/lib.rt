@@ -5,12 +5,15 @@ ghost use mathlib.Core.Bool.{cond};
 ghost use mathlib.Core.List.{[], _∷_, _++_};
 ghost use Prim.Native.Nat.{_+_, _≤_, _<_};
 ghost use lib.Dec.{eqb};
+ghost use Rattle.control.specs.Codes.{SP};
 ghost use Rattle.tables_onebyte.specs.Reverse.{oneByteReverse};
 ghost use Rattle.tables.specs.Kanji.{placeValue};
 ghost use Rattle.coding.specs.Candidates.{narrow, wide, plain, ofCode, fullwidth, letters, shortest};
 ghost use Rattle.base.specs.Lists.{when};
 ghost use Rattle.encode_states.specs.Packed.{setOf, sizeOf};
 ghost use Rattle.encode_candidates.specs.Packed.{packed, candOf, candsOf, Fits, UnderConstruction, Adds, AddsCell, StandsFor, StandsForCandidates};
+use control::APR;
+use control::SP;
 use tables::Place;
 use tables_onebyte::Code;
 use tables_onebyte::OneByteTable;
@@ -103,16 +106,16 @@ fn with_half(k: Cands, c: u32, annex: bool) -> Cands
 fn with_space(k: Cands, c: u32, annex: bool) -> Cands
     requires { ⌜ k .count < 9 ⌝ }
     requires { ⌜ UnderConstruction k ⌝ }
-    ensures { λ r. ⌜ Adds k (when (eqb c 0x20) (plain 0x20 narrow) ++ cond annex [] (when (eqb c 0x3000) (plain 0x20 wide))) 1 r ⌝ }
+    ensures { λ r. ⌜ Adds k (when (eqb c 0x20) (plain SP narrow) ++ cond annex [] (when (eqb c 0x3000) (plain SP wide))) 1 r ⌝ }
 {
     if c == 0x20 {
-        return with(k, 7, 0x20, 1);
+        return with(k, 7, SP as u16, 1);
     }
     if annex {
         return k;
     }
     if c == 0x3000 {
-        return with(k, 7, 0x20, 2);
+        return with(k, 7, SP as u16, 2);
     }
     k
 }
@@ -149,7 +152,7 @@ pub fn candidates(c: u32, kanji: u16, symbol: u16, annex: bool) -> Cands
         sizes: [0; 9],
     };
     if c == 10 {
-        return with(none, 7, 0x0D, 0);
+        return with(none, 7, APR as u16, 0);
     }
     let mark = pack(tables::mark_cell(c));
     if mark != 0 {

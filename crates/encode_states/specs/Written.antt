@@ -3,6 +3,7 @@ use Prim.Native.Nat.{ℕ, zero, suc, _+_, _*_, _/_, _%_}
 use mathlib.Core.Bool.{Bool, true, false, cond, _||_}
 use mathlib.Core.List.{List, [], _∷_, _++_, map}
 use lib.Dec.{eqb}
+use Rattle.control.specs.Codes.{MSZ, NSZ}
 use Rattle.sets.specs.Sets.{designation}
 use Rattle.coding.specs.State.{lockGL, lockGR, single}
 use Rattle.coding.specs.Candidates.{Cand, graphic, plain}
@@ -10,8 +11,8 @@ use Rattle.coding.specs.Candidates.{Cand, graphic, plain}
 -- no size control (0), MSZ (1), NSZ (2)
 unfoldable pub sizeControl : ℕ → List ℕ
 sizeControl zero = []
-sizeControl (suc zero) = 0x89 ∷ []
-sizeControl (suc (suc z)) = 0x8A ∷ []
+sizeControl (suc zero) = MSZ ∷ []
+sizeControl (suc (suc z)) = NSZ ∷ []
 
 -- the invocation of the code element e: as it stands in GL (0) or in GR (1), by a locking shift to GL (2) or to GR (3), by a single shift (4)
 unfoldable pub invocation : ℕ → ℕ → List ℕ

@@ -29,6 +29,12 @@ struct Next {
     base_at: usize,
 }
 
+/// A character, and which it is in the order in which they are coded.
+struct Nth {
+    n: usize,
+    char: u32,
+}
+
 /// Question 5.
 fn baseless(text: &[u8]) -> Bases
     ensures { λ r. ⌜ r ≡ basesOf (baseless false (tokens (now (text .entry)))) ⌝ }
@@ -73,20 +79,21 @@ fn order(base: u32, base_at: usize, c: u32, at: usize) -> Next
     }
 }
 
-/// Writes a character to the n-th place of the arrays, with its cells, and answers the bytes of its shortest code, 0
+/// Writes the n-th character to its place in the arrays, with its cells, and answers the bytes of its shortest code, 0
 /// where it has no candidate.
 fn append(
     t: &[u16],
     annex: bool,
-    c: u32,
-    n: usize,
+    x: Nth,
     chars: &mut [u32],
     kanji: &mut [u16],
     symbols: &mut [u16],
 ) -> usize
-    requires { ⌜ Within n (now chars) (now kanji) (now symbols) ⌝ }
-    ensures { λ r. ⌜ Appended (now (t .entry)) annex c n (now (chars .entry)) (now (kanji .entry)) (now (symbols .entry)) r (now (chars .exit)) (now (kanji .exit)) (now (symbols .exit)) ⌝ }
+    requires { ⌜ Within (x .n) (now chars) (now kanji) (now symbols) ⌝ }
+    ensures { λ r. ⌜ Appended (now (t .entry)) annex (x .char) (x .n) (now (chars .entry)) (now (kanji .entry)) (now (symbols .entry)) r (now (chars .exit)) (now (kanji .exit)) (now (symbols .exit)) ⌝ }
 {
+    let n = x.n;
+    let c = x.char;
     let k = encode_candidates::pack(tables_reverse::kanji_reverse(t, c));
     let s = encode_candidates::pack(tables_reverse::additional_reverse(c));
     chars[n] = c;
@@ -122,21 +129,29 @@ fn in_order(
         let Sequence::Scalar(c, size) = s else {
             break;
         };
-        let n = order(base, base_at, c, at);
-        let code = append(t, annex, n.char, count, chars, kanji, symbols);
+        let next = order(base, base_at, c, at);
+        let x = Nth {
+            n: count,
+            char: next.char,
+        };
+        let code = append(t, annex, x, chars, kanji, symbols);
         if code == 0 {
             return Tokens::Refused {
                 number: 6,
-                place: n.place,
+                place: next.place,
             };
         }
-        base = n.base;
-        base_at = n.base_at;
+        base = next.base;
+        base_at = next.base_at;
         at += size;
         count += 1;
         rest += code;
     }
-    let code = append(t, annex, base, count, chars, kanji, symbols);
+    let last = Nth {
+        n: count,
+        char: base,
+    };
+    let code = append(t, annex, last, chars, kanji, symbols);
     if code == 0 {
         return Tokens::Refused {
             number: 6,

@@ -1,68 +1,37 @@
--- Bytes written one run behind another. Assumes nothing.
+-- The sequences and size controls that are written, and how long they are. Assumes nothing.
 use mathlib.Core.Path.{_≡_, refl, sym, ap, _∙_}
 use mathlib.Core.Bool.{Bool, true, false, cond, _||_}
-use mathlib.Core.List.{List, [], _∷_, _++_}
+use mathlib.Core.List.{List, [], _∷_}
 use Prim.Native.Nat.{ℕ, zero, suc, _+_, _-_, _≤_, _<_}
-use native.Mathlib.Nat.{add-zero, ne-of-gt}
 use native.Mathlib.Numerals.{add-one}
 use native.Mathlib.Omega.{arith}
 use lib.Dec.{eqb}
-use lib.ListN.{length, set, take, getD, length-append, length-take, replicate, length-replicate}
-use lib.Seq.{sets, set-comm, length-sets, take-suc, take-append-seam}
+use lib.ListN.{length, take, getD, length-append, length-take, replicate, length-replicate}
+use lib.Seq.{take-suc, take-append-seam}
+use Rattle.control.specs.Codes.{ESC, NSZ}
+use Rattle.lent.specs.Put.{Put}
+use Rattle.lent.proofs.Putting.{put-then, put-as}
 use Rattle.sets.specs.Sets.{HoldsBytes, shiftBytes, designation, sequence, bytesPerChar, isDrcsForm, finalByte}
 use Rattle.sets.specs.declared.Sequence.{Sequence}
 use Rattle.sets.specs.declared.Shift.{Shift}
 use Rattle.sets.specs.declared.Shift.the-variants.{Ls0, Ls1, Ls2, Ls3, Ls1r, Ls2r, Ls3r, Ss2, Ss3}
 use Rattle.encode_states.specs.Packed.{setOf}
 use Rattle.encode_states.specs.Written.{sizeControl, invocation, half}
-use Rattle.encode_writing.specs.Contracts.{WritesAt}
-
--- one run after another
-pub sets-append : (vs ws l : List ℕ) (i : ℕ) → sets l i (vs ++ ws) ≡ sets (sets l i vs) (i + length vs) ws
-sets-append [] ws l i = ap (λ (k : ℕ). sets l k ws) (sym (add-zero i))
-sets-append (v ∷ vs) ws l i =
-    let e : suc i + length vs ≡ i + suc (length vs) = omega arith in
-    sets-append vs ws (set l i v) (suc i) ∙ ap (λ (k : ℕ). sets (sets (set l i v) (suc i) vs) k ws) e
-
--- and one before another
-set-sets : (vs l : List ℕ) (i j x : ℕ) → j < i → set (sets l i vs) j x ≡ sets (set l j x) i vs
-set-sets [] l i j x h = refl
-set-sets (v ∷ vs) l i j x h = set-sets vs (set l i v) (suc i) j x (omega arith) ∙ ap (λ (k : List ℕ). sets k (suc i) vs) (set-comm l i j v x (ne-of-gt h))
-
-pub sets-before : (us vs l : List ℕ) (i j : ℕ) → i ≡ j + length us → sets (sets l i vs) j us ≡ sets l j (us ++ vs)
-sets-before [] vs l i j e = ap (λ (k : ℕ). sets l k vs) (e ∙ add-zero j)
-sets-before (u ∷ us) vs l i j e = ap (λ (k : List ℕ). sets k (suc j) us) (set-sets vs l i j u (omega arith)) ∙ sets-before us vs (set l j u) i (suc j) (omega arith)
-
-pub put-none : (l : List ℕ) (i : ℕ) → WritesAt l i [] l i
-put-none l i = record { written = refl; to = sym (add-zero i) }
-
-pub put-then : {l m n xs ys : List ℕ} {i j k : ℕ} → WritesAt l i xs m j → WritesAt m j ys n k → WritesAt l i (xs ++ ys) n k
-put-then {l} {m} {n} {xs} {ys} {i} {j} {k} p q =
-    record {
-      written = q .written ∙ ap (λ (z : List ℕ). sets z j ys) (p .written) ∙ ap (λ (z : ℕ). sets (sets l i xs) z ys) (p .to) ∙ sym (sets-append xs ys l i);
-      to = omega (arith, p .to, q .to, length-append xs ys);
-    }
-
-pub put-length : {l m xs : List ℕ} {i j : ℕ} → WritesAt l i xs m j → length m ≡ length l
-put-length {l} {m} {xs} {i} {j} p = ap length (p .written) ∙ length-sets l i xs
-
-pub put-as : {l m xs ys : List ℕ} {i j : ℕ} → xs ≡ ys → WritesAt l i xs m j → WritesAt l i ys m j
-put-as e p = rw (sym e) p
 
 -- a sequence, byte by byte
 pub taken-length : (k : ℕ) (l : List ℕ) → length (take k l) ≤ k
 taken-length k l = omega (arith, length-take k l)
 
-pub further : (q : Sequence) {l m n : List ℕ} {i j k r : ℕ} → k < length (q .bytes) → WritesAt l i (take k (q .bytes)) m j → WritesAt m j (getD (q .bytes) k 0 ∷ []) n r →
-    WritesAt l i (take (k + 1) (q .bytes)) n r
-further q {k = k} h p s = put-as (sym (ap (λ (z : ℕ). take z (q .bytes)) (add-one k) ∙ take-suc (q .bytes) k 0 h)) (put-then p s)
+pub further : (q : Sequence) {l m n : List ℕ} {i j k r : ℕ} → k < length (q .bytes) → Put l i (take k (q .bytes)) m j → Put m j (getD (q .bytes) k 0 ∷ []) n r →
+    Put l i (take (k + 1) (q .bytes)) n r
+further q {k = k} h p s = put-as (ap (λ (z : ℕ). take z (q .bytes)) (add-one k) ∙ take-suc (q .bytes) k 0 h) (put-then p s)
 
 pub held-length : (q : Sequence) (xs : List ℕ) → length xs ≤ 5 → HoldsBytes q xs → length (q .bytes) ≡ 5
 held-length q xs l h = omega (arith, ap length (h .filled), length-append xs (replicate (5 - length xs) 0), length-replicate {A = ℕ} (5 - length xs) 0)
 
-pub ended : (q : Sequence) {l m : List ℕ} {i j k : ℕ} (xs : List ℕ) → k ≡ q .len → HoldsBytes q xs → WritesAt l i (take k (q .bytes)) m j → WritesAt l i xs m j
+pub ended : (q : Sequence) {l m : List ℕ} {i j k : ℕ} (xs : List ℕ) → k ≡ q .len → HoldsBytes q xs → Put l i (take k (q .bytes)) m j → Put l i xs m j
 ended q {k = k} xs e h p =
-    put-as (ap (λ (z : ℕ). take z (q .bytes)) (e ∙ h .counted) ∙ ap (take (length xs)) (h .filled) ∙ take-append-seam xs _) p
+    put-as (sym (ap (λ (z : ℕ). take z (q .bytes)) (e ∙ h .counted) ∙ ap (take (length xs)) (h .filled) ∙ take-append-seam xs _)) p
 
 -- how long they are
 pub size-length : (z : ℕ) → length (sizeControl z) ≤ 1
@@ -77,7 +46,7 @@ sequence-length false false n f = omega arith
 sequence-length false true n f = omega arith
 sequence-length true false n f = go (eqb n 0)
   where
-    go : (b : Bool) → length (cond b (0x1B ∷ 0x24 ∷ f ∷ []) (0x1B ∷ 0x24 ∷ (0x28 + n) ∷ f ∷ [])) ≤ 5
+    go : (b : Bool) → length (cond b (ESC ∷ 0x24 ∷ f ∷ []) (ESC ∷ 0x24 ∷ (0x28 + n) ∷ f ∷ [])) ≤ 5
     go true = omega arith
     go false = omega arith
 sequence-length true true n f = omega arith
@@ -145,7 +114,7 @@ invoked zero e h = refl
 invoked (suc zero) e h = refl
 invoked (suc (suc v)) e h = absurd (omega arith)
 
-pub other-size : (z : ℕ) → (z ≡ 0 → ⊥) → (z ≡ 1 → ⊥) → sizeControl z ≡ 0x8A ∷ []
+pub other-size : (z : ℕ) → (z ≡ 0 → ⊥) → (z ≡ 1 → ⊥) → sizeControl z ≡ NSZ ∷ []
 unfolding sizeControl
 other-size zero f g = absurd (f refl)
 other-size (suc zero) f g = absurd (g refl)

@@ -1,4 +1,6 @@
 // The bytes of a character, written as the search chose: encode.rs, what `push` is given.
+use control::MSZ;
+use control::NSZ;
 use sets::GraphicSet;
 use sets::Sequence;
 use sets::Shift;
@@ -8,17 +10,17 @@ ghost use mathlib.Core.List.{List, [], _∷_, map};
 ghost use Prim.Native.Nat.{ℕ, _+_, _/_, _%_, _≤_, _<_};
 ghost use lib.Dec.{eqb};
 ghost use lib.ListN.{length};
+ghost use Rattle.lent.specs.Put.{Put};
 ghost use Rattle.sets.specs.Sets.{HoldsBytes, setNumber, shiftBytes, designation};
 ghost use Rattle.coding.specs.Candidates.{Size, graphic, plain};
 ghost use Rattle.encode_states.specs.Packed.{setOf};
 ghost use Rattle.encode_states.specs.Written.{sizeControl, invocation, half, writtenBy};
 ghost use Rattle.encode_candidates.specs.Packed.{codeOf};
-ghost use Rattle.encode_writing.specs.Contracts.{WritesAt};
 
 /// Writes a byte, where it fits. Returns the place behind it, as all that follow do.
 fn put(coding: &mut [u8], at: usize, x: u8) -> usize
     requires { ⌜ at ≤ 4294967360 ⌝ }
-    ensures { λ r. ⌜ WritesAt (now (coding .entry)) at (x ∷ []) (now (coding .exit)) r ⌝ }
+    ensures { λ r. ⌜ Put (now (coding .entry)) at (x ∷ []) (now (coding .exit)) r ⌝ }
 {
     let to = at + 1;
     if at < coding.len() {
@@ -31,7 +33,7 @@ fn put(coding: &mut [u8], at: usize, x: u8) -> usize
 /// Writes a sequence.
 fn put_sequence(coding: &mut [u8], at: usize, q: Sequence) -> usize
     requires { ⌜ (at ≤ 4294967340) × (q .len ≤ 5) × (length (q .bytes) ≡ 5) ⌝ }
-    ensures { λ r. ⌜ ((xs : List ℕ) → HoldsBytes q xs → WritesAt (now (coding .entry)) at xs (now (coding .exit)) r) ⌝ }
+    ensures { λ r. ⌜ ((xs : List ℕ) → HoldsBytes q xs → Put (now (coding .entry)) at xs (now (coding .exit)) r) ⌝ }
 {
     let mut to = at;
     let mut k: usize = 0;
@@ -45,12 +47,12 @@ fn put_sequence(coding: &mut [u8], at: usize, q: Sequence) -> usize
 /// Writes a size control: none (0), MSZ (1), NSZ (2).
 fn put_size(coding: &mut [u8], at: usize, z: u32) -> usize
     requires { ⌜ at ≤ 4294967320 ⌝ }
-    ensures { λ r. ⌜ WritesAt (now (coding .entry)) at (sizeControl z) (now (coding .exit)) r ⌝ }
+    ensures { λ r. ⌜ Put (now (coding .entry)) at (sizeControl z) (now (coding .exit)) r ⌝ }
 {
     match z {
         0 => at,
-        1 => put(coding, at, 0x89),
-        _ => put(coding, at, 0x8A),
+        1 => put(coding, at, MSZ),
+        _ => put(coding, at, NSZ),
     }
 }
 
@@ -73,7 +75,7 @@ fn set_of(x: u32) -> GraphicSet
 /// Writes the designation of a set to the code element e, where d says so.
 fn put_designation(coding: &mut [u8], at: usize, x: u32, e: u8, d: u32) -> usize
     requires { ⌜ (at ≤ 4294967330) × (x < 7) × (e < 4) ⌝ }
-    ensures { λ r. ⌜ WritesAt (now (coding .entry)) at (cond (eqb d 1) (designation (setOf x) e) []) (now (coding .exit)) r ⌝ }
+    ensures { λ r. ⌜ Put (now (coding .entry)) at (cond (eqb d 1) (designation (setOf x) e) []) (now (coding .exit)) r ⌝ }
 {
     if d == 1 {
         return put_sequence(coding, at, set_of(x).designation(e));
@@ -130,7 +132,7 @@ fn single(e: u32) -> Shift
 /// Writes the invocation of the code element e.
 fn put_invocation(coding: &mut [u8], at: usize, v: u32, e: u32) -> usize
     requires { ⌜ (at ≤ 4294967340) × (e < 4) ⌝ }
-    ensures { λ r. ⌜ WritesAt (now (coding .entry)) at (invocation v e) (now (coding .exit)) r ⌝ }
+    ensures { λ r. ⌜ Put (now (coding .entry)) at (invocation v e) (now (coding .exit)) r ⌝ }
 {
     if v < 2 {
         return at;
@@ -152,7 +154,7 @@ fn half(v: u32) -> u8
 /// Writes a code of one byte or two, in GL's half or in GR's.
 fn put_code(coding: &mut [u8], at: usize, code: u16, h: u8) -> usize
     requires { ⌜ (at ≤ 4294967350) × (code / 256 < 128) × (code % 256 < 128) × (h ≤ 128) ⌝ }
-    ensures { λ r. ⌜ WritesAt (now (coding .entry)) at (map (λ b. b + h) (codeOf code)) (now (coding .exit)) r ⌝ }
+    ensures { λ r. ⌜ Put (now (coding .entry)) at (map (λ b. b + h) (codeOf code)) (now (coding .exit)) r ⌝ }
 {
     if code < 256 {
         return put(coding, at, code as u8 + h);
@@ -164,7 +166,7 @@ fn put_code(coding: &mut [u8], at: usize, code: u16, h: u8) -> usize
 /// Writes a code of a set, by its three bits, as `how` says.
 pub fn put_graphic(coding: &mut [u8], at: usize, x: u32, code: u16, how: u32) -> usize
     requires { ⌜ (at ≤ 4294967296) × (x < 7) × (code / 256 < 128) × (code % 256 < 128) ⌝ }
-    ensures { λ r. ⌜ ((size : Size) → WritesAt (now (coding .entry)) at
+    ensures { λ r. ⌜ ((size : Size) → Put (now (coding .entry)) at
         (writtenBy (graphic (setOf x) (codeOf code) size) (how / 16 % 4) (how / 64 % 4) (how / 256 % 2) (how / 512)) (now (coding .exit)) r) ⌝ }
 {
     let e = how / 64 % 4;
@@ -178,7 +180,7 @@ pub fn put_graphic(coding: &mut [u8], at: usize, x: u32, code: u16, how: u32) ->
 /// Writes SP or APR, as `how` says.
 pub fn put_plain(coding: &mut [u8], at: usize, x: u8, how: u32) -> usize
     requires { ⌜ at ≤ 4294967296 ⌝ }
-    ensures { λ r. ⌜ ((size : Size) → WritesAt (now (coding .entry)) at (writtenBy (plain x size) (how / 16 % 4) (how / 64 % 4) (how / 256 % 2) (how / 512)) (now (coding .exit)) r) ⌝ }
+    ensures { λ r. ⌜ ((size : Size) → Put (now (coding .entry)) at (writtenBy (plain x size) (how / 16 % 4) (how / 64 % 4) (how / 256 % 2) (how / 512)) (now (coding .exit)) r) ⌝ }
 {
     let to = put_size(&mut *coding, at, how / 16 % 4);
     put(coding, to, x)

@@ -10,6 +10,9 @@ use Rattle.encode_candidates.proofs.Cases.{mark-grid, is-mark, no-mark,
 use Rattle.encode_candidates.proofs.candidates.Statement.{statement}
 use Rattle.encode_candidates.proofs.candidates.Tie as tie
 
+cast-with : tie.Need-cast-with
+cast-with c = search needs
+
 with-requires : tie.Need-with-requires
 with-requires c κs = (omega arith, (empty, record { set = omega arith; six = λ n. absurd (n refl); plain = λ e. omega arith; row = omega arith; last = omega arith; size = omega arith }))
 
@@ -79,6 +82,7 @@ pub candidates-spec : {M : Type 1} → statement M
 candidates-spec =
     tie.close
     (tie.spec
+    cast-with
     with-requires
     returns
     mark-cell-requires

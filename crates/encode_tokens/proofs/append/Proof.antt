@@ -57,10 +57,10 @@ returns c =
     let at-pack2 = at-candidates .before in
     let at-additional-reverse = at-pack2 .before in
     let at-pack = at-additional-reverse .before in
-    let h = at-pack .before in
-    let g = h .before .before .before .before .before .args in
-    appended (g .t .now) (g .annex) (g .c) (g .n) (g .chars .now) (g .kanji .now) (g .symbols .now) (at-pack .pack .result)
-    (at-pack2 .pack2 .result) (at-candidates .candidates .result) (c .shortest .result) (at-pack .pack .ensures ∙ ap packed (h .kanji-reverse .ensures))
+    let at-kanji-reverse = at-pack .before in
+    let g = at-kanji-reverse .before .before .before .before .before .args in
+    appended (g .t .now) (g .annex) (g .x .char) (g .x .n) (g .chars .now) (g .kanji .now) (g .symbols .now) (at-pack .pack .result)
+    (at-pack2 .pack2 .result) (at-candidates .candidates .result) (c .shortest .result) (at-pack .pack .ensures ∙ ap packed (at-kanji-reverse .kanji-reverse .ensures))
     (at-pack2 .pack2 .ensures ∙ ap packed (at-additional-reverse .additional-reverse .ensures)) (at-candidates .candidates .ensures) (c .shortest .ensures)
 
 pub append-spec : {M : Type 1} → statement M

@@ -33,13 +33,15 @@ returns c =
     sym (ap basesOf (k .loop .inv .1 ∙ ap (baseless (k .loop .base)) (from-end _ _ (c .before .read .ensures) (c .match .keys2))))
 
 -- the character that was read
-read : (c : tie.After-known-told Inv-loop μ-loop)
-    → Read (c .before .before .before .before .before .before .args .text .now) (c .before .before .before .before .loop .at) (c .before .s .given .0 .0) (c .before .s .given .0 .1 .0)
+read : (c : tie.After-known-told Inv-loop μ-loop) →
+    let at-loop = c .before .before .before .before in
+    Read (at-loop .before .before .args .text .now) (at-loop .loop .at) (c .before .s .given .0 .0) (c .before .s .given .0 .1 .0)
 read c = read-as _ _ _ _ (c .before .before .before .before .loop .inv .0) (sym (c .before .before .before .read .ensures) ∙ c .before .s .given .1)
 
 add-at : tie.Need-add-at Inv-loop μ-loop
 add-at c =
-    let at-start = c .before .before .before .before .before .before in
+    let at-loop = c .before .before .before .before in
+    let at-start = at-loop .before .before in
     omega (arith, read c .within, at-start .good)
 
 is-non-spacing-requires : tie.Need-is-non-spacing-requires Inv-loop μ-loop

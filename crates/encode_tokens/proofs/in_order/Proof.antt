@@ -40,138 +40,155 @@ enum-known-s c = search needs
 order-requires : tie.Need-order-requires Inv-loop μ-loop
 order-requires c κs = search needs
 
+-- the places that answers name: the start, from the loop's head; the head, the call of `order` and that of `append`, in a turn; the last call of `append`, and the head before it
+abbrev start-of : tie.At-loop Inv-loop μ-loop → tie.Start Inv-loop μ-loop
+start-of c =
+    let at-read = c .before .before .before .before in
+    let at-slice-known = at-read .before .before .before in
+    at-slice-known .before .before .before
+
+abbrev loop-of : tie.After-order Inv-loop μ-loop → tie.At-loop Inv-loop μ-loop
+loop-of c = c .before .before .before .before .before
+
+abbrev order-of : tie.After-append Inv-loop μ-loop → tie.After-order Inv-loop μ-loop
+order-of c = c .before .before .before .before
+
+abbrev append-of : tie.After-slice-known6 Inv-loop μ-loop → tie.After-append Inv-loop μ-loop
+append-of c =
+    let at-kanji = c .before .before .before in
+    at-kanji .before .before .before
+
+abbrev append-of-2 : tie.After-slice-known9 Inv-loop μ-loop → tie.After-append2 Inv-loop μ-loop
+append-of-2 c =
+    let at-kanji2 = c .before .before .before in
+    at-kanji2 .before .before .before
+
+abbrev match-of-2 : tie.After-append2 Inv-loop μ-loop → tie.At-match2-keys2 Inv-loop μ-loop
+match-of-2 c = c .before .before .before .before
+
 append-requires : tie.Need-append-requires Inv-loop μ-loop
 append-requires c κs =
-    let k = c .before .before .before .before .before .before .before .before in
-    loop-within (k .loop .inv) (k .before .before .before .before .before .before .before .before .before .before .pre)
+    let at-loop = loop-of (c .before .before .before) in
+    loop-within (at-loop .loop .inv) (start-of at-loop .pre)
 
 -- the character that was read
-read-2 : (c : tie.After-known-told2 Inv-loop μ-loop)
-    → Read (c .before .before .before .before .before .before .before .before .before .before .before .before .before .before .args .text .now)
-    (c .before .before .before .before .loop .at) (c .before .s .given .0 .0) (c .before .s .given .0 .1 .0)
+read-2 : (c : tie.After-known-told2 Inv-loop μ-loop) →
+    let at-loop = c .before .before .before .before in
+    Read (start-of at-loop .args .text .now) (at-loop .loop .at) (c .before .s .given .0 .0) (c .before .s .given .0 .1 .0)
 read-2 c = read-as _ _ _ _ (c .before .before .before .before .loop .inv .within) (sym (c .before .before .before .read2 .ensures) ∙ c .before .s .given .1)
 
 same-length : tie.Need-same-length Inv-loop μ-loop
 same-length c =
-    let a = c .before .before .before .before .before .before .before in
-    a .append .kept .1 .1 .1 .1 .0 ∙ a .before .before .before .before .before .before .before .before .before .loop .inv .chars
+    let at-append = append-of (c .before) in
+    at-append .append .kept .1 .1 .1 .0 ∙ loop-of (order-of at-append) .loop .inv .chars
 
 same-length-2 : tie.Need-same-length-2 Inv-loop μ-loop
 same-length-2 c =
-    let a = c .before .before .before .before .before .before .before in
-    a .append .kept .1 .1 .1 .1 .1 .0 ∙ a .before .before .before .before .before .before .before .before .before .loop .inv .kanji
+    let at-append = append-of (c .before) in
+    at-append .append .kept .1 .1 .1 .1 .0 ∙ loop-of (order-of at-append) .loop .inv .kanji
 
 same-length-3 : tie.Need-same-length-3 Inv-loop μ-loop
 same-length-3 c =
-    let a = c .before .before .before .before .before .before .before in
-    a .append .kept .1 .1 .1 .1 .1 .1 .0 ∙ a .before .before .before .before .before .before .before .before .before .loop .inv .symbols
+    let at-append = append-of (c .before) in
+    at-append .append .kept .1 .1 .1 .1 .1 .0 ∙ loop-of (order-of at-append) .loop .inv .symbols
 
 returns-2 : tie.Need-returns-2 Inv-loop μ-loop
 unfolding Ordering
 returns-2 c =
-    let a = c .before .before .before .before .before .before .before in
-    let o = a .before .before .before .before in
-    let k = o .before .before .before .before .before in
-    let g = k .before .before .before .before .before .before .before .before .before .before in
-    loop-missing (k .loop .inv) (g .pre) (read-2 (o .before)) (o .order .ensures) (a .append .ensures) (c .if1 .taken)
+    let at-append = append-of (c .before) in
+    let at-order = order-of at-append in
+    let at-loop = loop-of at-order in
+    loop-missing (at-loop .loop .inv) (start-of at-loop .pre) (read-2 (at-order .before)) (at-order .order .ensures) (at-append .append .ensures) (c .if1 .taken)
 
 add-at : tie.Need-add-at Inv-loop μ-loop
 add-at c =
-    let o = c .before .before .before .before .before .before .before .before .before .before .before in
-    let g = o .before .before .before .before .before .before .before .before .before .before .before .before .before .before .before in
-    omega (arith, read-2 (o .before) .within, g .good)
+    let at-order = order-of (append-of (c .before)) in
+    omega (arith, read-2 (at-order .before) .within, start-of (loop-of at-order) .good)
 
 add-count : tie.Need-add-count Inv-loop μ-loop
 add-count c =
-    let k = c .before .before .before .before .before .before .before .before .before .before .before .before .before .before .before .before in
-    let g = k .before .before .before .before .before .before .before .before .before .before in
-    omega (arith, k .loop .inv .behind, k .loop .inv .within, g .good)
+    let at-loop = loop-of (order-of (append-of (c .before))) in
+    omega (arith, at-loop .loop .inv .behind, at-loop .loop .inv .within, start-of at-loop .good)
 
 add-rest : tie.Need-add-rest Inv-loop μ-loop
 add-rest c =
-    let a = c .before .before .before .before .before .before .before in
-    let k = a .before .before .before .before .before .before .before .before .before in
-    let g = k .before .before .before .before .before .before .before .before .before .before in
-    omega (arith, k .loop .inv .behind, k .loop .inv .within, k .loop .inv .pass .short, a .append .ensures .short, g .good)
+    let at-append = append-of (c .before) in
+    let at-loop = loop-of (order-of at-append) in
+    omega (arith, at-loop .loop .inv .behind, at-loop .loop .inv .within, at-loop .loop .inv .pass .short, at-append .append .ensures .short, start-of at-loop .good)
 
 loop-less : tie.Need-loop-less Inv-loop μ-loop
 loop-less c =
-    let o = c .before .before .before .before .before .before .before .before .before .before .before in
-    omega (arith, read-2 (o .before) .least, read-2 (o .before) .within)
+    let d = read-2 (order-of (append-of (c .before)) .before) in
+    omega (arith, d .least, d .within)
 
 loop-again : tie.Need-loop-again Inv-loop μ-loop
 loop-again c =
-    let a = c .before .before .before .before .before .before .before in
-    let o = a .before .before .before .before in
-    let k = o .before .before .before .before .before in
-    let g = k .before .before .before .before .before .before .before .before .before .before in
-    loop-next (k .loop .inv) (g .pre) (read-2 (o .before)) (o .order .ensures) (a .append .ensures) (c .if1 .left)
+    let at-append = append-of (c .before) in
+    let at-order = order-of at-append in
+    let at-loop = loop-of at-order in
+    loop-next (at-loop .loop .inv) (start-of at-loop .pre) (read-2 (at-order .before)) (at-order .order .ensures) (at-append .append .ensures) (c .if1 .left)
 
 append-requires-2 : tie.Need-append-requires-2 Inv-loop μ-loop
 append-requires-2 c κs =
-    let k = c .before .before .before .before .before in
-    loop-within (k .loop .inv) (k .before .before .before .before .before .before .before .before .before .before .pre)
+    let at-loop = c .before .before .before .before .before in
+    loop-within (at-loop .loop .inv) (start-of at-loop .pre)
 
 same-length-4 : tie.Need-same-length-4 Inv-loop μ-loop
 same-length-4 c =
-    let a = c .before .before .before .before .before .before .before in
-    a .append2 .kept .1 .1 .1 .1 .0 ∙ a .before .before .before .before .before .before .loop .inv .chars
+    let at-append2 = append-of-2 (c .before) in
+    at-append2 .append2 .kept .1 .1 .1 .0 ∙ match-of-2 at-append2 .before .before .loop .inv .chars
 
 same-length-5 : tie.Need-same-length-5 Inv-loop μ-loop
 same-length-5 c =
-    let a = c .before .before .before .before .before .before .before in
-    a .append2 .kept .1 .1 .1 .1 .1 .0 ∙ a .before .before .before .before .before .before .loop .inv .kanji
+    let at-append2 = append-of-2 (c .before) in
+    at-append2 .append2 .kept .1 .1 .1 .1 .0 ∙ match-of-2 at-append2 .before .before .loop .inv .kanji
 
 same-length-6 : tie.Need-same-length-6 Inv-loop μ-loop
 same-length-6 c =
-    let a = c .before .before .before .before .before .before .before in
-    a .append2 .kept .1 .1 .1 .1 .1 .1 .0 ∙ a .before .before .before .before .before .before .loop .inv .symbols
+    let at-append2 = append-of-2 (c .before) in
+    at-append2 .append2 .kept .1 .1 .1 .1 .1 .0 ∙ match-of-2 at-append2 .before .before .loop .inv .symbols
 
 returns-3 : tie.Need-returns-3 Inv-loop μ-loop
 unfolding Ordering
 returns-3 c =
-    let a = c .before .before .before .before .before .before .before in
-    let k = a .before .before .before .before .before .before in
-    let g = k .before .before .before .before .before .before .before .before .before .before in
-    last-missing (k .loop .inv) (g .pre) (from-end _ _ (a .before .before .before .before .before .read2 .ensures) (a .before .before .before .before .match2 .keys2))
-    (a .append2 .ensures) (c .if2 .taken)
+    let at-append2 = append-of-2 (c .before) in
+    let at-match2 = match-of-2 at-append2 in
+    let at-loop = at-match2 .before .before in
+    last-missing (at-loop .loop .inv) (start-of at-loop .pre) (from-end _ _ (at-match2 .before .read2 .ensures) (at-match2 .match2 .keys2)) (at-append2 .append2 .ensures) (c .if2 .taken)
 
-add-t35 : tie.Need-add-t35 Inv-loop μ-loop
-add-t35 c =
-    let k = c .before .before .before .before .before .before .before .before .before .before .before .before .before in
-    let g = k .before .before .before .before .before .before .before .before .before .before in
-    omega (arith, k .loop .inv .behind, k .loop .inv .within, g .good)
+add-t37 : tie.Need-add-t37 Inv-loop μ-loop
+add-t37 c =
+    let at-loop = match-of-2 (append-of-2 (c .before)) .before .before in
+    omega (arith, at-loop .loop .inv .behind, at-loop .loop .inv .within, start-of at-loop .good)
 
-add-t36 : tie.Need-add-t36 Inv-loop μ-loop
-add-t36 c =
-    let a = c .before .before .before .before .before .before .before in
-    let k = a .before .before .before .before .before .before in
-    let g = k .before .before .before .before .before .before .before .before .before .before in
-    omega (arith, k .loop .inv .behind, k .loop .inv .within, k .loop .inv .pass .short, a .append2 .ensures .short, g .good)
+add-t38 : tie.Need-add-t38 Inv-loop μ-loop
+add-t38 c =
+    let at-append2 = append-of-2 (c .before) in
+    let at-loop = match-of-2 at-append2 .before .before in
+    omega (arith, at-loop .loop .inv .behind, at-loop .loop .inv .within, at-loop .loop .inv .pass .short, at-append2 .append2 .ensures .short, start-of at-loop .good)
 
 same-length-7 : tie.Need-same-length-7 Inv-loop μ-loop
 same-length-7 c =
-    let a = c .before .before .before .before .before .before .before in
-    a .append2 .kept .1 .1 .1 .1 .0 ∙ a .before .before .before .before .before .before .loop .inv .chars
+    let at-append2 = append-of-2 (c .before) in
+    at-append2 .append2 .kept .1 .1 .1 .0 ∙ match-of-2 at-append2 .before .before .loop .inv .chars
 
 same-length-8 : tie.Need-same-length-8 Inv-loop μ-loop
 same-length-8 c =
-    let a = c .before .before .before .before .before .before .before in
-    a .append2 .kept .1 .1 .1 .1 .1 .0 ∙ a .before .before .before .before .before .before .loop .inv .kanji
+    let at-append2 = append-of-2 (c .before) in
+    at-append2 .append2 .kept .1 .1 .1 .1 .0 ∙ match-of-2 at-append2 .before .before .loop .inv .kanji
 
 same-length-9 : tie.Need-same-length-9 Inv-loop μ-loop
 same-length-9 c =
-    let a = c .before .before .before .before .before .before .before in
-    a .append2 .kept .1 .1 .1 .1 .1 .1 .0 ∙ a .before .before .before .before .before .before .loop .inv .symbols
+    let at-append2 = append-of-2 (c .before) in
+    at-append2 .append2 .kept .1 .1 .1 .1 .1 .0 ∙ match-of-2 at-append2 .before .before .loop .inv .symbols
 
 returns-4 : tie.Need-returns-4 Inv-loop μ-loop
 unfolding Ordering
 returns-4 c =
-    let a = c .before .before .before .before .before .before .before in
-    let k = a .before .before .before .before .before .before in
-    let g = k .before .before .before .before .before .before .before .before .before .before in
-    last-ready (k .loop .inv) (g .pre) (from-end _ _ (a .before .before .before .before .before .read2 .ensures) (a .before .before .before .before .match2 .keys2))
-    (a .append2 .ensures) (c .if2 .left)
+    let at-append2 = append-of-2 (c .before) in
+    let at-match2 = match-of-2 at-append2 in
+    let at-loop = at-match2 .before .before in
+    last-ready (at-loop .loop .inv) (start-of at-loop .pre) (from-end _ _ (at-match2 .before .read2 .ensures) (at-match2 .match2 .keys2)) (at-append2 .append2 .ensures) (c .if2 .left)
 
 pub in-order-spec : {M : Type 1} → statement M
 in-order-spec =
@@ -201,8 +218,8 @@ in-order-spec =
     same-length-5
     same-length-6
     returns-3
-    add-t35
-    add-t36
+    add-t37
+    add-t38
     same-length-7
     same-length-8
     same-length-9

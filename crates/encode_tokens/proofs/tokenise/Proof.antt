@@ -25,8 +25,9 @@ enum-known-marks c = search needs
 
 returns-2 : tie.Need-returns-2
 returns-2 c =
-    let f = c .before .before .before .before in
-    refused5 _ _ _ _ _ _ _ (sym (f .before .before .first-fault .ensures) ∙ f .enum-told .given .1) (sym (c .before .before .before .baseless .ensures) ∙ c .before .marks .given .1)
+    let at-baseless = c .before .before .before in
+    let at-enum-told = at-baseless .before in
+    refused5 _ _ _ _ _ _ _ (sym (at-enum-told .before .before .first-fault .ensures) ∙ at-enum-told .enum-told .given .1) (sym (at-baseless .baseless .ensures) ∙ c .before .marks .given .1)
 
 enum-told-2 : tie.Need-enum-told-2
 enum-told-2 c = search needs
@@ -45,11 +46,12 @@ same-length-3 c = search needs
 
 returns-3 : tie.Need-returns-3
 returns-3 c =
-    let o = c .before .before .before .before .before .before in
-    let m = o .before .before .before .before in
-    let f = m .before .before .before in
-    answer6 _ _ _ _ _ _ _ (sym (f .before .before .first-fault .ensures) ∙ f .enum-told .given .1) (sym (m .before .before .baseless .ensures) ∙ m .enum-told2 .given .1)
-    (o .in-order .ensures)
+    let at-kanji = c .before .before .before in
+    let at-in-order = at-kanji .before .before .before in
+    let at-enum-told2 = at-in-order .before .before .before .before in
+    let at-enum-told = at-enum-told2 .before .before .before in
+    answer6 _ _ _ _ _ _ _ (sym (at-enum-told .before .before .first-fault .ensures) ∙ at-enum-told .enum-told .given .1)
+    (sym (at-enum-told2 .before .before .baseless .ensures) ∙ at-enum-told2 .enum-told2 .given .1) (at-in-order .in-order .ensures)
 
 pub tokenise-spec : {M : Type 1} → statement M
 tokenise-spec =

@@ -1,5 +1,5 @@
 -- `encode_writing::put_code` meets its contract: one byte or two. Assumes nothing.
-use Rattle.encode_writing.proofs.Laws.{put-then}
+use Rattle.lent.proofs.Putting.{put-then}
 use borrow.Author.Tests.{lt-ltb, le-ltb}
 use Rattle.encode_candidates.specs.Packed.{codeOf}
 use borrow.Author.Needs.{needs}

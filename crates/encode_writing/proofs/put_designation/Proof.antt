@@ -1,11 +1,12 @@
 -- `encode_writing::put_designation` meets its contract: the sequence of `GraphicSet::designation`. Assumes nothing.
 use Prim.Native.Nat.{ℕ, _%_}
-use mathlib.Core.Path.{_≡_, ap, _∙_}
+use mathlib.Core.Path.{_≡_, sym, ap, _∙_}
 use Rattle.encode_states.specs.Packed.{setOf}
 use native.Mathlib.Omega.{arith}
 use borrow.Author.Tests.{eq-eqb, ne-eqb}
 use Rattle.sets.specs.Sets.{setNumber, designation}
-use Rattle.encode_writing.proofs.Laws.{put-none, put-as, designation-length, held-length}
+use Rattle.lent.proofs.Putting.{put-none, put-as}
+use Rattle.encode_writing.proofs.Laws.{designation-length, held-length}
 use borrow.Author.Needs.{needs}
 use Rattle.encode_writing.proofs.put_designation.Statement.{statement}
 use Rattle.encode_writing.proofs.put_designation.Tie as tie
@@ -35,7 +36,7 @@ returns c =
     let at-start = at-if1 .before .before in
     let a = at-start .args in
     let m : a .e % 4 ≡ a .e = omega arith in
-    rw (eq-eqb _ _ (at-if1 .if1 .taken)) (put-as (ap (λ (x : ℕ). designation x (a .e % 4)) (at-set-of .set-of .ensures) ∙ ap (designation (setOf (a .x))) m)
+    rw (eq-eqb _ _ (at-if1 .if1 .taken)) (put-as (sym (ap (λ (x : ℕ). designation x (a .e % 4)) (at-set-of .set-of .ensures) ∙ ap (designation (setOf (a .x))) m))
     (at-put-sequence .put-sequence .ensures _ (at-designation .designation .ensures)))
 
 returns-2 : tie.Need-returns-2

@@ -1,13 +1,14 @@
 -- `encode_writing::put_graphic` meets its contract: the four parts, one behind another. Assumes nothing.
 use Prim.Native.Nat.{ℕ, _+_, _/_, _%_}
-use mathlib.Core.Path.{ap}
+use mathlib.Core.Path.{sym, ap}
 use mathlib.Core.List.{map}
 use Rattle.encode_candidates.specs.Packed.{codeOf}
 use native.Mathlib.Omega.{arith}
 use lib.Dec.{eqb}
 use Rattle.encode_states.specs.Packed.{setOf}
 use Rattle.encode_states.specs.Written.{writtenBy}
-use Rattle.encode_writing.proofs.Laws.{put-then, size-length, designated-length, invocation-length, half-most, put-as}
+use Rattle.lent.proofs.Putting.{put-then, put-as}
+use Rattle.encode_writing.proofs.Laws.{size-length, designated-length, invocation-length, half-most}
 use borrow.Author.Needs.{needs}
 use Rattle.encode_writing.proofs.put_graphic.Statement.{statement}
 use Rattle.encode_writing.proofs.put_graphic.Tie as tie
@@ -22,7 +23,7 @@ put-designation-requires : tie.Need-put-designation-requires
 put-designation-requires c κs =
     let at-put-size = c .before .before .before in
     let at-start = at-put-size .before .before .before in
-    (omega (arith, size-length (at-start .args .how / 16 % 4), at-put-size .put-size .ensures .to), at-start .pre .1, omega arith)
+    (omega (arith, size-length (at-start .args .how / 16 % 4), at-put-size .put-size .ensures .next), at-start .pre .1, omega arith)
 
 put-invocation-requires : tie.Need-put-invocation-requires
 put-invocation-requires c κs =
@@ -32,9 +33,9 @@ put-invocation-requires c κs =
       omega (
         arith,
         size-length (at-start .args .how / 16 % 4),
-        at-put-size .put-size .ensures .to,
+        at-put-size .put-size .ensures .next,
         designated-length (eqb (at-start .args .how / 256 % 2) 1) (setOf (at-start .args .x)) (at-start .args .how / 64 % 4),
-        at-put-designation .put-designation .ensures .to,
+        at-put-designation .put-designation .ensures .next,
       ),
       omega arith,
     )
@@ -51,11 +52,11 @@ put-code-requires c κs =
       omega (
         arith,
         size-length (at-start .args .how / 16 % 4),
-        at-put-size .put-size .ensures .to,
+        at-put-size .put-size .ensures .next,
         designated-length (eqb (at-start .args .how / 256 % 2) 1) (setOf (at-start .args .x)) (at-start .args .how / 64 % 4),
-        at-put-designation .put-designation .ensures .to,
+        at-put-designation .put-designation .ensures .next,
         invocation-length (at-start .args .how / 512) (at-start .args .how / 64 % 4),
-        at-put-invocation .put-invocation .ensures .to,
+        at-put-invocation .put-invocation .ensures .next,
       ),
       at-start .pre .2,
       at-start .pre .3,
@@ -75,7 +76,7 @@ returns c =
     let at-put-size = at-put-designation .before .before .before .before in
     let at-start = at-put-size .before .before .before in
     λ size. put-then (at-put-size .put-size .ensures) (put-then (put-then (at-put-designation .put-designation .ensures) (at-put-invocation .put-invocation .ensures))
-    (put-as (ap (λ (h : ℕ). map (λ b. b + h) (codeOf (at-start .args .code))) (at-half .half .ensures)) (at-put-code .put-code .ensures)))
+    (put-as (ap (λ (h : ℕ). map (λ b. b + h) (codeOf (at-start .args .code))) (sym (at-half .half .ensures))) (at-put-code .put-code .ensures)))
 
 pub put-graphic-spec : {M : Type 1} → statement M
 put-graphic-spec =

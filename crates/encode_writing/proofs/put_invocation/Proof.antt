@@ -1,13 +1,14 @@
 -- `encode_writing::put_invocation` meets its contract: the sequence of `Shift::bytes`. Assumes nothing.
 use mathlib.Core.Path.{sym}
 use native.Mathlib.Omega.{arith}
-use Rattle.encode_writing.proofs.Laws.{put-none, put-as, invoked, shift-length, held-length}
+use Rattle.lent.proofs.Putting.{put-none, put-as}
+use Rattle.encode_writing.proofs.Laws.{invoked, shift-length, held-length}
 use borrow.Author.Needs.{needs}
 use Rattle.encode_writing.proofs.put_invocation.Statement.{statement}
 use Rattle.encode_writing.proofs.put_invocation.Tie as tie
 
 returns : tie.Need-returns
-returns c = put-as (sym (invoked _ _ (c .if1 .taken))) (put-none _ _)
+returns c = put-as (invoked _ _ (c .if1 .taken)) (put-none _ _)
 
 shift-requires : tie.Need-shift-requires
 shift-requires c κs = search needs
@@ -24,7 +25,7 @@ same-length : tie.Need-same-length
 same-length c = search needs
 
 returns-2 : tie.Need-returns-2
-returns-2 c = put-as (c .before .before .before .before .shift .ensures) (c .before .before .put-sequence .ensures _ (c .before .before .before .bytes .ensures))
+returns-2 c = put-as (sym (c .before .before .before .before .shift .ensures)) (c .before .before .put-sequence .ensures _ (c .before .before .before .bytes .ensures))
 
 pub put-invocation-spec : {M : Type 1} → statement M
 put-invocation-spec =

@@ -2,7 +2,8 @@
 use Prim.Native.Nat.{_/_, _%_}
 use native.Mathlib.Omega.{arith}
 use Rattle.encode_states.specs.Written.{writtenBy}
-use Rattle.encode_writing.proofs.Laws.{put-then, size-length}
+use Rattle.lent.proofs.Putting.{put-then}
+use Rattle.encode_writing.proofs.Laws.{size-length}
 use borrow.Author.Needs.{needs}
 use Rattle.encode_writing.proofs.put_plain.Statement.{statement}
 use Rattle.encode_writing.proofs.put_plain.Tie as tie
@@ -14,7 +15,7 @@ put-requires : tie.Need-put-requires
 put-requires c κs =
     let at-put-size = c .before .before .before in
     let at-start = at-put-size .before .before .before in
-    omega (arith, at-put-size .put-size .ensures .to, size-length (at-start .args .how / 16 % 4))
+    omega (arith, at-put-size .put-size .ensures .next, size-length (at-start .args .how / 16 % 4))
 
 same-length : tie.Need-same-length
 same-length c = search needs

@@ -4,13 +4,14 @@ use mathlib.Core.Path.{_≡_, refl, _∙_}
 use native.Mathlib.Omega.{arith}
 use borrow.Author.Needs.{needs}
 use lib.ListN.{length, take}
-use Rattle.encode_writing.specs.Contracts.{WritesAt}
-use Rattle.encode_writing.proofs.Laws.{put-none, put-length, further, ended, taken-length}
+use Rattle.lent.specs.Put.{Put}
+use Rattle.lent.proofs.Putting.{put-none, put-long}
+use Rattle.encode_writing.proofs.Laws.{further, ended, taken-length}
 use Rattle.encode_writing.proofs.put_sequence.Statement.{statement}
 use Rattle.encode_writing.proofs.put_sequence.Tie as tie
 
 abbrev Inv-loop : tie.InvT-loop
-Inv-loop coding₀ at q to₀ k₀ coding to k = (k ≤ q .len) × (length coding ≡ length coding₀) × WritesAt coding₀ at (take k (q .bytes)) coding to
+Inv-loop coding₀ at q to₀ k₀ coding to k = (k ≤ q .len) × (length coding ≡ length coding₀) × Put coding₀ at (take k (q .bytes)) coding to
 
 abbrev μ-loop : tie.MeasureT-loop
 μ-loop coding₀ at q to₀ k₀ coding to k = q .len - k
@@ -25,7 +26,7 @@ put-requires : tie.Need-put-requires Inv-loop μ-loop
 put-requires c κs =
     let at-loop = c .before .before .before in
     let at-start = at-loop .before .before in
-    omega (arith, at-loop .loop .inv .2 .to, taken-length (at-loop .loop .k) (at-start .args .t3 .bytes))
+    omega (arith, at-loop .loop .inv .2 .next, taken-length (at-loop .loop .k) (at-start .args .t3 .bytes))
 
 add-k : tie.Need-add-k Inv-loop μ-loop
 add-k c = omega arith
@@ -40,7 +41,7 @@ loop-again c =
     let at-start = at-loop .before .before in
     let p = at-put .put .ensures in (
       omega arith,
-      put-length p ∙ at-loop .loop .inv .1,
+      put-long p ∙ at-loop .loop .inv .1,
       further (at-start .args .t3) (omega (arith, at-start .pre .2)) (at-loop .loop .inv .2) p,
     )
 

@@ -1,7 +1,7 @@
 -- `encode_writing::put_size` meets its contract: a byte where a size control is asked for. Assumes nothing.
-use mathlib.Core.Path.{sym}
 use Rattle.encode_states.specs.Written.{sizeControl}
-use Rattle.encode_writing.proofs.Laws.{put-none, put-as, other-size}
+use Rattle.lent.proofs.Putting.{put-none, put-as}
+use Rattle.encode_writing.proofs.Laws.{other-size}
 use borrow.Author.Needs.{needs}
 use Rattle.encode_writing.proofs.put_size.Statement.{statement}
 use Rattle.encode_writing.proofs.put_size.Tie as tie
@@ -30,7 +30,7 @@ returns-3 : tie.Need-returns-3
 returns-3 c =
     let at-put2 = c .before .before in
     let at-match = at-put2 .before .before in
-    put-as (sym (other-size _ (at-match .match .rest .0 .1) (at-match .match .rest .1))) (at-put2 .put2 .ensures)
+    put-as (other-size _ (at-match .match .rest .0 .1) (at-match .match .rest .1)) (at-put2 .put2 .ensures)
 
 pub put-size-spec : {M : Type 1} → statement M
 put-size-spec =
