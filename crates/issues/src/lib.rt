@@ -12,7 +12,8 @@ pub enum IssueKind {
     UndefinedControl(u8),
     /// A control code whose parameters do not fit Tables 7-15 to 7-17.
     MalformedControl(u8),
-    /// The input, or a body, ended inside a code.
+    /// The input, or a body, ended inside a code or a macro's definition, or a two-byte character's second byte was not
+    /// in the half of its first.
     Truncated,
     /// A code that is blank in its set's table.
     UndefinedCode { set: u8, code: u16 },
