@@ -90,7 +90,8 @@ fn append(
     symbols: &mut [u16],
 ) -> usize
     requires { ⌜ Within (x .n) (now chars) (now kanji) (now symbols) ⌝ }
-    ensures { λ r. ⌜ Appended (now (t .entry)) annex (x .char) (x .n) (now (chars .entry)) (now (kanji .entry)) (now (symbols .entry)) r (now (chars .exit)) (now (kanji .exit)) (now (symbols .exit)) ⌝ }
+    ensures { λ r. ⌜ Appended (now (t .entry)) annex (x .char) (x .n) (now (chars .entry)) (now (kanji .entry)) (now (symbols .entry)) r
+        (now (chars .exit)) (now (kanji .exit)) (now (symbols .exit)) ⌝ }
 {
     let n = x.n;
     let c = x.char;

@@ -115,7 +115,8 @@ decimal-add-result-2 : (t : ℕ) → decimal-lts.Need-add-result-2 (
   decimal.Post,
 ) (decimal-at t) decimal.Post
 decimal-add-result-2 t c =
-    let at-decimal = c .before .before .before .before .before .before .before in
+    let at-digit2 = c .before .before .before in
+    let at-decimal = at-digit2 .before .before .before .before in
     let at-start = at-decimal .before .before .before .before in
     omega (arith, at-decimal .decimal .ensures .0 .next, decimal-few 19 (at-start .args .n / 10) (omega arith))
 

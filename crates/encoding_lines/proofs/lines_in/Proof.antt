@@ -36,7 +36,8 @@ returns c =
     let at-refused = c .before .before in
     let at-test = at-refused .before .before .before in
     let at-call = at-test .before .before .before .before .before in
-    let at-start = at-call .before .before .before .before .before .before .before in
+    let at-slice-known = at-call .before .before .before .before in
+    let at-start = at-slice-known .before .before .before in
     let answered = answered-as _ _ (at-start .args .store .now) (at-start .pre) (at-call .encode-with .ensures) in
     let lines = lines-refused _ _ answered (at-test .before .number .ensures) (at-test .if1 .taken) (at-refused .before .place .ensures) in
     printed-refused _ (omega arith) lines (at-refused .refused .ensures .0) (at-refused .refused .ensures .1)
@@ -52,13 +53,18 @@ few : (c : tie.After-gap) → Few (c .before .before .length .result) (c .gap .r
 few c =
     let at-test = c .before .before .before in
     let at-call = at-test .before .before .before .before .before in
-    let at-start = at-call .before .before .before .before .before .before .before in
+    let at-slice-known = at-call .before .before .before .before in
+    let at-start = at-slice-known .before .before .before in
     let answered = answered-as _ _ (at-start .args .store .now) (at-start .pre) (at-call .encode-with .ensures) in
     few-counts _ _ answered (at-test .before .number .ensures) (at-test .if1 .left) (c .before .before .length .ensures) (c .gap .ensures)
 
-long : (c : tie.After-gap) → length (c .before .before .before .before .before .before .before .before .encode-with .last .1 .1 .1 .1 .1 .0) ≡ 65529
+long : (c : tie.After-gap) →
+    let at-test = c .before .before .before in
+    let at-call = at-test .before .before .before .before .before in
+    length (at-call .encode-with .last .1 .1 .1 .1 .1 .0) ≡ 65529
 long c =
-    let at-call = c .before .before .before .before .before .before .before .before in
+    let at-test = c .before .before .before in
+    let at-call = at-test .before .before .before .before .before in
     at-call .encode-with .kept .1 .1 .1 .1 .1 .0 ∙ length-replicate {A = ℕ} 65529 0
 
 array-share-prefix-coding : tie.Need-array-share-prefix-coding
@@ -71,7 +77,8 @@ coded-requires : tie.Need-coded-requires
 coded-requires c κs =
     let at-counts = c .before in
     let w = few at-counts in
-    let at-call = at-counts .before .before .before .before .before .before .before .before in
+    let at-test = at-counts .before .before .before in
+    let at-call = at-test .before .before .before .before .before in
     let t = length-take-le (at-counts .before .before .length .result) (at-call .encode-with .last .1 .1 .1 .1 .1 .0) (omega (arith, w .length, long at-counts)) in
     (w .length, w .gap, omega (arith, w .length, t))
 
@@ -87,7 +94,8 @@ returns-2 c =
     let at-counts = at-coded .before .before in
     let at-test = at-counts .before .before .before in
     let at-call = at-test .before .before .before .before .before in
-    let at-start = at-call .before .before .before .before .before .before .before in
+    let at-slice-known = at-call .before .before .before .before in
+    let at-start = at-slice-known .before .before .before in
     let answered = answered-as _ _ (at-start .args .store .now) (at-start .pre) (at-call .encode-with .ensures) in
     printed-as
     (lines-coded _ _ answered (at-test .before .number .ensures) (at-test .if1 .left) (at-counts .before .before .length .ensures) (at-counts .gap .ensures))

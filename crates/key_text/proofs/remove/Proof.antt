@@ -32,7 +32,8 @@ enum-known-s c = search needs
 
 put-requires : tie.Need-put-requires Inv-loop μ-loop
 put-requires c κs =
-    let at-loop = c .before .before .before .before .before .before in
+    let at-match = c .before .before .before in
+    let at-loop = at-match .before .before .before in
     omega (arith, at-loop .loop .inv .order, at-loop .loop .inv .within, at-loop .loop .inv .long)
 
 -- where no scalar was read
@@ -43,20 +44,22 @@ none-read Fault e = inl refl
 none-read End e = inr refl
 
 -- the turn
-read : (c : tie.After-slice-known2 Inv-loop μ-loop)
-    → Turn (c .before .before .before .before .before .before .before .before .before .before .before .args .text .now)
-    (c .before .before .before .before .before .before .before .before .before .loop .text) (c .before .before .before .before .before .before .before .before .before .loop .at)
-    (c .before .before .before .before .before .before .before .before .before .loop .to) (c .before .before .before .before .before .s .given .0 .1 .0)
-    (c .before .before .put .last .0) (c .before .before .put .result)
+read : (c : tie.After-slice-known2 Inv-loop μ-loop) →
+    let at-put = c .before .before in
+    let at-s = at-put .before .before .before in
+    let at-loop = at-s .before .before .before .before in
+    Turn (at-loop .before .before .args .text .now) (at-loop .loop .text) (at-loop .loop .at) (at-loop .loop .to) (at-s .s .given .0 .1 .0) (at-put .put .last .0) (at-put .put .result)
 read c =
     let at-put = c .before .before in
-    let at-scalar = at-put .before .before .before in
-    let at-read = at-scalar .before .before in
-    turned _ _ _ _ _ _ (at-read .before .before .loop .inv) (sym (at-read .read .ensures) ∙ at-scalar .s .given .1) (at-put .put .ensures)
+    let at-s = at-put .before .before .before in
+    let at-read = at-s .before .before in
+    turned _ _ _ _ _ _ (at-read .before .before .loop .inv) (sym (at-read .read .ensures) ∙ at-s .s .given .1) (at-put .put .ensures)
 
 add-at : tie.Need-add-at Inv-loop μ-loop
 add-at c =
-    let at-start = c .before .before .before .before .before .before .before .before .before .before .before in
+    let at-s = c .before .before .before .before .before in
+    let at-read = at-s .before .before in
+    let at-start = at-read .before .before .before .before in
     omega (arith, read c .within, at-start .good)
 
 loop-less : tie.Need-loop-less Inv-loop μ-loop

@@ -24,7 +24,8 @@ print-line-requires : tie.Need-print-line-requires
 print-line-requires c κs =
     let at-is-line = c .before .before .before in
     let at-tab-at = at-is-line .before in
-    let at-start = at-tab-at .before .before .before .before .before .before in
+    let at-trimmed = at-tab-at .before in
+    let at-start = at-trimmed .before .before .before .before .before in
     ((sym (at-is-line .is-line .ensures) ∙ not-false _ (c .before .before .if1 .left), at-tab-at .tab-at .ensures), at-start .pre)
 
 same-length : tie.Need-same-length

@@ -37,7 +37,8 @@ slice-aggregate-word c = search needs
 word-requires : tie.Need-word-requires Inv-loop μ-loop
 word-requires c κs =
     let at-loop = c .before .before .before in
-    let at-start = at-loop .before .before .before .before .before .before .before .before in
+    let at-decimal = at-loop .before .before .before in
+    let at-start = at-decimal .before .before .before .before .before in
     omega (arith, at-loop .loop .inv .1, at-loop .loop .inv .2, at-start .pre)
 
 mul-decimal : tie.Need-mul-decimal Inv-loop μ-loop
@@ -48,14 +49,16 @@ shared-slice-read-decimal-2 c = search needs
 
 cast-decimal-2 : tie.Need-cast-decimal-2 Inv-loop μ-loop
 cast-decimal-2 c =
-    let at-loop = c .before .before .before .before .before .before .before .before in
+    let at-word = c .before .before .before .before in
+    let at-loop = at-word .before .before .before .before in
     omega (arith, c .shared-slice-known3 .given (at-loop .loop .i))
 
 decimal-requires-2 : tie.Need-decimal-requires-2 Inv-loop μ-loop
 decimal-requires-2 c κs =
     let at-space = c .before .before .before .before in
     let at-loop = at-space .before .before .before .before in
-    let at-start = at-loop .before .before .before .before .before .before .before .before in
+    let at-decimal = at-loop .before .before .before in
+    let at-start = at-decimal .before .before .before .before .before in
     omega (arith, at-space .word .ensures .next, at-loop .loop .inv .1, at-loop .loop .inv .2, at-start .pre)
 
 add-i : tie.Need-add-i Inv-loop μ-loop
@@ -83,7 +86,8 @@ slice-aggregate-word-2 c = search needs
 word-requires-2 : tie.Need-word-requires-2 Inv-loop μ-loop
 word-requires-2 c κs =
     let at-loop = c .before .before .before in
-    let at-start = at-loop .before .before .before .before .before .before .before .before in
+    let at-decimal = at-loop .before .before .before in
+    let at-start = at-decimal .before .before .before .before .before in
     omega (arith, at-loop .loop .inv .1, at-loop .loop .inv .2, at-start .pre)
 
 same-length : tie.Need-same-length Inv-loop μ-loop

@@ -36,7 +36,8 @@ returns c =
     let at-refused = c .before .before in
     let at-test = at-refused .before .before in
     let at-call = at-test .before .before .before .before in
-    let at-start = at-call .before .before .before .before .before .before in
+    let at-text = at-call .before .before in
+    let at-start = at-text .before .before .before .before in
     let lines = lines-refused _ _ (at-start .pre) (answered-as _ _ (at-call .decode-checked .ensures)) (at-test .before .number .ensures) (at-test .if1 .taken) in
     printed-refused _ (omega arith) lines (at-refused .refused .ensures .0) (at-refused .refused .ensures .1)
 
@@ -55,17 +56,26 @@ few c =
     let at-issues3 = c .before .before in
     let at-text3 = at-issues3 .before in
     let at-call = at-text3 .before .before .before .before .before in
-    let at-start = at-call .before .before .before .before .before .before in
+    let at-text = at-call .before .before in
+    let at-start = at-text .before .before .before .before in
     within _ _ (at-start .pre) (answered-as _ _ (at-call .decode-checked .ensures)) (at-text3 .text3 .ensures) (at-issues3 .issues3 .ensures) (c .charged .ensures)
 
-text-long : (c : tie.After-charged) → length (c .before .before .before .before .before .before .before .before .decode-checked .last .1 .1 .1 .1 .0) ≡ 65536
+text-long : (c : tie.After-charged) →
+    let at-test = c .before .before .before .before in
+    let at-call = at-test .before .before .before .before in
+    length (at-call .decode-checked .last .1 .1 .1 .1 .0) ≡ 65536
 text-long c =
-    let at-call = c .before .before .before .before .before .before .before .before in
+    let at-test = c .before .before .before .before in
+    let at-call = at-test .before .before .before .before in
     at-call .decode-checked .kept .1 .1 .1 .1 .0 ∙ length-replicate {A = ℕ} 65536 0
 
-issues-long : (c : tie.After-charged) → length (c .before .before .before .before .before .before .before .before .decode-checked .last .1 .1 .1 .1 .1 .0) ≡ 256 * numbers
+issues-long : (c : tie.After-charged) →
+    let at-test = c .before .before .before .before in
+    let at-call = at-test .before .before .before .before in
+    length (at-call .decode-checked .last .1 .1 .1 .1 .1 .0) ≡ 256 * numbers
 issues-long c =
-    let at-call = c .before .before .before .before .before .before .before .before in
+    let at-test = c .before .before .before .before in
+    let at-call = at-test .before .before .before .before in
     at-call .decode-checked .kept .1 .1 .1 .1 .1 .0 ∙ length-replicate {A = ℕ} (256 * numbers) 0
 
 array-share-prefix-text : tie.Need-array-share-prefix-text
@@ -81,7 +91,8 @@ decoded-requires : tie.Need-decoded-requires
 decoded-requires c κs =
     let at-counts = c .before .before in
     let w = few at-counts in
-    let at-call = at-counts .before .before .before .before .before .before .before .before in
+    let at-test = at-counts .before .before .before .before in
+    let at-call = at-test .before .before .before .before in
     let t = length-take-le (at-counts .before .before .before .text3 .result) (at-call .decode-checked .last .1 .1 .1 .1 .0) (omega (arith, w .text, text-long at-counts)) in
     (w .text, w .issues, w .charge, omega (arith, w .text, t), omega (arith, w .issues, issues-long at-counts))
 
@@ -94,7 +105,8 @@ returns-2 c =
     let at-counts = at-decoded .before .before .before in
     let at-test = at-counts .before .before .before .before in
     let at-call = at-test .before .before .before .before in
-    let at-start = at-call .before .before .before .before .before .before in
+    let at-text = at-call .before .before in
+    let at-start = at-text .before .before .before .before in
     let answered = answered-as _ _ (at-call .decode-checked .ensures) in
     printed-as
     (lines-decoded _ _ (at-start .pre) answered (at-test .before .number .ensures) (at-test .if1 .left) (at-counts .before .before .before .text3 .ensures)

@@ -52,13 +52,15 @@ shared-slice-read-result c = search needs
 
 cast-result : tie.Need-cast-result
 cast-result c =
-    let at-start = c .before .before .before .before .before .before in
+    let at-if3 = c .before .before .before in
+    let at-start = at-if3 .before .before .before in
     let a = at-start .args in
     omega (arith, c .shared-slice-known .given ((a .row - 1) * 94 + (a .cell - 1)))
 
 returns-5 : tie.Need-returns-5
 returns-5 c =
-    let at-start = c .before .before .before .before .before .before in
+    let at-if3 = c .before .before .before in
+    let at-start = at-if3 .before .before .before in
     let a = at-start .args in
     sym (on-grid (a .t .now) (a .row) (a .cell) (omega arith) (omega arith) (omega arith) (omega arith))
 

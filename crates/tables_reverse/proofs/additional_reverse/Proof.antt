@@ -64,8 +64,9 @@ returns-3 c =
 
 rows-holds : tie.Need-rows-holds Inv-cells μ-cells Inv-rows μ-rows
 rows-holds c =
-    let at-place = c .before .before .before .before .before .before in
-    let z = at-place in from-85 (z .before .args .c) (z .if1 .left)
+    let at-symbols = c .before .before .before in
+    let at-if1 = at-symbols .before .before .before in
+    from-85 (at-if1 .before .args .c) (at-if1 .if1 .left)
 
 cells-holds : tie.Need-cells-holds Inv-cells μ-cells Inv-rows μ-rows
 cells-holds c = c .before .rows .inv
@@ -102,8 +103,9 @@ returns-4 : tie.Need-returns-4 Inv-cells μ-cells Inv-rows μ-rows
 unfolding additionalReverse
 returns-4 c =
     let at-rows = c .before in
-    let z = at-rows .before .before .before .before .before .before .before in
-    found-nowhere (at-rows .rows .inv) (omega arith) ∙ ap placeOf (sym (first-char symbolPlace (z .before .args .c) [] 8836 (z .if1 .left)))
+    let at-symbols = at-rows .before .before .before .before in
+    let at-if1 = at-symbols .before .before .before in
+    found-nowhere (at-rows .rows .inv) (omega arith) ∙ ap placeOf (sym (first-char symbolPlace (at-if1 .before .args .c) [] 8836 (at-if1 .if1 .left)))
 
 returns-5 : tie.Need-returns-5 Inv-cells μ-cells Inv-rows μ-rows
 unfolding additionalReverse

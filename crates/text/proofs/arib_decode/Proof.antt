@@ -43,10 +43,12 @@ returns c =
     let at-report = c .before .before .before in
     let at-place = at-report .before .before in
     let at-charged = at-place .before .before in
-    let at-call = at-charged .before .before .before .before .before .before .before in
-    let a = at-call .before .before .before .before .before .before .before .before .args in
+    let at-text2 = at-charged .before .before in
+    let at-call = at-text2 .before .before .before .before .before in
+    let at-slice-known3 = at-call .before .before .before in
+    let a = at-slice-known3 .before .before .before .before .before .args in
     let lends = lent (a .cells .now) (a .initial) (a .width) (a .input .now) (a .text .now) (a .issues .now) in
-    decodes {c = lends} (at-call .decode-with .ensures) (c .number .ensures) (at-place .place .ensures) (at-charged .before .before .text2 .ensures)
+    decodes {c = lends} (at-call .decode-with .ensures) (c .number .ensures) (at-place .place .ensures) (at-text2 .text2 .ensures)
     (at-charged .before .issues2 .ensures) (at-charged .charged .ensures) (at-report .report .ensures)
 
 pub arib-decode-spec : {M : Type 1} → statement M

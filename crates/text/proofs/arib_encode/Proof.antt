@@ -40,10 +40,12 @@ returns c =
     let at-report = c .before .before .before in
     let at-place = at-report .before .before in
     let at-gap = at-place .before .before in
-    let at-call = at-gap .before .before .before .before .before .before in
-    let a = at-call .before .before .before .before .before .before .before .before .args in
+    let at-length = at-gap .before in
+    let at-call = at-length .before .before .before .before .before in
+    let at-slice-known3 = at-call .before .before .before in
+    let a = at-slice-known3 .before .before .before .before .before .args in
     let lends = lent (a .cells .now) (a .initial) (a .width) (a .text .now) (a .store .now) (a .coding .now) in
-    coded {c = lends} (at-call .encode-with .ensures) (c .number .ensures) (at-place .place .ensures) (at-gap .before .length .ensures) (at-gap .gap .ensures)
+    coded {c = lends} (at-call .encode-with .ensures) (c .number .ensures) (at-place .place .ensures) (at-length .length .ensures) (at-gap .gap .ensures)
     (at-report .report .ensures)
 
 pub arib-encode-spec : {M : Type 1} → statement M

@@ -38,7 +38,8 @@ returns c =
     let at-place = at-report .before .before in
     let at-charged = at-place .before .before in
     let at-call = at-charged .before .before .before .before in
-    let a = at-call .before .before .before .before .before .before .args in
+    let at-slice-known2 = at-call .before .before in
+    let a = at-slice-known2 .before .before .before .before .args in
     let lends = lent (a .cells .now) (a .initial) (a .width) (a .input .now) (a .buffer .now) in
     keyed {c = lends} (at-call .key .ensures) (c .number .ensures) (at-place .place .ensures) (at-charged .before .len .ensures) (at-charged .charged .ensures)
     (at-report .report .ensures)

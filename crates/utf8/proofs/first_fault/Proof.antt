@@ -35,12 +35,13 @@ width-requires : tie.Need-width-requires Inv-loop μ-loop
 width-requires c κs = search needs
 
 -- the sequence that was read
-read : (c : tie.After-width Inv-loop μ-loop)
-    → Turn (c .before .before .before .before .before .before .args .text .now) (c .before .before .before .before .loop .at) (c .width .result)
+read : (c : tie.After-width Inv-loop μ-loop) →
+    let at-loop = c .before .before .before .before in
+    Turn (at-loop .before .before .args .text .now) (at-loop .loop .at) (c .width .result)
 read c =
-    let k = c .before .before .before .before in
-    let t = k .before .before .args .text .now in
-    let at = k .loop .at in
+    let at-loop = c .before .before .before .before in
+    let t = at-loop .before .before .args .text .now in
+    let at = at-loop .loop .at in
     let r = c .before .before .scalar-at in
     turn t at (r .result) (c .width .result) (omega arith)
     (scalar-of (drop at t) (r .result) (sym (r .ensures)) (c .before .if1 .left) ∙ ap (Scalar (r .result)) (sym (c .width .ensures)))

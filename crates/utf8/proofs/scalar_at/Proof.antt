@@ -34,7 +34,8 @@ returns c =
 
 returns-2 : tie.Need-returns-2
 returns-2 c =
-    let at-start = c .before .before .before .before .before .before in
+    let at-if1 = c .before .before .before in
+    let at-start = at-if1 .before .before .before in
     let g = at-start .args in
     let t = g .text .now in
     let at = g .at in
@@ -42,7 +43,8 @@ returns-2 c =
 
 returns-3 : tie.Need-returns-3
 returns-3 c =
-    let at-start = c .before .before .before .before .before .before .before in
+    let at-if2 = c .before .before .before in
+    let at-start = at-if2 .before .before .before .before in
     let g = at-start .args in
     let t = g .text .now in
     let at = g .at in
@@ -50,7 +52,8 @@ returns-3 c =
 
 returns-4 : tie.Need-returns-4
 returns-4 c =
-    let at-start = c .before .before .before .before .before .before .before .before in
+    let at-if2 = c .before .before .before .before in
+    let at-start = at-if2 .before .before .before .before in
     let g = at-start .args in
     let t = g .text .now in
     let at = g .at in
@@ -65,7 +68,8 @@ returns-5 c =
 
 returns-6 : tie.Need-returns-6
 returns-6 c =
-    let at-start = c .before .before .before .before .before .before .before in
+    let at-if2 = c .before .before .before in
+    let at-start = at-if2 .before .before .before .before in
     let g = at-start .args in
     let t = g .text .now in
     let at = g .at in

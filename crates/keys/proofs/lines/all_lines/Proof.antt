@@ -50,7 +50,8 @@ slice-aggregate-last-line-3 c = search needs
 
 last-line-requires : tie.Need-last-line-requires
 last-line-requires c κs =
-    let at-read-all = c .before .before .before .before .before .before in
+    let at-out2 = c .before .before .before in
+    let at-read-all = at-out2 .before .before .before in
     let at-out-buffer = at-read-all .before .before .before .before in
     let at-title-buffer = at-out-buffer .before in
     let at-line-buffer = at-title-buffer .before in

@@ -14,7 +14,8 @@ slice-aggregate-print c = sym (length-take-le _ _ (c .before .if1 .left))
 
 print-requires : tie.Need-print-requires
 print-requires c κs =
-    let at-start = c .before .before .before .before .before .before .before .before in
+    let at-if1 = c .before .before .before in
+    let at-start = at-if1 .before .before .before .before .before in
     at-start .pre
 
 enum-known-r : tie.Need-enum-known-r
@@ -32,7 +33,8 @@ same-length-2 c = search needs
 returns-2 : tie.Need-returns-2
 returns-2 c =
     let at-r = c .before in
-    let at-print = at-r .before .before .before .before .before .before in
+    let at-out = at-r .before .before .before in
+    let at-print = at-out .before .before .before in
     within _ _ _ _ (at-r .r .given .1) (at-print .print .ensures)
 
 same-length-3 : tie.Need-same-length-3

@@ -31,25 +31,29 @@ read-piece-requires c κs =
 
 same-length : tie.Need-same-length Inv-loop μ-loop
 same-length c =
-    let at-read-piece = c .before .before .before .before .before .before .before .before .before in
+    let at-out = c .before .before .before .before in
+    let at-read-piece = at-out .before .before .before .before .before in
     let at-loop = at-read-piece .before .before .before .before .before in
     at-read-piece .read-piece .kept .1 .1 .0 ∙ at-loop .loop .inv .0
 
 same-length-2 : tie.Need-same-length-2 Inv-loop μ-loop
 same-length-2 c =
-    let at-read-piece = c .before .before .before .before .before .before .before .before .before in
+    let at-out = c .before .before .before .before in
+    let at-read-piece = at-out .before .before .before .before .before in
     let at-loop = at-read-piece .before .before .before .before .before in
     at-read-piece .read-piece .kept .1 .1 .1 .0 ∙ at-loop .loop .inv .1
 
 same-length-3 : tie.Need-same-length-3 Inv-loop μ-loop
 same-length-3 c =
-    let at-read-piece = c .before .before .before .before .before .before .before .before .before in
+    let at-out = c .before .before .before .before in
+    let at-read-piece = at-out .before .before .before .before .before in
     let at-loop = at-read-piece .before .before .before .before .before in
     at-read-piece .read-piece .kept .1 .1 .1 .1 .0 ∙ at-loop .loop .inv .2
 
 returns : tie.Need-returns Inv-loop μ-loop
 returns c =
-    let at-read-piece = c .before .before .before .before .before .before .before .before .before in
+    let at-out = c .before .before .before .before in
+    let at-read-piece = at-out .before .before .before .before .before in
     at-read-piece .read-piece .ensures
 
 sub-turns : tie.Need-sub-turns Inv-loop μ-loop
@@ -60,7 +64,8 @@ loop-less c = omega arith
 
 loop-again : tie.Need-loop-again Inv-loop μ-loop
 loop-again c =
-    let at-read-piece = c .before .before .before .before .before .before .before .before .before in
+    let at-out = c .before .before .before .before in
+    let at-read-piece = at-out .before .before .before .before .before in
     let at-loop = at-read-piece .before .before .before .before .before in (
       at-read-piece .read-piece .kept .1 .1 .0 ∙ at-loop .loop .inv .0,
       at-read-piece .read-piece .kept .1 .1 .1 .0 ∙ at-loop .loop .inv .1,

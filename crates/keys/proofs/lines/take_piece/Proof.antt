@@ -37,12 +37,14 @@ same-length c =
 
 same-length-2 : tie.Need-same-length-2 Inv-loop μ-loop
 same-length-2 c =
-    let at-loop = c .before .before .before .before .before .before in
+    let at-line = c .before .before .before in
+    let at-loop = at-line .before .before .before in
     at-loop .loop .inv .1
 
 same-length-3 : tie.Need-same-length-3 Inv-loop μ-loop
 same-length-3 c =
-    let at-loop = c .before .before .before .before .before .before in
+    let at-line = c .before .before .before in
+    let at-loop = at-line .before .before .before in
     at-loop .loop .inv .2
 
 returns : tie.Need-returns Inv-loop μ-loop
@@ -53,7 +55,8 @@ end-line-requires c κs =
     let at-count-bytes = c .before .before .before .before in
     let at-keep-line = at-count-bytes .before .before .before in
     let at-loop = at-keep-line .before .before in
-    let at-start = at-loop .before .before .before .before .before .before in (
+    let at-slice-known = at-loop .before .before .before in
+    let at-start = at-slice-known .before .before .before in (
       record {
         table = at-start .pre .0 .table;
         line-long = at-keep-line .keep-line .kept .1 .1 .0 ∙ (at-loop .loop .inv .0 ∙ at-start .pre .0 .line-long);
@@ -65,14 +68,18 @@ end-line-requires c κs =
 
 add-i : tie.Need-add-i Inv-loop μ-loop
 add-i c =
-    let at-if1 = c .before .before .before .before .before .before .before .before in
+    let at-title = c .before .before .before in
+    let at-if1 = at-title .before .before .before .before .before in
     let at-keep-line = at-if1 .before .before .before .before in
-    let at-start = at-keep-line .before .before .before .before .before .before .before .before in
+    let at-loop = at-keep-line .before .before in
+    let at-slice-known = at-loop .before .before .before in
+    let at-start = at-slice-known .before .before .before in
     omega (arith, at-keep-line .keep-line .ensures .1, at-if1 .if1 .left, at-start .good)
 
 loop-less : tie.Need-loop-less Inv-loop μ-loop
 loop-less c =
-    let at-if1 = c .before .before .before .before .before .before .before .before in
+    let at-title = c .before .before .before in
+    let at-if1 = at-title .before .before .before .before .before in
     let at-keep-line = at-if1 .before .before .before .before in
     let at-loop = at-keep-line .before .before in
     omega (arith, at-keep-line .keep-line .ensures, at-if1 .if1 .left, at-loop .loop .inv .4)

@@ -19,7 +19,8 @@ returns-2 c = hex-upper (c .before .before .before .before .args .x) (λ g. omeg
 
 returns-3 : tie.Need-returns-3
 returns-3 c =
-    let at-start = c .before .before .before .before .before .before in
+    let at-if3 = c .before .before .before in
+    let at-start = at-if3 .before .before .before in
     hex-lower (at-start .args .x) (omega arith) (omega arith)
 
 returns-4 : tie.Need-returns-4
@@ -35,7 +36,8 @@ returns-6 c =
 
 returns-7 : tie.Need-returns-7
 returns-7 c =
-    let at-start = c .before .before .before .before .before .before in
+    let at-if3 = c .before .before .before in
+    let at-start = at-if3 .before .before .before in
     hex-none (at-start .args .x) (λ f. omega arith) (λ g. omega arith) (λ h. omega arith)
 
 pub hex-value-spec : {M : Type 1} → statement M

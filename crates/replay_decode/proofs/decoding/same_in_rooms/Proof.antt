@@ -33,7 +33,8 @@ array-borrow-prefix-numbers c = search needs
 slice-aggregate-same-2 : tie.Need-slice-aggregate-same-2
 slice-aggregate-same-2 c =
     let at-number-room = c .before .before .before .before in
-    let at-start = at-number-room .before .before .before .before .before .before in
+    let at-byte-room = at-number-room .before in
+    let at-start = at-byte-room .before .before .before .before .before in
     sym (length-take-le (at-start .args .case .«issue_room») (at-number-room .number-room .result) (omega (arith, at-number-room .number-room .ensures)))
 
 same-requires : tie.Need-same-requires
