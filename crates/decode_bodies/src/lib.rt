@@ -11,6 +11,7 @@ ghost use mathlib.Core.Path.{_≡_};
 ghost use Prim.Native.Nat.{ℕ, _+_, _≤_, _<_};
 ghost use mathlib.Core.List.{List};
 ghost use lib.ListN.{length, drop, getD};
+ghost use Rattle.control.specs.Codes.{MACRO};
 ghost use Rattle.reading.specs.Macros.{Run, runMacro, runBody, macroCmd};
 ghost use Rattle.reading.specs.Characters.{graphic, char1};
 ghost use Rattle.reading.specs.Steps.{run};
@@ -166,7 +167,7 @@ pub fn graphic<'a>(
 
 /// MACRO inside a body: no definition ends there, so it is cut or malformed.
 fn macro_cmd(b: &[u8], i: usize, at: u32, s: Core, issues: &mut [u32]) -> Stepped
-    requires { ⌜ (i < length (now b)) × (getD (now b) i 0 ≡ 0x95) ⌝ }
+    requires { ⌜ (i < length (now b)) × (getD (now b) i 0 ≡ MACRO) ⌝ }
     requires { ⌜ Body (now b) ⌝ }
     requires { ⌜ MayTake 1 s ⌝ }
     ensures { λ r. ⌜ ((left : ℕ) (R : Run) (place : ℕ) (cells t : List ℕ) → TookOver cells (now (b .entry)) i (λ g. macroCmd g left R (drop (i + 1) (now (b .entry))) place at)

@@ -5,6 +5,7 @@ use mathlib.Core.Bool.{false}
 use mathlib.Core.List.{List, [], _∷_}
 use mathlib.Core.Option.{Option}
 use lib.ListN.{length}
+use Rattle.control.specs.Codes.{APR, SS2, SS3, SP, MACRO}
 use Rattle.issues.specs.declared.IssueKind.the-variants.{MalformedControl, UndefinedControl}
 use Rattle.reading.specs.State.{State, Step, took, truncated, issue, designate, invokeGL, invokeGR, resize}
 use Rattle.reading.specs.Characters.{isGL, isGR}
@@ -17,11 +18,11 @@ use Rattle.decode_controls.specs.declared.Control.{Control}
 pub record Begins (x : ℕ) : Type 0 where
   pub gl : isGL x ≡ false
   pub gr : isGR x ≡ false
-  pub space : x ≡ 0x20 → ⊥
-  pub newline : x ≡ 0x0D → ⊥
-  pub ss2 : x ≡ 0x19 → ⊥
-  pub ss3 : x ≡ 0x1D → ⊥
-  pub macro : x ≡ 0x95 → ⊥
+  pub space : x ≡ SP → ⊥
+  pub newline : x ≡ APR → ⊥
+  pub ss2 : x ≡ SS2 → ⊥
+  pub ss3 : x ≡ SS3 → ⊥
+  pub macro : x ≡ MACRO → ⊥
 
 -- the step of n bytes at a place of the input that a control is, by its effect
 unfoldable pub stepOf : Effect → ℕ → ℕ → ℕ → State → Step

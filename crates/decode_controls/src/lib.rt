@@ -25,6 +25,7 @@ ghost use mathlib.Core.List.{List, [], _∷_};
 ghost use Prim.Native.Nat.{ℕ, _+_, _-_, _≤_, _<_};
 ghost use lib.Dec.{leb};
 ghost use lib.ListN.{length, take, drop, getD};
+ghost use Rattle.control.specs.Codes.{ESC};
 ghost use Rattle.sets.specs.Sets.{isNarrow, fromDesignation, toElement};
 ghost use Rattle.reading.specs.State.{Given, State, Step, took, truncated, invokeGL, resize};
 ghost use Rattle.reading.specs.Macros.{Run};
@@ -118,7 +119,7 @@ fn is_final(f: u8, low: u8) -> bool
 
 /// The locking shifts that begin with ESC. Table 7-1.
 fn locking_shift(seq: &[u8]) -> Effect
-    ensures { λ r. ⌜ ((f : ℕ) → now (seq .entry) ≡ 0x1B ∷ f ∷ [] → Means (lockingShift f) r) ⌝ }
+    ensures { λ r. ⌜ ((f : ℕ) → now (seq .entry) ≡ ESC ∷ f ∷ [] → Means (lockingShift f) r) ⌝ }
 {
     if Shift::Ls2.is(seq) {
         return Effect::Gl(2);
@@ -213,7 +214,7 @@ fn designation3(a: u8, g: u8, d: u8, f: u8) -> Effect
 
 /// The escape sequence from the ESC at `i` to its final byte at `j`.
 fn escape_at(b: &[u8], i: usize, j: usize) -> Effect
-    requires { ⌜ (i < j) × (j < length (now b)) × (getD (now b) i 0 ≡ 0x1B) ⌝ }
+    requires { ⌜ (i < j) × (j < length (now b)) × (getD (now b) i 0 ≡ ESC) ⌝ }
     ensures { λ r. ⌜ Means (applied (take (j - i) (drop (i + 1) (now (b .entry))))) r ⌝ }
 {
     let n = j - i;
@@ -228,7 +229,7 @@ fn escape_at(b: &[u8], i: usize, j: usize) -> Effect
 
 /// ESC: intermediates from 02/0 to 02/15 and a final byte from 03/0 to 07/14, ISO/IEC 2022. Tables 7-1 and 7-2.
 pub fn escape(b: &[u8], i: usize) -> Control
-    requires { ⌜ (i < length (now b)) × (getD (now b) i 0 ≡ 0x1B) ⌝ }
+    requires { ⌜ (i < length (now b)) × (getD (now b) i 0 ≡ ESC) ⌝ }
     ensures { λ r. ⌜ Reads (escape (drop (i + 1) (now (b .entry)))) (now (b .entry)) i r ⌝ }
 {
     let j = leading(b, i + 1, 0x2F);

@@ -12,7 +12,8 @@ use lib.ListN.{length, take, drop, getD, replicate, length-append, length-drop, 
 use lib.Seq.{sets-eq, length-sets, length-take-le, take-append-seam, drop-append-seam, drop-cons}
 use Rattle.base.proofs.Table.{at}
 use Rattle.lent.specs.Put.{Put}
-use Rattle.sets.specs.Sets.{designation, HoldsBytes}
+use Rattle.control.specs.Codes.{MACRO}
+use Rattle.sets.specs.Sets.{designation, HoldsBytes, Compared}
 use Rattle.sets.specs.declared.Sequence.{Sequence}
 use Rattle.issues.specs.declared.IssueKind.the-variants.{MalformedControl}
 use Rattle.reading.specs.State.{Given, State, took, issue, truncated}
@@ -128,8 +129,21 @@ pub end-stop : (b : List ℕ) (j : ℕ) → j + 1 < length b → getD b j 0 ≡ 
 unfolding endOf
 end-stop b j h p q = rw (drop-two b j h) (simp (eq-eqb _ _ p, eq-eqb _ _ q))
 
-pub end-more : (b : List ℕ) (j : ℕ) → j + 1 < length b → (getD b j 0 ≡ 0x95 → getD b (j + 1) 0 ≡ 0x4F → ⊥) → endOf (drop j b) ≡ suc (endOf (drop (j + 1) b))
+end-more : (b : List ℕ) (j : ℕ) → j + 1 < length b → (getD b j 0 ≡ 0x95 → getD b (j + 1) 0 ≡ 0x4F → ⊥) → endOf (drop j b) ≡ suc (endOf (drop (j + 1) b))
 end-more b j h p = rw (drop-two b j h, drop-next b (j + 1) (j + 2) h (omega arith)) (end-one _ _ _ p)
+
+-- the two bytes from j on, compared with the macro ending
+end-part : (b : List ℕ) (j : ℕ) → j + 1 < length b → take (j + 2 - j) (drop j b) ≡ getD b j 0 ∷ (getD b (j + 1) 0 ∷ [])
+end-part b j h = let e : j + 2 - j ≡ 2 = omega arith in rw (e, drop-two b j h)
+
+pub end-same : {r : Bool} (b : List ℕ) (j : ℕ) → j + 1 < length b → Compared r (take (j + 2 - j) (drop j b)) (MACRO ∷ 0x4F ∷ []) → r ≡ true → endOf (drop j b) ≡ 0
+end-same b j h q t =
+    let l = sym (end-part b j h) ∙ q .equal t in
+    end-stop b j h (ap (λ (m : List ℕ). getD m 0 0) l) (ap (λ (m : List ℕ). getD m 1 0) l)
+
+pub end-other : {r : Bool} (b : List ℕ) (j : ℕ) → j + 1 < length b → Compared r (take (j + 2 - j) (drop j b)) (MACRO ∷ 0x4F ∷ []) → r ≡ false
+    → endOf (drop j b) ≡ suc (endOf (drop (j + 1) b))
+end-other b j h q f = end-more b j h (λ x y. q .unequal f (end-part b j h ∙ rw (x, y)))
 
 end-last : (r : List ℕ) {n j : ℕ} → length r ≡ n - j → j ≤ n → n ≤ j + 1 → j + endOf r ≡ n
 unfolding endOf

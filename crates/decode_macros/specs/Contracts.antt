@@ -5,6 +5,7 @@ use mathlib.Core.Bool.{true, false, cond, _&&_}
 use mathlib.Core.List.{List}
 use lib.Dec.{leb}
 use lib.ListN.{length, take, drop, getD}
+use Rattle.control.specs.Codes.{MACRO}
 use Rattle.issues.specs.declared.IssueKind.the-variants.{MalformedControl}
 use Rattle.reading.specs.State.{Given, State, Step, took, issue, truncated}
 use Rattle.reading.specs.Macros.{Run, builtin, endOf, defined}
@@ -25,10 +26,10 @@ unfoldable pub commanded : Command → ℕ → Given → ℕ → Run → ℕ →
 unfolding truncated issue defined
 commanded Cut n g left R place at s = truncated n at s
 commanded Ends n g left R place at s = took 2 s
-commanded Malformed n g left R place at s = took 2 (issue at (MalformedControl 0x95) s)
+commanded Malformed n g left R place at s = took 2 (issue at (MalformedControl MACRO) s)
 commanded (Defines code len runs) n g left R place at s = defined g left R (cond runs 0x41 0x40) code len place at s
 
--- the body of a definition at the byte i of b: it begins behind 95, parameter and code, and goes to the first 95 4F, which b has
+-- the body of a definition at the byte i of b: it begins behind MACRO, parameter and code, and goes to the first MACRO 4F, which b has
 pub record Defined (code len : ℕ) (b : List ℕ) (i : ℕ) : Type 0 where
   pub small : code < 128
   pub ended : i + len + 5 ≤ length b

@@ -1,6 +1,7 @@
 // Macro bodies: the built-in ones of Table 7-18 (`default_macro` of decode.rs), and the reading of MACRO,
 // which defines one (`macro_cmd`).
 use sets::GraphicSet;
+use sets::same;
 ghost use Prim.Native.Nat.{ℕ, _+_, _-_, _%_, _≤_, _<_};
 ghost use mathlib.Core.Path.{_≡_};
 ghost use mathlib.Core.Bool.{cond};
@@ -88,17 +89,15 @@ fn put_bytes(body: &mut [u8], at: usize, s: &[u8]) -> usize
     at + i
 }
 
-/// How far a definition's body goes from `from` on: to the first 95 4F, or to the end where none is.
+/// How far a definition's body goes from `from` on: to the first MACRO 4F, or to the end where none is.
 fn body_end(b: &[u8], from: usize) -> usize
     requires { ⌜ from ≤ length (now b) ⌝ }
     ensures { λ r. ⌜ r ≡ from + endOf (drop from (now (b .entry))) ⌝ }
 {
     let mut j = from;
     while j + 1 < b.len() {
-        if b[j] == 0x95 {
-            if b[j + 1] == 0x4F {
-                return j;
-            }
+        if same(&b[j..j + 2], b"\x95\x4F") {
+            return j;
         }
         j += 1;
     }

@@ -5,6 +5,7 @@ use mathlib.Core.Bool.{true, false}
 use mathlib.Core.List.{List}
 use mathlib.Core.Logic.{_⊎_}
 use lib.ListN.{length, getD}
+use Rattle.control.specs.Codes.{SS2, SS3, MACRO}
 use Rattle.reading.specs.Characters.{isGL, isGR, isGraphic}
 use Rattle.decode_state.specs.declared.Core.{Core}
 use Rattle.decode_steps.specs.declared.Stop.{Stop}
@@ -19,7 +20,7 @@ pub record CharOf (x e : ℕ) (c : Core) : Type 0 where
 
 -- the byte x shifts one character to the code element e
 abbrev pub ShiftOf : ℕ → ℕ → Type 0
-ShiftOf x e = ((x ≡ 0x19) × (e ≡ 2)) ⊎ ((x ≡ 0x1D) × (e ≡ 3))
+ShiftOf x e = ((x ≡ SS2) × (e ≡ 2)) ⊎ ((x ≡ SS3) × (e ≡ 3))
 
 -- the byte i of b begins a character of the element e, which has the macro set
 pub record CharAt (e : ℕ) (b : List ℕ) (i : ℕ) (c : Core) : Type 0 where
@@ -37,13 +38,13 @@ pub record ShiftedAt (e : ℕ) (b : List ℕ) (i : ℕ) (c : Core) : Type 0 wher
 -- why steps stop at the byte i of b: the end, MACRO, or a character of the macro set
 abbrev pub StopAt : Stop → List ℕ → ℕ → Core → Type 0
 StopAt End b i c = length b ≤ i
-StopAt Macro b i c = (i < length b) × (getD b i 0 ≡ 0x95)
+StopAt Macro b i c = (i < length b) × (getD b i 0 ≡ MACRO)
 StopAt (Char e) b i c = CharAt e b i c
 StopAt (Shifted e) b i c = ShiftedAt e b i c
 
 -- the step at the byte i of b concerns no macro
 pub record Passes (b : List ℕ) (i : ℕ) (c : Core) : Type 0 where
-  pub command : getD b i 0 ≡ 0x95 → ⊥
+  pub command : getD b i 0 ≡ MACRO → ⊥
   pub left : isGL (getD b i 0) ≡ true → getD (c .sets) (c .gl) 0 ≡ 15 → ⊥
   pub right : isGR (getD b i 0) ≡ true → getD (c .sets) (c .gr) 0 ≡ 15 → ⊥
   pub shift : (e : ℕ) → ShiftOf (getD b i 0) e → getD (c .sets) e 0 ≡ 15 → i + 1 < length b → isGraphic (getD b (i + 1) 0) ≡ true → ⊥

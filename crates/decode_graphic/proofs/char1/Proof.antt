@@ -49,7 +49,8 @@ same-length-3 c = search needs
 returns-2 : tie.Need-returns-2
 returns-2 c =
     let at-report-placeholder = c .before .before .before .before in
-    let entry = at-report-placeholder .before .before .before .before .before .before .before .before in
+    let at-if3 = at-report-placeholder .before .before .before in
+    let entry = at-if3 .before .before .before .before .before in
     let pre = entry .pre in
     λ cells left R. did-as (λ g q starts lens t₀ i₀ x k. char1-drcs g left R _ _ _ x (pre .1 .1) (omega arith)) (at-report-placeholder .report-placeholder .ensures cells)
 

@@ -42,7 +42,8 @@ is-second-requires c κs = search needs
 char2-requires : tie.Need-char2-requires
 char2-requires c κs =
     let at-is-second = c .before .before .before in
-    let at-shared-slice-known2 = at-is-second .before .before .before .before .before .before in
+    let at-if1 = at-is-second .before .before .before in
+    let at-shared-slice-known2 = at-if1 .before .before .before in
     let entry = at-shared-slice-known2 .before .before in
     let a = entry .args in
     let pre = entry .pre in

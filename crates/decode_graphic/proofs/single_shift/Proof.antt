@@ -60,8 +60,11 @@ graphic-requires c κs =
 
 add-t25 : tie.Need-add-t25
 add-t25 c =
-    let at-graphic = c .before .before .before .before .before .before in
-    let entry = at-graphic .before .before .before .before .before .before .before .before .before .before .before .before in
+    let after-graphic = c .before .before in
+    let at-graphic = after-graphic .before .before .before .before in
+    let at-if2 = at-graphic .before .before .before .before in
+    let at-if1 = at-if2 .before .before .before in
+    let entry = at-if1 .before .before .before .before .before in
     let a = entry .args in
     let good = entry .good in
     let h : a .i + 1 + at-graphic .graphic .result .used ≤ length (a .b .now) = at-graphic .graphic .ensures 0 (λ b base origin s. s) .within in omega (arith, good)
@@ -74,7 +77,8 @@ same-length-3 c = search needs
 
 returns-2 : tie.Need-returns-2
 returns-2 c =
-    let at-graphic = c .before .before .before .before .before .before in
+    let after-graphic = c .before .before in
+    let at-graphic = after-graphic .before .before .before .before in
     let at-if2 = at-graphic .before .before .before .before in
     let at-is-graphic = at-if2 .before in
     let at-if1 = at-is-graphic .before .before in

@@ -14,12 +14,14 @@ space-requires c κs = search needs
 
 graphic-requires : tie.Need-graphic-requires
 graphic-requires c κs =
-    let entry = c .before .before .before .before .before .before in
+    let at-match = c .before .before in
+    let entry = at-match .before .before .before .before in
     (entry .pre .0, entry .pre .1, graphic-is _ (omega arith) (omega arith) (omega arith))
 
 graphic-requires-2 : tie.Need-graphic-requires-2
 graphic-requires-2 c κs =
-    let at-shared-slice-known2 = c .before .before .before .before .before .before in
+    let at-if2 = c .before .before in
+    let at-shared-slice-known2 = at-if2 .before .before .before .before in
     let entry = at-shared-slice-known2 .before .before in
     (entry .pre .0, entry .pre .1, graphic-is _ (omega arith) (omega arith) (omega (arith, at-shared-slice-known2 .shared-slice-known2 .given (entry .args .i))))
 

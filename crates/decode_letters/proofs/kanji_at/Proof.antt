@@ -61,7 +61,8 @@ shared-slice-read-c c = search needs
 
 cast-c : tie.Need-cast-c
 cast-c c =
-    let at-start = c .before .before .before .before .before .before .before .before .before in
+    let at-if3 = c .before .before .before .before .before in
+    let at-start = at-if3 .before .before .before .before in
     let a = at-start .args in
     let k = (getD (a .b .now) (a .i) 0 % 128 - 0x21) * 94 + (getD (a .b .now) (a .i + 1) 0 % 128 - 0x21) in
     omega (arith, c .shared-slice-known3 .given k)

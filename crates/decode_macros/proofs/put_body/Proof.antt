@@ -15,19 +15,25 @@ put-designation-requires c κs =
 
 put-designation-requires-2 : tie.Need-put-designation-requires-2
 put-designation-requires-2 c κs =
-    let at-start = c .before .before .before .before .before .before in
+    let at-g0 = c .before .before .before in
+    let at-start = at-g0 .before .before .before in
     let a = at-start .args in
     omega (arith, parts (a .g0 ∷ a .g1 ∷ a .g2 ∷ []))
 
 put-designation-requires-3 : tie.Need-put-designation-requires-3
 put-designation-requires-3 c κs =
-    let at-start = c .before .before .before .before .before .before .before .before .before .before in
+    let at-g1 = c .before .before .before in
+    let at-g0 = at-g1 .before .before .before .before in
+    let at-start = at-g0 .before .before .before in
     let a = at-start .args in
     omega (arith, parts (a .g0 ∷ a .g1 ∷ a .g2 ∷ []))
 
 put-designation-requires-4 : tie.Need-put-designation-requires-4
 put-designation-requires-4 c κs =
-    let at-start = c .before .before .before .before .before .before .before .before .before .before .before .before .before .before in
+    let at-g2 = c .before .before .before in
+    let at-g1 = at-g2 .before .before .before .before in
+    let at-g0 = at-g1 .before .before .before .before in
+    let at-start = at-g0 .before .before .before in
     let a = at-start .args in
     omega (arith, parts (a .g0 ∷ a .g1 ∷ a .g2 ∷ []))
 
@@ -36,7 +42,11 @@ slice-aggregate-put-bytes c = search needs
 
 put-bytes-requires : tie.Need-put-bytes-requires
 put-bytes-requires c κs =
-    let at-start = c .before .before .before .before .before .before .before .before .before .before .before .before .before .before .before .before .before .before .before in
+    let at-macro = c .before .before .before .before in
+    let at-g2 = at-macro .before .before .before .before in
+    let at-g1 = at-g2 .before .before .before .before in
+    let at-g0 = at-g1 .before .before .before .before in
+    let at-start = at-g0 .before .before .before in
     let a = at-start .args in
     omega (arith, parts (a .g0 ∷ a .g1 ∷ a .g2 ∷ []))
 

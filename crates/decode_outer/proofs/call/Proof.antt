@@ -18,8 +18,11 @@ same-length-2 c = search needs
 
 returns : tie.Need-returns
 returns c =
-    let at-call = c .before .before .before .before .before .before in
-    let entry = at-call .before .before .before .before .before .before .before .before .before .before .before in
+    let after-graphic = c .before .before in
+    let at-call = after-graphic .before .before .before .before in
+    let at-arguments = at-call .before .before in
+    let at-slices = at-arguments .before .before .before .before .before in
+    let entry = at-slices .before .before .before .before in
     λ e q. outer (c .with-core .ensures) (entry .pre .0 .inside) (at-call .graphic .ensures e q)
 
 pub call-spec : {M : Type 1} → statement M

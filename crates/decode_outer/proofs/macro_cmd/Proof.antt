@@ -49,7 +49,8 @@ definition-requires : tie.Need-definition-requires
 definition-requires c κs =
     let at-case = c .before .before .before in
     let at-read = at-case .before .before in
-    let entry = at-read .before .before .before .before .before .before in
+    let at-slices = at-read .before .before in
+    let entry = at-slices .before .before .before .before in
     (entry .pre .0, (entry .pre .1, within-defines _ _ (at-read .read-command .ensures .1) (at-case .code .given .1)))
 
 same-length : tie.Need-same-length
@@ -60,7 +61,8 @@ returns c =
     let at-call = c .before .before .before .before in
     let at-case = at-call .before .before in
     let at-read = at-case .before .before in
-    let entry = at-read .before .before .before .before .before .before in
+    let at-slices = at-read .before .before in
+    let entry = at-slices .before .before .before .before in
     let outside = entry .pre .0 in
     outer (c .with-core .ensures) (outside .inside)
     (took-ran (λ g. below g 4) (outside .ready .within)
@@ -69,7 +71,8 @@ returns c =
 returns-2 : tie.Need-returns-2
 returns-2 c =
     let at-read = c .before .before in
-    let entry = at-read .before .before .before .before .before .before in
+    let at-slices = at-read .before .before in
+    let entry = at-slices .before .before .before .before in
     let read = at-read .read-command .ensures in
     let case = c .enum-told2 .given .1 in
     outer-ends _ _ _ _ _ _ _ _ (read .0) case (within-ends _ _ (read .1) case) (entry .pre .0)
@@ -82,7 +85,8 @@ returns-3 c =
     let at-call = c .before .before .before in
     let at-case = at-call .before .before in
     let at-read = at-case .before .before in
-    let entry = at-read .before .before .before .before .before .before in
+    let at-slices = at-read .before .before in
+    let entry = at-slices .before .before .before .before in
     let outside = entry .pre .0 in
     let read = at-read .read-command .ensures in
     let case = at-case .enum-told3 .given .1 in
@@ -102,7 +106,8 @@ returns-4 c =
     let at-call = c .before .before .before .before in
     let at-case = at-call .before .before .before .before in
     let at-read = at-case .before .before in
-    let a = at-read .before .before .before .before .before .before .args in
+    let at-slices = at-read .before .before in
+    let a = at-slices .before .before .before .before .args in
     outer-as
     (λ g s k.
     at-read .read-command .ensures .0 g 4 (below g 4) (a .i) (a .i) s

@@ -35,15 +35,18 @@ cast-call-2 c = search needs
 call-requires-2 : tie.Need-call-requires-2
 call-requires-2 c κs =
     let at-case = c .before .before in
-    let entry = at-case .before .before .before .before .before .before in
+    let at-slices = at-case .before .before in
+    let entry = at-slices .before .before .before .before in
     let h = told _ _ _ (at-case .enum-told3 .given .1) (entry .pre .1 .1) in
     (entry .pre .0, (h .within, omega (arith, entry .pre .0 .short, entry .pre .1 .0)))
 
 add-t20 : tie.Need-add-t20
 add-t20 c =
-    let at-call = c .before .before .before .before .before .before in
+    let after-call2 = c .before .before in
+    let at-call = after-call2 .before .before .before .before in
     let at-case = at-call .before .before .before in
-    let entry = at-case .before .before .before .before .before .before in
+    let at-slices = at-case .before .before in
+    let entry = at-slices .before .before .before .before in
     let h = told _ _ _ (at-case .enum-told3 .given .1) (entry .pre .1 .1) in
     omega (arith, at-call .call2 .ensures _ (h .macros) .ran .most, entry .pre .0 .short)
 
@@ -60,7 +63,8 @@ returns : tie.Need-returns
 returns c =
     let at-call = c .before .before .before .before in
     let at-case = at-call .before .before .before in
-    let h = told _ _ _ (at-case .enum-told .given .1) (at-case .before .before .before .before .before .before .pre .1 .1) in
+    let at-slices = at-case .before .before in
+    let h = told _ _ _ (at-case .enum-told .given .1) (at-slices .before .before .before .before .pre .1 .1) in
     outer-as (λ g s k. step-macro g _ _ _ _ _ _ s (h .1)) (at-call .macro-cmd .ensures)
 
 same-length-3 : tie.Need-same-length-3
@@ -73,7 +77,8 @@ returns-2 : tie.Need-returns-2
 returns-2 c =
     let at-call = c .before .before .before .before in
     let at-case = at-call .before .before .before in
-    let h = told _ _ _ (at-case .enum-told2 .given .1) (at-case .before .before .before .before .before .before .pre .1 .1) in
+    let at-slices = at-case .before .before in
+    let h = told _ _ _ (at-case .enum-told2 .given .1) (at-slices .before .before .before .before .pre .1 .1) in
     outer-as (λ g s k. step-char g _ _ _ _ _ _ s _ _ (k .gl) (k .gr) (h .char)) (at-call .call .ensures _ (h .macros))
 
 same-length-5 : tie.Need-same-length-5
@@ -84,15 +89,18 @@ same-length-6 c = search needs
 
 returns-3 : tie.Need-returns-3
 returns-3 c =
-    let at-call = c .before .before .before .before .before .before in
+    let after-call2 = c .before .before in
+    let at-call = after-call2 .before .before .before .before in
     let at-case = at-call .before .before .before in
-    let h = told _ _ _ (at-case .enum-told3 .given .1) (at-case .before .before .before .before .before .before .pre .1 .1) in
+    let at-slices = at-case .before .before in
+    let h = told _ _ _ (at-case .enum-told3 .given .1) (at-slices .before .before .before .before .pre .1 .1) in
     outer-as (λ g s k. step-shift g _ _ _ _ _ _ s _ (h .shift) ∙ shift-char g _ _ _ _ _ _ s (h .within) (h .behind))
     (shift-outer (at-call .call2 .ensures _ (h .macros)))
 
 returns-4 : tie.Need-returns-4
 returns-4 c =
-    let entry = c .before .before .before .before .before .before in
+    let at-slices = c .before .before in
+    let entry = at-slices .before .before .before .before in
     absurd (omega (arith, told _ _ _ (c .enum-told4 .given .1) (entry .pre .1 .1), entry .pre .1 .0))
 
 pub step-spec : {M : Type 1} → statement M

@@ -42,7 +42,8 @@ same-length-2 c = search needs
 
 returns : tie.Need-returns Inv-loop μ-loop
 returns c =
-    let at-steps = c .before .before .before .before .before .before in
+    let after-steps = c .before .before in
+    let at-steps = after-steps .before .before .before .before in
     let at-loop = at-steps .before .before .before .before in
     let w = along-stretch (at-loop .loop .inv .along) (at-steps .steps .ensures .stretch) (at-steps .steps .kept .1 .1 .1 .1 .1 .1 .0) (at-steps .steps .kept .1 .1 .1 .1 .1 .1 .1 .0) in
     along-end w (c .if1 .taken)
@@ -50,7 +51,8 @@ returns c =
 step-requires : tie.Need-step-requires Inv-loop μ-loop
 step-requires c κs =
     let at-test = c .before .before in
-    let at-steps = at-test .before .before .before .before .before .before in
+    let after-steps = at-test .before .before in
+    let at-steps = after-steps .before .before .before .before in
     let at-loop = at-steps .before .before .before .before in
     let outside = at-loop .before .before .before .before .before .pre in
     let w = along-stretch (at-loop .loop .inv .along) (at-steps .steps .ensures .stretch) (at-steps .steps .kept .1 .1 .1 .1 .1 .1 .0) (at-steps .steps .kept .1 .1 .1 .1 .1 .1 .1 .0) in
@@ -59,23 +61,29 @@ step-requires c κs =
 
 add-i : tie.Need-add-i Inv-loop μ-loop
 add-i c =
-    let at-step = c .before .before .before .before .before .before in
-    let at-steps = at-step .before .before .before .before .before .before .before .before .before in
+    let after-step = c .before .before in
+    let at-step = after-step .before .before .before .before in
+    let after-steps = at-step .before .before .before .before .before in
+    let at-steps = after-steps .before .before .before .before in
     let at-loop = at-steps .before .before .before .before in
     omega (arith, at-step .step .ensures .ran .most, at-loop .before .before .before .before .before .pre .short)
 
 loop-less : tie.Need-loop-less Inv-loop μ-loop
 loop-less c =
-    let at-step = c .before .before .before .before .before .before in
+    let after-step = c .before .before in
+    let at-step = after-step .before .before .before .before in
     let at-test = at-step .before .before .before in
-    let at-steps = at-test .before .before .before .before .before .before in
+    let after-steps = at-test .before .before in
+    let at-steps = after-steps .before .before .before .before in
     omega (arith, at-step .step .ensures .ran .some, at-step .step .ensures .ran .most, at-steps .steps .ensures .stretch .past, at-test .if1 .left)
 
 loop-again : tie.Need-loop-again Inv-loop μ-loop
 loop-again c =
-    let at-step = c .before .before .before .before .before .before in
+    let after-step = c .before .before in
+    let at-step = after-step .before .before .before .before in
     let at-test = at-step .before .before .before in
-    let at-steps = at-test .before .before .before .before .before .before in
+    let after-steps = at-test .before .before in
+    let at-steps = after-steps .before .before .before .before in
     let at-loop = at-steps .before .before .before .before in
     let w = along-stretch (at-loop .loop .inv .along) (at-steps .steps .ensures .stretch) (at-steps .steps .kept .1 .1 .1 .1 .1 .1 .0) (at-steps .steps .kept .1 .1 .1 .1 .1 .1 .1 .0) in
     let step = at-step .step .ensures in

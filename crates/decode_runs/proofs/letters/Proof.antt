@@ -41,7 +41,8 @@ returns c =
 
 returns-2 : tie.Need-returns-2
 returns-2 c =
-    let entry = c .before .before .before .before .before .before in
+    let at-slices = c .before .before .before in
+    let entry = at-slices .before .before .before in
     λ base origin i. stretch-none base origin (entry .pre .0 .0) (entry .pre .1)
 
 pub letters-spec : {M : Type 1} → statement M

@@ -42,7 +42,8 @@ same-length-2 c = search needs
 
 returns-2 : tie.Need-returns-2 Inv-loop μ-loop
 returns-2 c =
-    let turn = c .before .before .before .before .before .before in
+    let at-if2 = c .before .before in
+    let turn = at-if2 .before .before .before .before in
     let inv = turn .loop .inv in
     (inv .letters, omega (arith, inv .room, inv .as-long))
 
@@ -58,21 +59,25 @@ put3-requires c κs =
 
 add-m : tie.Need-add-m Inv-loop μ-loop
 add-m c =
-    let at-if1 = c .before .before .before .before .before .before .before .before .before in
+    let at-if3 = c .before .before .before .before in
+    let at-if1 = at-if3 .before .before .before .before .before in
     let turn = at-if1 .before in
     let inv = turn .loop .inv in
-    omega (arith, inv .room, inv .as-long, inv .letters .within, at-if1 .if1 .left)
+    let entry = turn .before .before .before .before in
+    omega (arith, inv .room, inv .as-long, inv .letters .within, at-if1 .if1 .left, entry .good)
 
 add-i : tie.Need-add-i Inv-loop μ-loop
 add-i c =
-    let at-if1 = c .before .before .before .before .before .before .before .before .before in
+    let at-if3 = c .before .before .before .before in
+    let at-if1 = at-if3 .before .before .before .before .before in
     let turn = at-if1 .before in
     let inv = turn .loop .inv in
     omega (arith, inv .room, inv .as-long, inv .letters .within, at-if1 .if1 .left)
 
 loop-less : tie.Need-loop-less Inv-loop μ-loop
 loop-less c =
-    let at-if1 = c .before .before .before .before .before .before .before .before .before in
+    let at-if3 = c .before .before .before .before in
+    let at-if1 = at-if3 .before .before .before .before .before in
     let turn = at-if1 .before in
     let inv = turn .loop .inv in
     omega (arith, inv .room, inv .as-long, inv .letters .within, at-if1 .if1 .left)
@@ -121,21 +126,25 @@ put3-requires-2 c κs =
 
 add-m-2 : tie.Need-add-m-2 Inv-loop μ-loop
 add-m-2 c =
-    let at-if1 = c .before .before .before .before .before .before .before .before .before in
+    let at-if4 = c .before .before .before .before in
+    let at-if1 = at-if4 .before .before .before .before .before in
     let turn = at-if1 .before in
     let inv = turn .loop .inv in
-    omega (arith, inv .room, inv .as-long, inv .letters .within, at-if1 .if1 .left)
+    let entry = turn .before .before .before .before in
+    omega (arith, inv .room, inv .as-long, inv .letters .within, at-if1 .if1 .left, entry .good)
 
 add-i-2 : tie.Need-add-i-2 Inv-loop μ-loop
 add-i-2 c =
-    let at-if1 = c .before .before .before .before .before .before .before .before .before in
+    let at-if4 = c .before .before .before .before in
+    let at-if1 = at-if4 .before .before .before .before .before in
     let turn = at-if1 .before in
     let inv = turn .loop .inv in
     omega (arith, inv .room, inv .as-long, inv .letters .within, at-if1 .if1 .left)
 
 loop-less-2 : tie.Need-loop-less-2 Inv-loop μ-loop
 loop-less-2 c =
-    let at-if1 = c .before .before .before .before .before .before .before .before .before in
+    let at-if4 = c .before .before .before .before in
+    let at-if1 = at-if4 .before .before .before .before .before in
     let turn = at-if1 .before in
     let inv = turn .loop .inv in
     omega (arith, inv .room, inv .as-long, inv .letters .within, at-if1 .if1 .left)
@@ -167,7 +176,8 @@ same-length-3 c = search needs
 
 returns-3 : tie.Need-returns-3 Inv-loop μ-loop
 returns-3 c =
-    let turn = c .before .before .before .before .before .before .before in
+    let at-if2 = c .before .before .before in
+    let turn = at-if2 .before .before .before .before in
     let inv = turn .loop .inv in
     (inv .letters, omega (arith, inv .room, inv .as-long))
 
@@ -176,7 +186,8 @@ same-length-4 c = search needs
 
 returns-4 : tie.Need-returns-4 Inv-loop μ-loop
 returns-4 c =
-    let turn = c .before .before .before .before .before .before .before .before in
+    let at-if2 = c .before .before .before .before in
+    let turn = at-if2 .before .before .before .before in
     let inv = turn .loop .inv in
     (inv .letters, omega (arith, inv .room, inv .as-long))
 
@@ -185,28 +196,33 @@ cast-text c = search needs
 
 slice-write-text : tie.Need-slice-write-text Inv-loop μ-loop
 slice-write-text c =
-    let at-if1 = c .before .before .before .before .before .before .before in
+    let at-if4 = c .before .before in
+    let at-if1 = at-if4 .before .before .before .before .before in
     let turn = at-if1 .before in
     let inv = turn .loop .inv in
     omega (arith, inv .room, inv .as-long, inv .letters .within, at-if1 .if1 .left)
 
 add-m-3 : tie.Need-add-m-3 Inv-loop μ-loop
 add-m-3 c =
-    let at-if1 = c .before .before .before .before .before .before .before in
+    let at-if4 = c .before .before in
+    let at-if1 = at-if4 .before .before .before .before .before in
     let turn = at-if1 .before in
     let inv = turn .loop .inv in
-    omega (arith, inv .room, inv .as-long, inv .letters .within, at-if1 .if1 .left)
+    let entry = turn .before .before .before .before in
+    omega (arith, inv .room, inv .as-long, inv .letters .within, at-if1 .if1 .left, entry .good)
 
 add-i-3 : tie.Need-add-i-3 Inv-loop μ-loop
 add-i-3 c =
-    let at-if1 = c .before .before .before .before .before .before .before in
+    let at-if4 = c .before .before in
+    let at-if1 = at-if4 .before .before .before .before .before in
     let turn = at-if1 .before in
     let inv = turn .loop .inv in
     omega (arith, inv .room, inv .as-long, inv .letters .within, at-if1 .if1 .left)
 
 loop-less-3 : tie.Need-loop-less-3 Inv-loop μ-loop
 loop-less-3 c =
-    let at-if1 = c .before .before .before .before .before .before .before in
+    let at-if4 = c .before .before in
+    let at-if1 = at-if4 .before .before .before .before .before in
     let turn = at-if1 .before in
     let inv = turn .loop .inv in
     omega (arith, inv .room, inv .as-long, inv .letters .within, at-if1 .if1 .left)

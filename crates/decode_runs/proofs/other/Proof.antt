@@ -17,7 +17,8 @@ character-requires c κs = search needs
 
 returns-2 : tie.Need-returns-2
 returns-2 c =
-    let entry = c .before .before .before .before .before .before in
+    let at-if1 = c .before .before in
+    let entry = at-if1 .before .before .before .before in
     (spelt-start (entry .pre .0) (entry .pre .2) .letters, entry .pre .2)
 
 put-requires : tie.Need-put-requires

@@ -68,8 +68,13 @@ controls-requires c κs = search needs
 same-length : tie.Need-same-length Inv-loop μ-loop
 same-length c =
     let at-controls = c .before .before .before in
-    let turn = at-controls .before .before .before .before .before .before .before .before .before .before .before .before .before .before .before .before in
-    let entry = turn .before .before .before .before .before .before in
+    let at-other = at-controls .before .before .before .before in
+    let at-letters-from = at-other .before .before .before .before in
+    let at-is-narrow = at-letters-from .before .before in
+    let at-slices = at-is-narrow .before .before in
+    let turn = at-slices .before .before .before .before in
+    let entry-slices = turn .before .before in
+    let entry = entry-slices .before .before .before .before in
     at-controls .controls .ensures .settings .seven ∙ sym (entry .pre .3 .seven)
 
 same-length-2 : tie.Need-same-length-2 Inv-loop μ-loop
@@ -81,7 +86,8 @@ returns c =
     let at-other = at-controls .before .before .before .before in
     let at-letters-from = at-other .before .before .before .before in
     let at-is-narrow = at-letters-from .before .before in
-    let turn = at-is-narrow .before .before .before .before .before .before in
+    let at-slices = at-is-narrow .before .before in
+    let turn = at-slices .before .before .before .before in
     running-more (turn .loop .inv) refl refl (at-is-narrow .is-narrow .ensures) (at-letters-from .letters-from .ensures .0) (at-other .other .ensures .0)
     (at-controls .controls .ensures) (at-letters-from .letters-from .kept .1 .1 .1 .1 .1 .0) (at-other .other .kept .1 .1 .1 .1 .1 .0) (at-other .other .ensures .1) .runs
 
@@ -99,7 +105,8 @@ loop-again c =
     let at-other = at-controls .before .before .before .before in
     let at-letters-from = at-other .before .before .before .before in
     let at-is-narrow = at-letters-from .before .before in
-    let turn = at-is-narrow .before .before .before .before .before .before in
+    let at-slices = at-is-narrow .before .before in
+    let turn = at-slices .before .before .before .before in
     running-more (turn .loop .inv) refl refl (at-is-narrow .is-narrow .ensures) (at-letters-from .letters-from .ensures .0) (at-other .other .ensures .0)
     (at-controls .controls .ensures) (at-letters-from .letters-from .kept .1 .1 .1 .1 .1 .0) (at-other .other .kept .1 .1 .1 .1 .1 .0) (at-other .other .ensures .1)
 

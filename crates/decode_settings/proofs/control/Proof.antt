@@ -268,14 +268,16 @@ returns-11 c =
 
 returns-12 : tie.Need-returns-12
 returns-12 c =
-    let at-start = c .before .before .before .before .before .before in
+    let at-match = c .before .before in
+    let at-start = at-match .before .before .before .before in
     let p = at-start .pre in
     λ g left R place at. turns-none (p .1) (p .0)
 
 returns-13 : tie.Need-returns-13
 returns-13 c =
     let at-if3 = c .before in
-    let at-start = at-if3 .before .before .before .before .before .before .before in
+    let at-if1 = at-if3 .before .before in
+    let at-start = at-if1 .before .before .before .before .before in
     let a = at-start .args in
     let inside = at-start .pre .0 in
     let x = getD (a .b .now) (a .i) 0 in
@@ -302,7 +304,8 @@ returns-13 c =
 
 returns-14 : tie.Need-returns-14
 returns-14 c =
-    let at-start = c .before .before .before .before .before .before .before .before .before .before in
+    let at-if1 = c .before .before .before .before .before in
+    let at-start = at-if1 .before .before .before .before .before in
     let p = at-start .pre in
     λ g left R place at. turns-none (p .1) (p .0)
 

@@ -8,7 +8,8 @@ array-read-graphic c = search needs
 
 graphic-requires : tie.Need-graphic-requires
 graphic-requires c κs =
-    let at-start = c .before .before .before .before .before .before .before in
+    let at-slices = c .before .before .before in
+    let at-start = at-slices .before .before .before .before in
     let p = at-start .pre in
     (p .1, (p .0 .0, p .0 .2, p .0 .3))
 

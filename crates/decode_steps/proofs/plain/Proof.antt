@@ -23,7 +23,8 @@ enum-told c = search needs
 returns-2 : tie.Need-returns-2
 returns-2 c =
     let at-place = c .before in
-    let entry = at-place .before .before .before .before .before .before in
+    let at-slices = at-place .before .before in
+    let entry = at-slices .before .before .before .before in
     let a = entry .args in
     let at-stop = at-place in
     let n : at-stop .stop-at .result ≡ End → ⊥ =

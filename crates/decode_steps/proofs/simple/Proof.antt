@@ -25,23 +25,31 @@ newline-requires c κs = search needs
 single-shift-requires : tie.Need-single-shift-requires
 single-shift-requires c κs =
     let at-match = c .before .before in
-    let at-start = at-match .before .before .before .before .before .before in
+    let at-slices = at-match .before .before in
+    let at-start = at-slices .before .before .before .before in
     let p = at-start .pre in
     (p .1 .0, (p .0 .0, omega arith, λ l g s. p .1 .1 .shift 2 (inl (at-match .match .keys3, refl)) s l g))
 
 single-shift-requires-2 : tie.Need-single-shift-requires-2
 single-shift-requires-2 c κs =
     let at-match = c .before .before in
-    let at-start = at-match .before .before .before .before .before .before in
+    let at-slices = at-match .before .before in
+    let at-start = at-slices .before .before .before .before in
     let p = at-start .pre in
     (p .1 .0, (p .0 .0, omega arith, λ l g s. p .1 .1 .shift 3 (inr (at-match .match .keys4, refl)) s l g))
 
 cast-graphic : tie.Need-cast-graphic
 cast-graphic c = search needs
 
+-- the entry, from where the byte is in GL
+abbrev entry-gl : tie.Then2 → tie.Start
+entry-gl c =
+    let at-slices = c .before .before .before in
+    at-slices .before .before .before .before .before
+
 graphic-requires : tie.Need-graphic-requires
 graphic-requires c κs =
-    let at-start = c .before .before .before .before .before .before .before .before .before .before .before in
+    let at-start = entry-gl (c .before .before .before) in
     let a = at-start .args in
     let p = at-start .pre in
     let x = getD (a .b .now) (a .i) 0 in
@@ -53,7 +61,9 @@ cast-graphic-2 c = search needs
 
 graphic-requires-2 : tie.Need-graphic-requires-2
 graphic-requires-2 c κs =
-    let at-start = c .before .before .before .before .before .before .before .before .before .before .before .before .before in
+    let at-if4 = c .before .before .before in
+    let at-slices = at-if4 .before .before .before .before .before in
+    let at-start = at-slices .before .before .before .before .before in
     let a = at-start .args in
     let p = at-start .pre in
     let x = getD (a .b .now) (a .i) 0 in
@@ -64,7 +74,8 @@ control-requires : tie.Need-control-requires
 control-requires c κs =
     let at-if1 = c .before in
     let at-match = at-if1 .before in
-    let at-start = at-match .before .before .before .before .before .before in
+    let at-slices = at-match .before .before in
+    let at-start = at-slices .before .before .before .before in
     let a = at-start .args in
     let p = at-start .pre in
     let x = getD (a .b .now) (a .i) 0 in
@@ -83,7 +94,8 @@ returns : tie.Need-returns
 returns c =
     let at-space = c .before .before in
     let at-match = at-space .before .before in
-    let at-start = at-match .before .before .before .before .before .before in
+    let at-slices = at-match .before .before in
+    let at-start = at-slices .before .before .before .before in
     let a = at-start .args in
     let is = at-match .match .keys1 in
     let inside = at-start .pre .0 .0 in
@@ -100,7 +112,8 @@ returns-2 : tie.Need-returns-2
 returns-2 c =
     let at-newline = c .before .before .before .before in
     let at-match = at-newline .before .before .before in
-    let at-start = at-match .before .before .before .before .before .before in
+    let at-slices = at-match .before .before in
+    let at-start = at-slices .before .before .before .before in
     let a = at-start .args in
     let is = at-match .match .keys2 in
     let inside = at-start .pre .0 .0 in
@@ -141,10 +154,12 @@ same-length-9 c = search needs
 
 returns-5 : tie.Need-returns-5
 returns-5 c =
-    let a = c .before .before .before .before .before .before .before .before .before .before .before .before .before .before .before .before .args in
+    let at-graphic = c .before .before .before .before in
+    let at-if2 = at-graphic .before .before .before .before in
+    let at-slices = at-if2 .before .before .before in
+    let a = at-slices .before .before .before .before .before .args in
     let x = getD (a .b .now) (a .i) 0 in
     let k = gl-in x (omega arith) (omega arith) in
-    let at-graphic = c .before .before .before .before in
     λ left R. took-as (λ g starts lens t₀ i₀ s h. step-left g left R _ _ _ _ s _ (set-left h) k) (at-graphic .graphic .ensures left R)
 
 same-length-10 : tie.Need-same-length-10
@@ -156,7 +171,9 @@ same-length-11 c = search needs
 returns-6 : tie.Need-returns-6
 returns-6 c =
     let at-graphic2 = c .before .before .before .before in
-    let at-start = at-graphic2 .before .before .before .before .before .before .before .before .before .before .before .before .before .before in
+    let at-if4 = at-graphic2 .before .before .before .before in
+    let at-slices = at-if4 .before .before .before .before .before in
+    let at-start = at-slices .before .before .before .before .before in
     let a = at-start .args in
     let x = getD (a .b .now) (a .i) 0 in
     let k = gr-in x (omega arith) (omega arith) in
@@ -169,7 +186,8 @@ same-length-12 c = search needs
 returns-7 : tie.Need-returns-7
 returns-7 c =
     let at-control = c .before .before in
-    let at-start = at-control .before .before .before .before .before .before .before .before .before in
+    let at-slices = at-control .before .before .before .before in
+    let at-start = at-slices .before .before .before .before .before in
     let a = at-start .args in
     λ left R. took-over (λ g. at-control .control .ensures g left R (a .text .now))
 

@@ -21,14 +21,14 @@ abbrev μ-loop : tie.MeasureT-loop
 
 loop-holds : tie.Need-loop-holds Inv-loop μ-loop
 loop-holds c =
-    let a = c .before .before .before .before in
-    way-start (a .pre .0 .0) (a .pre .1)
+    let entry = c .before .before .before .before in
+    way-start (entry .pre .0 .0) (entry .pre .1)
 
 letters-requires : tie.Need-letters-requires Inv-loop μ-loop
 letters-requires c κs =
-    let h = c .before in
-    let a = h .before .before .before .before .before in
-    ((h .loop .inv .stretch .within, a .pre .0 .1), way-good (h .loop .inv) (a .pre .1))
+    let at-loop = c .before in
+    let entry = at-loop .before .before .before .before .before in
+    ((at-loop .loop .inv .stretch .within, entry .pre .0 .1), way-good (at-loop .loop .inv) (entry .pre .1))
 
 same-length : tie.Need-same-length Inv-loop μ-loop
 same-length c = search needs
@@ -38,18 +38,18 @@ same-length-2 c = search needs
 
 returns : tie.Need-returns Inv-loop μ-loop
 returns c =
-    let l = c .before .before .before .before in
-    let h = l .before .before in
-    let a = h .before .before .before .before .before in
-    let w = way-on (h .loop .inv) (l .letters .ensures (a .args .base) (a .args .origin) (h .loop .issues)) (l .letters .kept .1 .1 .1 .1 .0) in
+    let at-letters = c .before .before .before .before in
+    let at-loop = at-letters .before .before in
+    let entry = at-loop .before .before .before .before .before in
+    let w = way-on (at-loop .loop .inv) (at-letters .letters .ensures (entry .args .base) (entry .args .origin) (at-loop .loop .issues)) (at-letters .letters .kept .1 .1 .1 .1 .0) in
     record { stretch = w .stretch; stop = c .if1 .taken }
 
 stop-at-requires : tie.Need-stop-at-requires Inv-loop μ-loop
 stop-at-requires c κs =
-    let l = c .before .before .before .before in
-    let h = l .before .before in
-    let a = h .before .before .before .before .before in
-    let v = l .letters .ensures (a .args .base) (a .args .origin) (h .loop .issues) .kept in
+    let at-letters = c .before .before .before .before in
+    let at-loop = at-letters .before .before in
+    let entry = at-loop .before .before .before .before .before in
+    let v = at-letters .letters .ensures (entry .args .base) (entry .args .origin) (at-loop .loop .issues) .kept in
     (c .if1 .left, v .gl, v .gr)
 
 enum-told : tie.Need-enum-told Inv-loop μ-loop
@@ -63,75 +63,88 @@ same-length-4 c = search needs
 
 returns-2 : tie.Need-returns-2 Inv-loop μ-loop
 returns-2 c =
-    let k = c .before .before in
-    let l = k .before .before .before .before in
-    let h = l .before .before in
-    let a = h .before .before .before .before .before in
-    let w = way-on (h .loop .inv) (l .letters .ensures (a .args .base) (a .args .origin) (h .loop .issues)) (l .letters .kept .1 .1 .1 .1 .0) in
+    let at-test = c .before .before in
+    let at-letters = at-test .before .before .before .before in
+    let at-loop = at-letters .before .before in
+    let entry = at-loop .before .before .before .before .before in
+    let w = way-on (at-loop .loop .inv) (at-letters .letters .ensures (entry .args .base) (entry .args .origin) (at-loop .loop .issues)) (at-letters .letters .kept .1 .1 .1 .1 .0) in
     let n : c .before .stop-at .result ≡ End → ⊥ =
     λ e. ⊎-elim (λ z. omega (arith, z)) (⊎-elim (λ z. omega (arith, z)) (λ z. omega (arith, z))) (rw e at (c .match .keys2)) in
-    let stop = stop-at (c .before .stop-at .result) (a .args .b .now) (l .letters .result .at) (l .letters .result .core) n (c .before .stop-at .ensures) in
+    let stop = stop-at (c .before .stop-at .result) (entry .args .b .now) (at-letters .letters .result .at) (at-letters .letters .result .core) n (c .before .stop-at .ensures) in
     record { stretch = w .stretch; stop = stop }
 
 offset-requires : tie.Need-offset-requires Inv-loop μ-loop
 offset-requires c κs =
     let at-test = c .before .before .before in
-    let entry = at-test .before .before .before .before .before .before .before .before .before .before .before in
+    let at-letters = at-test .before .before .before .before in
+    let at-loop = at-letters .before .before in
+    let entry = at-loop .before .before .before .before .before in
     omega (arith, at-test .if1 .left, entry .pre .0 .1)
 
 cast-simple : tie.Need-cast-simple Inv-loop μ-loop
 cast-simple c =
     let at-test = c .before .before .before .before in
-    let entry = at-test .before .before .before .before .before .before .before .before .before .before .before in
+    let at-letters = at-test .before .before .before .before in
+    let at-loop = at-letters .before .before in
+    let entry = at-loop .before .before .before .before .before in
     omega (arith, at-test .if1 .left, entry .pre .0 .1)
 
 add-simple : tie.Need-add-simple Inv-loop μ-loop
 add-simple c =
     let at-test = c .before .before .before .before in
-    let entry = at-test .before .before .before .before .before .before .before .before .before .before .before in
+    let at-letters = at-test .before .before .before .before in
+    let at-loop = at-letters .before .before in
+    let entry = at-loop .before .before .before .before .before in
     omega (arith, at-test .if1 .left, entry .pre .0 .1, entry .pre .0 .2)
 
 simple-requires : tie.Need-simple-requires Inv-loop μ-loop
 simple-requires c κs =
     let at-place = c .before .before .before in
-    let k = at-place .before .before .before in
-    let l = k .before .before .before .before in
-    let h = l .before .before in
-    let a = h .before .before .before .before .before in
-    let w = way-on (h .loop .inv) (l .letters .ensures (a .args .base) (a .args .origin) (h .loop .issues)) (l .letters .kept .1 .1 .1 .1 .0) in
-    let told = at-place in
+    let at-test = at-place .before .before .before in
+    let at-letters = at-test .before .before .before .before in
+    let at-loop = at-letters .before .before in
+    let entry = at-loop .before .before .before .before .before in
+    let w = way-on (at-loop .loop .inv) (at-letters .letters .ensures (entry .args .base) (entry .args .origin) (at-loop .loop .issues)) (at-letters .letters .kept .1 .1 .1 .1 .0) in
+    let far = at-letters .letters .result in
     let v =
-    subst (λ (r : Stop). Verdict r (a .args .b .now) (l .letters .result .at) (l .letters .result .core)) (told .enum-told .given .1) (told .before .before .stop-at .ensures) in
-    ((k .if1 .left, a .pre .0 .1), (good-next (way-good w (a .pre .1)) (omega (arith, k .if1 .left)), v))
+    subst (λ (r : Stop). Verdict r (entry .args .b .now) (far .at) (far .core)) (at-place .enum-told .given .1) (at-place .before .before .stop-at .ensures) in
+    ((at-test .if1 .left, entry .pre .0 .1), (good-next (way-good w (entry .pre .1)) (omega (arith, at-test .if1 .left)), v))
 
 add-i : tie.Need-add-i Inv-loop μ-loop
 add-i c =
-    let at-simple = c .before .before .before .before .before .before in
-    let at-test = at-simple .before .before .before .before .before .before .before in
-    let entry = at-test .before .before .before .before .before .before .before .before .before .before .before in
+    let after-simple = c .before .before in
+    let at-simple = after-simple .before .before .before .before in
+    let at-offset = at-simple .before .before .before in
+    let at-test = at-offset .before .before .before .before in
+    let at-letters = at-test .before .before .before .before in
+    let at-loop = at-letters .before .before in
+    let entry = at-loop .before .before .before .before .before in
     omega (arith, at-simple .simple .ensures 0 (λ b₁ base₁ origin₁ s₁. s₁) .within, entry .pre .0 .1)
 
 loop-less : tie.Need-loop-less Inv-loop μ-loop
 loop-less c =
-    let at-simple = c .before .before .before .before .before .before in
-    let k = at-simple .before .before .before .before .before .before .before in
-    let l = k .before .before .before .before in
-    let h = l .before .before in
-    let a = h .before .before .before .before .before in
+    let after-simple = c .before .before in
+    let at-simple = after-simple .before .before .before .before in
+    let at-offset = at-simple .before .before .before in
+    let at-test = at-offset .before .before .before .before in
+    let at-letters = at-test .before .before .before .before in
+    let at-loop = at-letters .before .before in
+    let entry = at-loop .before .before .before .before .before in
     let step = at-simple .simple .ensures 0 (λ b₁ base₁ origin₁ s₁. s₁) in
-    omega (arith, k .if1 .left, step .some, l .letters .ensures (a .args .base) (a .args .origin) (h .loop .issues) .past)
+    omega (arith, at-test .if1 .left, step .some, at-letters .letters .ensures (entry .args .base) (entry .args .origin) (at-loop .loop .issues) .past)
 
 loop-again : tie.Need-loop-again Inv-loop μ-loop
 loop-again c =
-    let p = c .before .before .before .before .before .before in
-    let o = p .before .before .before in
-    let k = o .before .before .before .before in
-    let l = k .before .before .before .before in
-    let h = l .before .before in
-    let a = h .before .before .before .before .before in
-    let w = way-on (h .loop .inv) (l .letters .ensures (a .args .base) (a .args .origin) (h .loop .issues)) (l .letters .kept .1 .1 .1 .1 .0) in
-    way-step (p .simple .result) (o .offset .result) (o .offset .ensures) (k .if1 .left) w (p .simple .ensures)
-    (p .simple .kept .1 .1 .1 .1 .1 .1 .0) (p .simple .kept .1 .1 .1 .1 .1 .1 .1 .0)
+    let after-simple = c .before .before in
+    let at-simple = after-simple .before .before .before .before in
+    let at-offset = at-simple .before .before .before in
+    let at-test = at-offset .before .before .before .before in
+    let at-letters = at-test .before .before .before .before in
+    let at-loop = at-letters .before .before in
+    let entry = at-loop .before .before .before .before .before in
+    let w = way-on (at-loop .loop .inv) (at-letters .letters .ensures (entry .args .base) (entry .args .origin) (at-loop .loop .issues)) (at-letters .letters .kept .1 .1 .1 .1 .0) in
+    way-step (at-simple .simple .result) (at-offset .offset .result) (at-offset .offset .ensures) (at-test .if1 .left) w (at-simple .simple .ensures)
+    (at-simple .simple .kept .1 .1 .1 .1 .1 .1 .0) (at-simple .simple .kept .1 .1 .1 .1 .1 .1 .1 .0)
 
 pub steps-spec : {M : Type 1} → statement M
 steps-spec =

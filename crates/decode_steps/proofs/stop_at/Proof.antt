@@ -22,7 +22,8 @@ cast-stop-char c = search needs
 
 stop-char-requires : tie.Need-stop-char-requires
 stop-char-requires c κs =
-    let entry = c .before .before .before .before .before .before in
+    let at-if1 = c .before .before in
+    let entry = at-if1 .before .before .before .before in
     record { element = entry .pre .1; through = inl (gl-in _ (omega arith) (omega arith), refl) }
 
 cast-stop-char-2 : tie.Need-cast-stop-char-2
@@ -30,7 +31,8 @@ cast-stop-char-2 c = search needs
 
 stop-char-requires-2 : tie.Need-stop-char-requires-2
 stop-char-requires-2 c κs =
-    let entry = c .before .before .before .before .before .before .before .before in
+    let at-if2 = c .before .before .before in
+    let entry = at-if2 .before .before .before .before .before in
     record { element = entry .pre .2; through = inr (gl-above _ (omega arith), gr-in _ (omega arith) (omega arith), refl) }
 
 returns : tie.Need-returns
@@ -44,12 +46,14 @@ returns-3 c = search needs
 
 returns-4 : tie.Need-returns-4
 returns-4 c =
-    let entry = c .before .before .before .before .before .before .before in
+    let at-if2 = c .before .before in
+    let entry = at-if2 .before .before .before .before .before in
     c .stop-char .ensures (entry .args .b .now) (entry .args .i) (entry .pre .0) refl
 
 returns-5 : tie.Need-returns-5
 returns-5 c =
-    let entry = c .before .before .before .before .before .before .before .before .before in
+    let at-if2 = c .before .before .before .before in
+    let entry = at-if2 .before .before .before .before .before in
     c .stop-char2 .ensures (entry .args .b .now) (entry .args .i) (entry .pre .0) refl
 
 returns-6 : tie.Need-returns-6

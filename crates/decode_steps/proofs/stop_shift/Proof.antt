@@ -47,7 +47,8 @@ returns-3 c =
 returns-4 : tie.Need-returns-4
 returns-4 c =
     let at-is-graphic = c .before in
-    let at-start = at-is-graphic .before .before .before .before .before .before in
+    let at-if2 = at-is-graphic .before .before in
+    let at-start = at-if2 .before .before .before .before in
     let a = at-start .args in
     passes-shift (a .b .now) (a .i) (a .s) (a .e) (at-start .pre .2) (λ s l g. never g (sym (at-is-graphic .is-graphic .ensures) ∙ c .if3 .left))
 

@@ -21,24 +21,29 @@ start-requires c κs = search needs
 top-requires : tie.Need-top-requires
 top-requires c κs =
     let at-start = c .before .before in
-    let entry = at-start .before .before .before .before .before .before in
+    let at-slices = at-start .before .before in
+    let entry = at-slices .before .before .before .before in
     let a = entry .args in
     let short = passed _ _ _ _ _ (entry .pre) .within in
     subst (λ (z : Decoder). Outside (a .input .now) (length (a .input .now)) z) (sym (at-start .start .ensures)) (outside-start (a .input .now) _ _ short)
 
 flush-dangling-requires : tie.Need-flush-dangling-requires
 flush-dangling-requires c κs =
-    let at-top = c .before .before .before .before .before .before .before in
+    let after-top = c .before .before .before in
+    let at-top = after-top .before .before .before .before in
     let at-start = at-top .before .before .before in
-    let entry = at-start .before .before .before .before .before .before in
+    let at-slices = at-start .before .before in
+    let entry = at-slices .before .before .before .before in
     room-end _ _ (passed _ _ _ _ _ (entry .pre) .within) (at-start .start .ensures) (at-top .top .ensures)
 
 finish-requires : tie.Need-finish-requires
 finish-requires c κs =
     let at-flush = c .before .before .before .before in
-    let at-top = at-flush .before .before .before .before .before .before .before .before in
+    let after-top = at-flush .before .before .before .before in
+    let at-top = after-top .before .before .before .before in
     let at-start = at-top .before .before .before in
-    let entry = at-start .before .before .before .before .before .before in
+    let at-slices = at-start .before .before in
+    let entry = at-slices .before .before .before .before in
     let room = room-end _ _ (passed _ _ _ _ _ (entry .pre) .within) (at-start .start .ensures) (at-top .top .ensures) in
     omega (arith, at-flush .flush-dangling .ensures (entry .args .text .now) .grew .issues, room .issues)
 
@@ -52,7 +57,8 @@ returns : tie.Need-returns
 returns c =
     let at-finish = c .before .before .before .before in
     let at-flush = at-finish .before .before .before .before .before in
-    let at-top = at-flush .before .before .before .before .before .before .before .before in
+    let after-top = at-flush .before .before .before .before in
+    let at-top = after-top .before .before .before .before in
     let at-start = at-top .before .before .before in
     let at-g3 = at-start .before in
     let entry = at-g3 .before .before .before .before .before in

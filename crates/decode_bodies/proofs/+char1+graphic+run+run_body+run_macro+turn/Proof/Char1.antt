@@ -15,7 +15,8 @@ module _ (t : ℕ) where
 
   run-macro-requires : lts.Need-run-macro-requires claims (char1-at t) char1.Post
   run-macro-requires c κs =
-      let entry = c .before .before .before .before .before .before in
+      let at-slices = c .before .before in
+      let entry = at-slices .before .before .before .before in
       (omega (arith, entry .pre .0), entry .pre .1)
 
   same-length : lts.Need-same-length claims (char1-at t) char1.Post

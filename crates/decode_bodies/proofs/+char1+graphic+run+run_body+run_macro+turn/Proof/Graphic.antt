@@ -18,7 +18,8 @@ module _ (t : ℕ) where
 
   char1-requires : lts.Need-char1-requires claims (graphic-at t) graphic.Post
   char1-requires c κs =
-      let entry = c .before .before .before .before .before .before .before .before in
+      let at-slices = c .before .before .before in
+      let entry = at-slices .before .before .before .before .before in
       (omega (arith, entry .pre .0), (entry .pre .1 .0, omega arith))
 
   same-length : lts.Need-same-length claims (graphic-at t) graphic.Post
@@ -30,7 +31,8 @@ module _ (t : ℕ) where
   returns : lts.Need-returns claims (graphic-at t) graphic.Post
   returns c =
       let at-call = c .before .before .before .before in
-      let entry = at-call .before .before .before .before .before .before .before .before .before in
+      let at-slices = at-call .before .before .before .before in
+      let entry = at-slices .before .before .before .before .before in
       λ e q. step-as (λ g s h. graphic-macro g _ _ _ _ _ _ s (h .sets) q) (one-step (entry .pre .1 .1) (at-call .char1 .ensures))
 
   pub meets : {M : Type 1} → lts.Closed claims (graphic-at t) graphic.Post M

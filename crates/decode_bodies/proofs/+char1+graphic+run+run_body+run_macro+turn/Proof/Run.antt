@@ -31,14 +31,16 @@ module _ (t : ℕ) where
 
   add-plain : lts.Need-add-plain claims (run-at t) run.Post Inv μ
   add-plain c =
-      let entry = c .before .before .before .before .before .before .before in
+      let at-slices = c .before .before in
+      let entry = at-slices .before .before .before .before .before in
       omega (arith, entry .pre .1 .0 .at)
 
   plain-requires : lts.Need-plain-requires claims (run-at t) run.Post Inv μ
   plain-requires c κs =
       let at-loop = c .before .before .before in
       let inv = at-loop .loop .inv in
-      let entry = at-loop .before .before .before .before .before .before in
+      let at-slices = at-loop .before .before in
+      let entry = at-slices .before .before .before .before in
       let opens = entry .pre .1 .0 in
       let body = entry .pre .1 .1 in
       ((inv .within, body .short, opens .base), ready-good (ready-left (opens .ready) (inv .within) (inv .grown)))
@@ -51,16 +53,19 @@ module _ (t : ℕ) where
 
   returns : lts.Need-returns claims (run-at t) run.Post Inv μ
   returns c =
-      let at-plain = c .before .before .before .before .before .before in
+      let after-plain = c .before .before in
+      let at-plain = after-plain .before .before .before .before in
       let inv = at-plain .before .before .before .before .loop .inv in
       along-end (along-stretch inv (at-plain .plain .ensures .stretch) (at-plain .plain .kept .1 .1 .1 .1 .1 .1 .0) (at-plain .plain .kept .1 .1 .1 .1 .1 .1 .1 .0)) (c .if1 .taken)
 
   turn-requires : lts.Need-turn-requires claims (run-at t) run.Post Inv μ
   turn-requires c κs =
       let at-test = c .before .before in
-      let at-plain = at-test .before .before .before .before .before .before in
+      let after-plain = at-test .before .before in
+      let at-plain = after-plain .before .before .before .before in
       let at-loop = at-plain .before .before .before .before in
-      let entry = at-loop .before .before .before .before .before .before in
+      let at-slices = at-loop .before .before in
+      let entry = at-slices .before .before .before .before in
       let opens = entry .pre .1 .0 in
       let w =
       along-stretch (at-loop .loop .inv) (at-plain .plain .ensures .stretch) (at-plain .plain .kept .1 .1 .1 .1 .1 .1 .0) (at-plain .plain .kept .1 .1 .1 .1 .1 .1 .1 .0) in
@@ -73,25 +78,32 @@ module _ (t : ℕ) where
   add-i c =
       let at-turn = c .before .before .before .before .before in
       let at-test = at-turn .before .before .before in
-      let at-plain = at-test .before .before .before .before .before .before in
+      let after-plain = at-test .before .before in
+      let at-plain = after-plain .before .before .before .before in
       let at-loop = at-plain .before .before .before .before in
-      let entry = at-loop .before .before .before .before .before .before in
+      let at-slices = at-loop .before .before in
+      let entry = at-slices .before .before .before .before in
       omega (arith, at-turn .turn .ensures .most, entry .pre .1 .1 .short)
 
   loop-less : lts.Need-loop-less claims (run-at t) run.Post Inv μ
   loop-less c =
-      let at-turn = c .before .before .before .before .before .before in
+      let after-turn = c .before .before in
+      let at-turn = after-turn .before .before .before .before in
       let at-test = at-turn .before .before .before in
-      let at-plain = at-test .before .before .before .before .before .before in
+      let after-plain = at-test .before .before in
+      let at-plain = after-plain .before .before .before .before in
       omega (arith, at-turn .turn .ensures .some, at-turn .turn .ensures .most, at-plain .plain .ensures .stretch .past, at-test .if1 .left)
 
   loop-again : lts.Need-loop-again claims (run-at t) run.Post Inv μ
   loop-again c =
-      let at-turn = c .before .before .before .before .before .before in
+      let after-turn = c .before .before in
+      let at-turn = after-turn .before .before .before .before in
       let at-test = at-turn .before .before .before in
-      let at-plain = at-test .before .before .before .before .before .before in
+      let after-plain = at-test .before .before in
+      let at-plain = after-plain .before .before .before .before in
       let at-loop = at-plain .before .before .before .before in
-      let entry = at-loop .before .before .before .before .before .before in
+      let at-slices = at-loop .before .before in
+      let entry = at-slices .before .before .before .before in
       let w =
       along-stretch (at-loop .loop .inv) (at-plain .plain .ensures .stretch) (at-plain .plain .kept .1 .1 .1 .1 .1 .1 .0) (at-plain .plain .kept .1 .1 .1 .1 .1 .1 .1 .0) in
       along-step w (at-test .if1 .left) (inside-step (entry .args .p) (at-plain .plain .result .at) (at-turn .turn .ensures))

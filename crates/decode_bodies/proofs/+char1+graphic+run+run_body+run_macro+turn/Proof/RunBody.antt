@@ -19,7 +19,8 @@ module _ (t : ℕ) where
 
   report-requires : lts.Need-report-requires claims (run-body-at t) run-body.Post
   report-requires c κs =
-      let entry = c .before .before .before .before .before .before .before .before in
+      let at-slices = c .before .before .before in
+      let entry = at-slices .before .before .before .before .before in
       ready-good (entry .pre .1 .0 .ready)
 
   same-length : lts.Need-same-length claims (run-body-at t) run-body.Post
@@ -29,30 +30,35 @@ module _ (t : ℕ) where
   returns c =
       let at-report = c .before .before in
       let at-test = at-report .before .before in
-      let entry = at-test .before .before .before .before .before .before .before in
+      let at-slices = at-test .before .before in
+      let entry = at-slices .before .before .before .before .before in
       ran-as (λ g y s h. body-deep g _ _ _ _ _ s (at-test .if1 .taken))
       (did-ran (entry .pre .1 .0 .ready .within) (at-report .report .ensures (entry .args .cells .now) _))
 
   add-after : lts.Need-add-after claims (run-body-at t) run-body.Post
   add-after c =
-      let entry = c .before .before .before .before .before .before .before .before in
+      let at-slices = c .before .before .before in
+      let entry = at-slices .before .before .before .before .before in
       let opens = entry .pre .1 .0 in
       omega (arith, limit-is (entry .args .input .now), opens .ready .within, opens .input-short, entry .pre .1 .1 .short)
 
   mul-if2 : lts.Need-mul-if2 claims (run-body-at t) run-body.Post
   mul-if2 c =
-      let entry = c .before .before .before .before .before .before .before .before in
+      let at-slices = c .before .before .before in
+      let entry = at-slices .before .before .before .before .before in
       omega (arith, entry .pre .1 .0 .input-short)
 
   add-if2 : lts.Need-add-if2 claims (run-body-at t) run-body.Post
   add-if2 c =
-      let entry = c .before .before .before .before .before .before .before .before in
+      let at-slices = c .before .before .before in
+      let entry = at-slices .before .before .before .before .before in
       omega (arith, entry .pre .1 .0 .input-short)
 
   report-requires-2 : lts.Need-report-requires-2 claims (run-body-at t) run-body.Post
   report-requires-2 c κs =
       let at-test = c .before in
-      let entry = at-test .before .before .before .before .before .before .before .before .before in
+      let at-slices = at-test .before .before .before .before in
+      let entry = at-slices .before .before .before .before .before in
       ready-good (entry .pre .1 .0 .ready)
 
   same-length-2 : lts.Need-same-length-2 claims (run-body-at t) run-body.Post
@@ -63,7 +69,8 @@ module _ (t : ℕ) where
       let at-report = c .before .before in
       let at-test = at-report .before .before in
       let at-depth = at-test .before .before in
-      let entry = at-depth .before .before .before .before .before .before .before in
+      let at-slices = at-depth .before .before in
+      let entry = at-slices .before .before .before .before .before in
       let a = entry .args in
       let over : limit (a .input .now) < a .s .charged + length (a .body .now) = omega (arith, limit-is (a .input .now), at-test .if2 .taken) in
       ran-as (λ g y s h. body-dear g _ _ _ _ _ s (at-depth .if1 .left) (rw (h .charged, y) over))
@@ -72,7 +79,8 @@ module _ (t : ℕ) where
   returns-3 : lts.Need-returns-3 claims (run-body-at t) run-body.Post
   returns-3 c =
       let at-depth = c .before .before .before in
-      let entry = at-depth .before .before .before .before .before .before .before in
+      let at-slices = at-depth .before .before in
+      let entry = at-slices .before .before .before .before .before in
       ran-empty _ _ _ (entry .args .p) _ _ _ (at-depth .if1 .left) (c .if3 .taken) (entry .pre .1 .0 .ready)
 
   sub-t18 : lts.Need-sub-t18 claims (run-body-at t) run-body.Post
@@ -84,7 +92,8 @@ module _ (t : ℕ) where
   run-requires c κs =
       let at-limit = c .before .before .before .before in
       let at-depth = at-limit .before .before in
-      let entry = at-depth .before .before .before .before .before .before .before in
+      let at-slices = at-depth .before .before in
+      let entry = at-slices .before .before .before .before .before in
       let a = entry .args in
       let opens = entry .pre .1 .0 in
       let fits : a .s .charged + length (a .body .now) ≤ limit (a .input .now) = omega (arith, limit-is (a .input .now), at-limit .if2 .left) in (
@@ -103,7 +112,8 @@ module _ (t : ℕ) where
       let at-run = c .before .before .before .before in
       let at-limit = at-run .before .before .before .before .before in
       let at-depth = at-limit .before .before in
-      let a = at-depth .before .before .before .before .before .before .before .args in
+      let at-slices = at-depth .before .before in
+      let a = at-slices .before .before .before .before .before .args in
       let fits : a .s .charged + length (a .body .now) ≤ limit (a .input .now) = omega (arith, limit-is (a .input .now), at-limit .if2 .left) in
       ran-body _ _ _ (a .p) _ _ _ (at-depth .if1 .left) fits (at-run .run .ensures)
 

@@ -24,7 +24,9 @@ module _ (t : ℕ) where
   Known = lts.After-end claims (run-macro-at t) run-macro.Post
 
   abbrev entry : Known → lts.Start claims (run-macro-at t) run-macro.Post
-  entry c = c .before .before .before .before .before .before .before
+  entry c =
+      let at-slices = c .before .before .before in
+      at-slices .before .before .before .before
 
   -- the body ends in the input, which is short
   end-inside : (c : Known) → getD (entry c .args .starts .now) (entry c .args .code) 0 + getD (entry c .args .lens .now) (entry c .args .code) 0 ≤ length (entry c .args .input .now)
@@ -49,7 +51,9 @@ module _ (t : ℕ) where
   mul-end c = search needs
 
   element-copy-out-end : lts.Need-element-copy-out-end claims (run-macro-at t) run-macro.Post
-  element-copy-out-end c = omega (arith, c .before .before .before .before .before .before .pre .1 .1)
+  element-copy-out-end c =
+      let at-slices = c .before .before in
+      omega (arith, at-slices .before .before .before .before .pre .1 .1)
 
   cast-end : lts.Need-cast-end claims (run-macro-at t) run-macro.Post
   cast-end c = omega (arith, end-inside c, input-short c)
@@ -71,7 +75,9 @@ module _ (t : ℕ) where
 
   run-body-requires : lts.Need-run-body-requires claims (run-macro-at t) run-macro.Post
   run-body-requires c κs =
-      let entry = c .before .before .before .before .before .before .before .before .before .before in
+      let at-start = c .before .before .before .before in
+      let at-slices = at-start .before .before in
+      let entry = at-slices .before .before .before .before in
       let a = entry .args in
       let opens = entry .pre .1 .0 in
       let base : getD (a .starts .now) (a .code) 0 ≤ 65535 = omega (arith, opens .inside .within (a .code), opens .input-short) in (
@@ -89,7 +95,8 @@ module _ (t : ℕ) where
   returns c =
       let at-call = c .before .before .before .before in
       let at-test = at-call .before .before .before .before .before in
-      let a = at-test .before .before .before .before .before .before .args in
+      let at-slices = at-test .before .before in
+      let a = at-slices .before .before .before .before .args in
       let start = getD (a .starts .now) (a .code) 0 in
       let len = getD (a .lens .now) (a .code) 0 in
       let k : start + len - start ≡ len = omega arith in
@@ -113,17 +120,24 @@ module _ (t : ℕ) where
   run-body-requires-2 c κs =
       let at-test = c .before .before .before in
       let at-built = at-test .before .before in
-      let entry = at-built .before .before .before .before .before .before .before .before in
+      let at-slices = at-built .before .before .before .before in
+      let entry = at-slices .before .before .before .before in
       let opens = entry .pre .1 .0 in (
         omega (arith, entry .pre .0),
         (opens-to _ (omega arith) (opens .at) (opens .ready) opens, built-body (at-built .default-macro .ensures) (at-test .if2 .taken) (omega arith)),
       )
 
   cast-t43 : lts.Need-cast-t43 claims (run-macro-at t) run-macro.Post
-  cast-t43 c = omega (arith, c .before .before .before .before .before .before .before .before .before .before .pre .1 .1)
+  cast-t43 c =
+      let at-start = c .before .before .before .before in
+      let at-slices = at-start .before .before in
+      omega (arith, at-slices .before .before .before .before .pre .1 .1)
 
   report-requires : lts.Need-report-requires claims (run-macro-at t) run-macro.Post
-  report-requires c κs = ready-good (c .before .before .before .before .before .before .before .before .before .before .before .pre .1 .0 .ready)
+  report-requires c κs =
+      let at-start = c .before .before .before .before .before in
+      let at-slices = at-start .before .before in
+      ready-good (at-slices .before .before .before .before .pre .1 .0 .ready)
 
   same-length-3 : lts.Need-same-length-3 claims (run-macro-at t) run-macro.Post
   same-length-3 c = c .before .before .before .before .run-body2 .kept .1 .1 .1 .1 .1 .1 .1 .0
@@ -137,7 +151,8 @@ module _ (t : ℕ) where
       let at-test = at-call .before .before .before .before in
       let at-built = at-test .before .before in
       let at-start = at-built .before .before in
-      let a = at-start .before .before .before .before .before .before .args in
+      let at-slices = at-start .before .before in
+      let a = at-slices .before .before .before .before .args in
       let built = at-built .default-macro .ensures in
       let test = built-test built (at-test .if2 .taken) in
       let none : getD (a .starts .now) (a .code) 0 ≡ 0 = omega (arith, at-start .if1 .left) in
@@ -153,7 +168,8 @@ module _ (t : ℕ) where
       let at-test = at-report .before .before in
       let at-built = at-test .before .before in
       let at-start = at-built .before .before in
-      let entry = at-start .before .before .before .before .before .before in
+      let at-slices = at-start .before .before in
+      let entry = at-slices .before .before .before .before in
       let a = entry .args in
       let none : getD (a .starts .now) (a .code) 0 ≡ 0 = omega (arith, at-start .if1 .left) in
       let empty : at-built .default-macro .result ≡ 0 = omega (arith, at-test .if2 .left) in

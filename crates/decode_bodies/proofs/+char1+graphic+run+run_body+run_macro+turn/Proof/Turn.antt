@@ -23,7 +23,8 @@ module _ (t : ℕ) where
 
   graphic-requires : lts.Need-graphic-requires claims (turn-at t) turn.Post
   graphic-requires c κs =
-      let entry = c .before .before .before .before .before .before .before .before .before in
+      let at-slices = c .before .before .before .before in
+      let entry = at-slices .before .before .before .before .before in
       (omega (arith, entry .pre .0), (entry .pre .1 .0, entry .pre .1 .1 .1 .0))
 
   enum-told-2 : lts.Need-enum-told-2 claims (turn-at t) turn.Post
@@ -31,21 +32,25 @@ module _ (t : ℕ) where
 
   add-graphic : lts.Need-add-graphic claims (turn-at t) turn.Post
   add-graphic c =
-      let entry = c .before .before .before .before .before .before .before in
+      let at-slices = c .before .before in
+      let entry = at-slices .before .before .before .before .before in
       omega (arith, entry .pre .1 .1 .0 .short, entry .pre .1 .1 .1 .0)
 
   graphic-requires-2 : lts.Need-graphic-requires-2 claims (turn-at t) turn.Post
   graphic-requires-2 c κs =
       let at-case = c .before .before in
-      let entry = at-case .before .before .before .before .before .before .before in
+      let at-slices = at-case .before .before in
+      let entry = at-slices .before .before .before .before .before in
       let h = told _ _ _ (at-case .enum-told2 .given .1) (entry .pre .1 .1 .1 .1) in
       (omega (arith, entry .pre .0), (entry .pre .1 .0, h .within))
 
   add-t19 : lts.Need-add-t19 claims (turn-at t) turn.Post
   add-t19 c =
-      let at-call = c .before .before .before .before .before .before in
+      let after-graphic2 = c .before .before in
+      let at-call = after-graphic2 .before .before .before .before in
       let at-case = at-call .before .before .before in
-      let entry = at-case .before .before .before .before .before .before .before in
+      let at-slices = at-case .before .before in
+      let entry = at-slices .before .before .before .before .before in
       let h = told _ _ _ (at-case .enum-told2 .given .1) (entry .pre .1 .1 .1 .1) in
       omega (arith, at-call .graphic2 .ensures _ (h .macros) .most, entry .pre .1 .1 .0 .short)
 
@@ -55,7 +60,8 @@ module _ (t : ℕ) where
   macro-cmd-requires : lts.Need-macro-cmd-requires claims (turn-at t) turn.Post
   macro-cmd-requires c κs =
       let at-case = c .before in
-      let entry = at-case .before .before .before .before .before .before .before in
+      let at-slices = at-case .before .before in
+      let entry = at-slices .before .before .before .before .before in
       let h = told _ _ _ (at-case .enum-told3 .given .1) (entry .pre .1 .1 .1 .1) in
       (h, (entry .pre .1 .1 .0, ready-good (entry .pre .1 .0 .ready)))
 
@@ -72,21 +78,28 @@ module _ (t : ℕ) where
   returns c =
       let at-call = c .before .before .before .before in
       let at-case = at-call .before .before .before in
-      let entry = at-case .before .before .before .before .before .before .before in
+      let at-slices = at-case .before .before in
+      let entry = at-slices .before .before .before .before .before in
       let h = told _ _ _ (at-case .enum-told .given .1) (entry .pre .1 .1 .1 .1) in
       step-as (λ g s k. step-char g _ _ _ _ _ _ s _ _ (k .gl) (k .gr) (h .char)) (at-call .graphic .ensures _ (h .macros))
 
   same-length-3 : lts.Need-same-length-3 claims (turn-at t) turn.Post
-  same-length-3 c = c .before .before .before .before .before .before .graphic2 .kept .1 .1 .1 .1 .1 .1 .1 .1 .0
+  same-length-3 c =
+      let after-graphic2 = c .before .before in
+      after-graphic2 .before .before .before .before .graphic2 .kept .1 .1 .1 .1 .1 .1 .1 .1 .0
 
   same-length-4 : lts.Need-same-length-4 claims (turn-at t) turn.Post
-  same-length-4 c = c .before .before .before .before .before .before .graphic2 .kept .1 .1 .1 .1 .1 .1 .1 .1 .1 .0
+  same-length-4 c =
+      let after-graphic2 = c .before .before in
+      after-graphic2 .before .before .before .before .graphic2 .kept .1 .1 .1 .1 .1 .1 .1 .1 .1 .0
 
   returns-2 : lts.Need-returns-2 claims (turn-at t) turn.Post
   returns-2 c =
-      let at-call = c .before .before .before .before .before .before in
+      let after-graphic2 = c .before .before in
+      let at-call = after-graphic2 .before .before .before .before in
       let at-case = at-call .before .before .before in
-      let entry = at-case .before .before .before .before .before .before .before in
+      let at-slices = at-case .before .before in
+      let entry = at-slices .before .before .before .before .before in
       let h = told _ _ _ (at-case .enum-told2 .given .1) (entry .pre .1 .1 .1 .1) in
       step-as (λ g s k. step-shift g _ _ _ _ _ _ s _ (h .shift) ∙ shift-char g _ _ _ _ _ _ s (h .within) (h .behind))
       (shift-step (at-call .graphic2 .ensures _ (h .macros)))
@@ -98,7 +111,8 @@ module _ (t : ℕ) where
   returns-3 c =
       let at-call = c .before .before in
       let at-case = at-call .before .before in
-      let entry = at-case .before .before .before .before .before .before .before in
+      let at-slices = at-case .before .before in
+      let entry = at-slices .before .before .before .before .before in
       let a = entry .args in
       let h = told _ _ _ (at-case .enum-told3 .given .1) (entry .pre .1 .1 .1 .1) in
       step-as (λ g s k. step-macro g _ _ _ _ _ _ s (h .1))
@@ -107,7 +121,8 @@ module _ (t : ℕ) where
 
   returns-4 : lts.Need-returns-4 claims (turn-at t) turn.Post
   returns-4 c =
-      let entry = c .before .before .before .before .before .before .before in
+      let at-slices = c .before .before in
+      let entry = at-slices .before .before .before .before .before in
       absurd (omega (arith, told _ _ _ (c .enum-told4 .given .1) (entry .pre .1 .1 .1 .1), entry .pre .1 .1 .1 .0))
 
   pub meets : {M : Type 1} → lts.Closed claims (turn-at t) turn.Post M
