@@ -8,7 +8,6 @@ use lib.ListN.{length}
 use Rattle.questions.specs.Questions.{firstRefusal, encodeLimit}
 use Rattle.questions.specs.Buffer.{padded}
 use Rattle.utf8.specs.Utf8.{firstFault}
-use Rattle.utf8.specs.declared.Text.{Text}
 use Rattle.utf8.specs.declared.Text.the-variants.{WellFormed, FaultAt}
 use Rattle.coding.specs.Tokens.{Token, tokens, inOrder, chars, baseless}
 use Rattle.coding.specs.Candidates.{Cand, candidatesOf}

@@ -1,9 +1,8 @@
 -- The coder's state, and how controls change it: encode.rs, `State`.
 use Prim.Native.Nat.{ℕ, zero, suc}
-use mathlib.Core.Bool.{Bool, true, false, cond, _&&_}
-use mathlib.Core.List.{List, [], _∷_}
+use mathlib.Core.Bool.{Bool, cond, _&&_}
+use mathlib.Core.List.{List}
 use lib.Dec.{eqb}
-use Rattle.sets.specs.declared.Shift.{Shift}
 use Rattle.sets.specs.declared.Shift.the-variants.{Ls0, Ls1, Ls2, Ls3, Ls1r, Ls2r, Ls3r, Ss2, Ss3}
 use Rattle.sets.specs.Sets.{shiftBytes}
 

@@ -1,11 +1,11 @@
 -- The decoding call: from what was written to the answer, and the refusals.
-use Prim.Native.Nat.{ℕ, zero, suc, _+_, _-_, _*_, _≤_, _<_}
+use Prim.Native.Nat.{ℕ, zero, suc, _*_, _≤_, _<_}
 use mathlib.Core.Path.{_≡_, refl, sym, ap, _∙_, subst}
-use mathlib.Core.Bool.{Bool, true, false, cond}
+use mathlib.Core.Bool.{Bool, false, cond}
 use mathlib.Core.List.{List, [], _∷_, _++_, append-nil}
 use native.Mathlib.Omega.{arith}
 use borrow.Author.Tests.{le-leb, lt-leb}
-use lib.Dec.{eqb, leb}
+use lib.Dec.{eqb}
 use lib.ListN.{length, replicate}
 use lib.Seq.{sets, length-sets}
 use Rattle.utf8.specs.Utf8.{utf8s}
@@ -26,7 +26,7 @@ use Rattle.decode_state.specs.declared.Core.{Core}
 use Rattle.decode_state.specs.declared.Decoder.{Decoder}
 use Rattle.decode_state.specs.Contracts.{whole, Holds}
 use Rattle.decode.specs.declared.call.Answer.{Answer}
-use Rattle.decode.specs.declared.call.Answer.the-variants.{Decoded, Refused}
+use Rattle.decode.specs.declared.call.Answer.the-variants.{Decoded}
 use Rattle.decode_output.proofs.Held.{release-marks}
 use Rattle.decode_bodies.specs.Contracts.{Grown}
 use Rattle.decode_outer.specs.Contracts.{Outside, TopRan}

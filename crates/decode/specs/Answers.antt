@@ -9,7 +9,7 @@ use Rattle.utf8.specs.Utf8.{utf8s}
 use Rattle.questions.specs.Buffer.{padded}
 use Rattle.issues.specs.Issue.{issuesNumbers}
 use Rattle.decode_output.specs.Output.{Output}
-use Rattle.reading.specs.Call.{Lent, Outcome, outcome}
+use Rattle.reading.specs.Call.{Lent, outcome}
 use Rattle.decode.specs.declared.call.Answer.{Answer}
 use Rattle.decode.specs.declared.call.Answer.the-variants.{Decoded, Refused}
 

@@ -1,7 +1,7 @@
 -- `run_body`, `run_macro`, `char1` and `graphic` of the definition, by case.
-use Prim.Native.Nat.{ℕ, zero, suc, _+_, _-_, _*_, _%_, _≤_, _<_}
-use mathlib.Core.Path.{_≡_, refl, sym, ap, _∙_, subst}
-use mathlib.Core.Bool.{Bool, true, false, cond, _&&_, _||_, false≢true}
+use Prim.Native.Nat.{ℕ, suc, _+_, _-_, _%_, _≤_, _<_}
+use mathlib.Core.Path.{_≡_, refl, sym, _∙_, subst}
+use mathlib.Core.Bool.{Bool, true, false, _&&_, false≢true}
 use mathlib.Core.List.{List}
 use native.Mathlib.Omega.{arith}
 use native.Mathlib.Numerals.{add-one}
@@ -13,7 +13,7 @@ use Rattle.sets.specs.Sets.{bytesPerChar}
 use Rattle.issues.specs.declared.IssueKind.the-variants.{UndefinedMacro, MacroLimit}
 use Rattle.reading.specs.State.{Given, State, took, issue, charge}
 use Rattle.reading.specs.Characters.{char1, graphic, graphicOf}
-use Rattle.reading.specs.Macros.{Run, runMacro, runBody, builtin, endOf, limit}
+use Rattle.reading.specs.Macros.{Run, runMacro, runBody, builtin, limit}
 use Rattle.reading.specs.Steps.{run}
 use Rattle.decode_state.specs.declared.Decoder.{Decoder}
 use Rattle.decode_state.specs.Contracts.{whole, Holds}
@@ -21,7 +21,7 @@ use Rattle.decode_state.proofs.Lift.{holds-charged, withCharged}
 use Rattle.decode_macros.specs.Contracts.{Built}
 use Rattle.decode_macros.proofs.Laws.{builtin-bare}
 use Rattle.decode_bodies.specs.declared.Place.{Place}
-use Rattle.decode_bodies.specs.Contracts.{below, bodyAt, Body, Inside, Ready, Ran}
+use Rattle.decode_bodies.specs.Contracts.{below, Body, Inside, Ready, Ran}
 use Rattle.decode_bodies.proofs.Room.{ready-body, grown-body}
 use Rattle.decode_bodies.proofs.Along.{below-run, along-start, along-end}
 use Rattle.decode_bodies.proofs.Steps.{alike}

@@ -1,5 +1,5 @@
 -- Macros that are defined and run outside every body.
-use Prim.Native.Nat.{ℕ, zero, suc, _+_, _-_, _≤_, _<_}
+use Prim.Native.Nat.{ℕ, zero, suc, _+_, _≤_, _<_}
 use mathlib.Core.Path.{_≡_, refl, sym, ap, _∙_, subst}
 use mathlib.Core.Bool.{Bool, true, false, cond, true≢false, false≢true}
 use mathlib.Core.List.{List, [], _∷_}
@@ -8,7 +8,7 @@ use native.Mathlib.Omega.{arith}
 use lib.ListN.{length, drop, getD, set, replicate, length-set}
 use lib.Seq.{getD-set-other, getD-set-same}
 use Rattle.reading.specs.State.{Given, State, Step, define}
-use Rattle.reading.specs.Macros.{runMacro, defined, macroCmd, endOf, limit}
+use Rattle.reading.specs.Macros.{runMacro, defined, macroCmd, endOf}
 use Rattle.decode_state.specs.declared.Core.{Core}
 use Rattle.decode_state.specs.declared.Decoder.{Decoder}
 use Rattle.decode_state.specs.Contracts.{whole, Holds, Does}

@@ -122,9 +122,6 @@ module _ {f f′ : State → Step} {c : Core} {t i₁ : List ℕ} {r : Stepped} 
   pub took-of : {b : List ℕ} {i n : ℕ} → Moved n f′ c t i₁ r t′ i₂ → 1 ≤ n → i + n ≤ length b → Took b i f c t i₁ r t′ i₂
   took-of m p q = record { moves = λ g. moves-as g (m .moves g); some = omega (arith, m .used); within = omega (arith, m .used); kept = m .kept }
 
-  pub took-as : {b : List ℕ} {i : ℕ} → Took b i f′ c t i₁ r t′ i₂ → Took b i f c t i₁ r t′ i₂
-  took-as m = record { moves = λ g. moves-as g (m .moves g); some = m .some; within = m .within; kept = m .kept }
-
 -- an effect that is another
 pub moved-effect : {e e′ : Effect} {n : ℕ} {c : Core} {t i : List ℕ} {r : Stepped} {t′ i′ : List ℕ} (place at : ℕ) → e ≡ e′ → Moved n (stepOf e′ n place at) c t i r t′ i′
     → Moved n (stepOf e n place at) c t i r t′ i′

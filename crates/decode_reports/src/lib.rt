@@ -3,7 +3,6 @@ use decode_controls::Effect;
 use decode_state::Core;
 use decode_state::Stepped;
 use issues::IssueKind;
-ghost use mathlib.Core.Path.{_≡_};
 ghost use mathlib.Core.List.{List};
 ghost use Prim.Native.Nat.{ℕ, _+_, _-_, _≤_, _<_};
 ghost use lib.ListN.{length, drop, getD};

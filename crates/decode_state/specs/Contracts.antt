@@ -1,7 +1,7 @@
 -- How the decoder's struct and the two lent buffers hold a state of the definition, and what a function that takes steps promises.
-use Prim.Native.Nat.{ℕ, zero, suc, _+_, _-_, _*_, _≤_, _<_}
+use Prim.Native.Nat.{ℕ, _+_, _-_, _≤_, _<_}
 use mathlib.Core.Path.{_≡_}
-use mathlib.Core.List.{List, [], _∷_}
+use mathlib.Core.List.{List}
 use lib.ListN.{length, drop}
 use Rattle.decode_output.specs.declared.Out.{Out}
 use Rattle.decode_output.specs.Contracts as output

@@ -9,7 +9,7 @@ use lib.ListN.{getD}
 use borrow.Author.Tests.{eq-eqb, ne-eqb, lt-ltb, le-ltb}
 use Rattle.coding.specs.Candidates.{codeLength, shortest}
 use Rattle.encode_candidates.specs.declared.Cands.{Cands}
-use Rattle.encode_candidates.specs.Packed.{candOf, candAt, candsFrom, candsOf}
+use Rattle.encode_candidates.specs.Packed.{candOf, candAt, candsFrom}
 
 -- ---- a candidate's own length
 
@@ -35,15 +35,6 @@ module _ (x b z : ℕ) where
   some = go (eqb x 7) (ltb b 256) refl refl
     where
       go : (d e : Bool) → eqb x 7 ≡ d → ltb b 256 ≡ e → 1 ≤ codeLength (candOf x b z)
-      go true e p q = rw p (omega arith)
-      go false true p q = rw (p, q) (omega arith)
-      go false false p q = rw (p, q) (omega arith)
-
-  most : codeLength (candOf x b z) ≤ 2
-  unfolding candOf codeLength
-  most = go (eqb x 7) (ltb b 256) refl refl
-    where
-      go : (d e : Bool) → eqb x 7 ≡ d → ltb b 256 ≡ e → codeLength (candOf x b z) ≤ 2
       go true e p q = rw p (omega arith)
       go false true p q = rw (p, q) (omega arith)
       go false false p q = rw (p, q) (omega arith)
@@ -79,27 +70,3 @@ module _ (k : Cands) where
   pub is-zero : (n : ℕ) → n ≡ 0 → shortest (candsFrom k 0 n) ≡ 0
   unfolding candsFrom shortest
   is-zero n e = ap (λ (m : ℕ). shortest (candsFrom k 0 m)) e
-
-  most-at : (i : ℕ) → codeLength (candAt k i) ≤ 2
-  unfolding candAt
-  most-at i = most (getD (k .sets) i 0) (getD (k .codes) i 0) (getD (k .sizes) i 0)
-
-  two-most : (i n : ℕ) → shortest (candsFrom k i n) ≤ 2
-  unfolding candsFrom shortest
-  two-most i zero = omega arith
-  two-most i (suc zero) = most-at i
-  two-most i (suc (suc n)) = omega (arith, most-at i)
-
-  -- no code is longer than two bytes
-  pub shortest-most : shortest (candsOf k) ≤ 2
-  unfolding candsOf
-  shortest-most = two-most 0 (k .count)
-
-  -- where there is a candidate the shortest has one byte at least
-  pub shortest-least : 1 ≤ k .count → 1 ≤ shortest (candsOf k)
-  unfolding candsOf
-  shortest-least h = go (k .count) h
-    where
-      go : (n : ℕ) → 1 ≤ n → 1 ≤ shortest (candsFrom k 0 n)
-      go zero l = absurd (omega arith)
-      go (suc n) l = one-least 0 n

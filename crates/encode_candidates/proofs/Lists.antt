@@ -1,12 +1,12 @@
 -- The list that a struct of candidates stands for, one candidate further. Assumes nothing.
 use mathlib.Core.Path.{_≡_, refl, sym, ap, ap₂, _∙_}
 use mathlib.Core.List.{List, [], _∷_, _++_}
-use Prim.Native.Nat.{ℕ, zero, suc, _+_, _<_, _≤_}
+use Prim.Native.Nat.{ℕ, zero, suc, _+_, _<_}
 use native.Mathlib.Nat.{add-zero}
 use native.Mathlib.Omega.{arith}
 use Rattle.coding.specs.Candidates.{Cand}
 use Rattle.encode_candidates.specs.declared.Cands.{Cands}
-use Rattle.encode_candidates.specs.Packed.{candAt, candsFrom, candsOf}
+use Rattle.encode_candidates.specs.Packed.{candAt, candsFrom}
 
 pub snoc : (k : Cands) (i n : ℕ) → candsFrom k i (suc n) ≡ candsFrom k i n ++ (candAt k (i + n) ∷ [])
 unfolding candsFrom
@@ -20,16 +20,3 @@ pub alike : (k r : Cands) (i n : ℕ) → ((j : ℕ) → j < i + n → candAt k 
 unfolding candsFrom
 alike k r i zero e = refl
 alike k r i (suc n) e = ap₂ _∷_ (e i (omega arith)) (alike k r (suc i) n (λ j h. e j (omega arith)))
-
--- there is a candidate exactly where the count is not 0
-pub none-of : (k : Cands) → k .count ≡ 0 → candsOf k ≡ []
-unfolding candsOf candsFrom
-none-of k e = ap (candsFrom k 0) e
-
-pub some-of : (k : Cands) → (k .count ≡ 0 → ⊥) → (x : Cand) × ((l : List Cand) × (candsOf k ≡ x ∷ l))
-unfolding candsOf candsFrom
-some-of k h = go (k .count) refl
-  where
-    go : (n : ℕ) → k .count ≡ n → (x : Cand) × ((l : List Cand) × (candsFrom k 0 (k .count) ≡ x ∷ l))
-    go zero e = absurd (h e)
-    go (suc n) e = (candAt k 0, (candsFrom k 1 n, ap (candsFrom k 0) e))

@@ -1,18 +1,11 @@
 -- How a character was written is read off its number. Assumes nothing.
-use mathlib.Core.Path.{_≡_, refl}
+use mathlib.Core.Path.{_≡_}
 use mathlib.Core.List.{List, [], _∷_}
-use Prim.Native.Nat.{ℕ, zero, suc, _+_, _*_, _/_, _%_, _<_}
+use Prim.Native.Nat.{ℕ, zero, suc, _/_, _%_, _<_}
 use native.Mathlib.Omega.{arith}
 use lib.ListN.{drop}
 use Rattle.coding.specs.Candidates.{Cand}
-use Rattle.encode_states.specs.Written.{writtenBy, writtenAt, written, howOf, linkOf}
-
-module _ (how prev : ℕ) (h : prev < 131072) where
-  pub link-prev : linkOf how prev % 131072 ≡ prev
-  link-prev = omega arith
-
-  pub link-how : linkOf how prev / 131072 ≡ how
-  link-how = omega arith
+use Rattle.encode_states.specs.Written.{writtenBy, writtenAt, written, howOf}
 
 module _ (k z e d v : ℕ) (hk : k < 16) (hz : z < 4) (he : e < 4) (hd : d < 2) where
   how-k : howOf k z e d v % 16 ≡ k

@@ -1,5 +1,5 @@
 -- No more than 48,384 states are proper: their numbers without gaps. Assumes nothing.
-use mathlib.Core.Path.{_≡_, sym, ap, _∙_}
+use mathlib.Core.Path.{_≡_, _∙_}
 use Prim.Native.Nat.{ℕ, _+_, _*_, _/_, _%_, _<_}
 use native.Mathlib.Omega.{arith}
 use Rattle.encode_states.specs.Packed.{Proper}

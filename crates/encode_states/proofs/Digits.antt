@@ -1,8 +1,8 @@
 -- A packed state in which one digit is another. Assumes nothing.
 use mathlib.Core.Path.{_≡_}
-use Prim.Native.Nat.{ℕ, suc, _+_, _-_, _*_, _/_, _%_, _<_}
+use Prim.Native.Nat.{ℕ, _+_, _-_, _*_, _/_, _%_, _<_}
 use native.Mathlib.Omega.{arith}
-use Rattle.coding.specs.State.{State, designate, invokeGL, invokeGR, resize}
+use Rattle.coding.specs.State.{designate, invokeGL, invokeGR, resize}
 use Rattle.encode_states.specs.Packed.{setOf, unpack, Proper, Packs}
 
 abbrev pub withG0 : ℕ → ℕ → ℕ

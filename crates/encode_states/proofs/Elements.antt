@@ -6,7 +6,7 @@ use native.Mathlib.Omega.{arith}
 use lib.ListN.{length}
 use borrow.Author.Tests.{ne-eqb}
 use Rattle.sets.specs.Sets.{designation}
-use Rattle.coding.specs.State.{State, setIn, designate, lockGL, lockGR, single}
+use Rattle.coding.specs.State.{setIn, designate, lockGL, lockGR, single}
 use Rattle.encode_states.specs.Packed.{setOf, unpack, Proper, Packs, Codes}
 use Rattle.encode_states.proofs.Digits.{withG0, withG1, withG2, withG3, to-g0, to-g1, to-g2, to-g3}
 

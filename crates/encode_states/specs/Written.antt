@@ -1,6 +1,6 @@
 -- How a character was written, in one number, and the bytes that it gives with the character's candidates alone.
 use Prim.Native.Nat.{ℕ, zero, suc, _+_, _*_, _/_, _%_}
-use mathlib.Core.Bool.{Bool, true, false, cond, _||_}
+use mathlib.Core.Bool.{cond, _||_}
 use mathlib.Core.List.{List, [], _∷_, _++_, map}
 use lib.Dec.{eqb}
 use Rattle.control.specs.Codes.{MSZ, NSZ}
@@ -47,7 +47,3 @@ howOf k z e d v = k + 16 * (z + 4 * (e + 4 * (d + 2 * v)))
 unfoldable pub written : List Cand → ℕ → List ℕ
 unfolding writtenAt
 written cs how = writtenAt cs (how % 16) (how / 16 % 4) (how / 64 % 4) (how / 256 % 2) (how / 512)
-
--- and with the place in the layer before in one
-abbrev pub linkOf : ℕ → ℕ → ℕ
-linkOf how prev = how * 131072 + prev

@@ -1,12 +1,11 @@
 // The coder's state in one number, and how a character was written in another: encode.rs, `State`
 // and what it pushes. A set is a code of three bits: specs/Packed.antt.
 ghost use mathlib.Core.Path.{_≡_};
-ghost use Prim.Native.Nat.{ℕ, _+_, _*_, _/_, _%_, _≤_, _<_};
+ghost use Prim.Native.Nat.{_+_, _*_, _/_, _%_, _<_};
 ghost use lib.ListN.{length};
 ghost use Rattle.sets.specs.Sets.{designation};
-ghost use Rattle.coding.specs.State.{State, start, setIn, designate, invokeGL, invokeGR, resize, lockGL, lockGR, single};
+ghost use Rattle.coding.specs.State.{start, setIn, designate, invokeGL, invokeGR, resize, lockGL};
 ghost use Rattle.encode_states.specs.Packed.{setOf, unpack, Proper, Packs, Codes, Element};
-ghost use Rattle.encode_states.specs.Written.{howOf};
 
 /// The start: Si (0) or Caption.
 pub fn start(initial: u32) -> u32

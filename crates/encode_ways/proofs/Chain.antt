@@ -1,20 +1,19 @@
 -- Pushes one after the other, and the nodes that they push. Assumes nothing.
 use mathlib.Core.Path.{_≡_, refl, sym, ap, _∙_, subst}
-use mathlib.Core.Bool.{Bool, true, false}
 use mathlib.Core.List.{List, [], _∷_, _++_, map, append-nil}
-use Prim.Native.Nat.{ℕ, zero, suc, _+_, _*_, _/_, _%_, _≤_, _<_}
+use Prim.Native.Nat.{ℕ, _+_, _*_, _/_, _%_, _≤_, _<_}
 use native.Mathlib.Omega.{arith}
-use lib.ListN.{length, take, length-append, length-map}
+use lib.ListN.{length, length-append, length-map}
 use borrow.Author.Tests.{eq-eqb, ne-eqb, lt-ltb, le-ltb, le-leb, lt-leb}
 use Rattle.coding.specs.State.{State, invokeGL, invokeGR, lockGL, lockGR, single}
 use Rattle.coding.specs.Candidates.{Cand}
-use Rattle.coding.specs.Ways.{Way, way, through}
+use Rattle.coding.specs.Ways.{through}
 use Rattle.coding.specs.Search.{Node, node, push, pushAll, byWays}
 use Rattle.encode_states.specs.Packed.{unpack}
 use Rattle.encode_states.specs.Written.{written, invocation, half}
 use Rattle.encode_states.proofs.Elements.{lock-right, single-one}
 use Rattle.encode_layer.specs.Entries.{entry, nodeOf}
-use Rattle.encode_layer.specs.Layer.{Bounds, Represents, Changes, Pushes}
+use Rattle.encode_layer.specs.Layer.{Bounds, Pushes}
 use Rattle.encode_ways.specs.Turn.{Turn, bytesOf, Through}
 
 -- nothing is pushed; more is pushed

@@ -1,8 +1,7 @@
 -- The ways through a code element, with its designation, and to a set. Assumes nothing.
 use mathlib.Core.Path.{_≡_, refl, sym, ap, _∙_, subst}
-use mathlib.Core.Bool.{Bool, true, false, cond}
-use mathlib.Core.List.{List, [], _∷_, _++_, map, append-assoc, append-nil}
-use Prim.Native.Nat.{ℕ, zero, suc, _+_, _*_, _/_, _%_, _≤_, _<_}
+use mathlib.Core.List.{List, [], _∷_, _++_, append-assoc}
+use Prim.Native.Nat.{ℕ, zero, suc, _+_, _*_, _/_, _%_, _<_}
 use native.Mathlib.Numerals.{add-one}
 use native.Mathlib.Omega.{arith}
 use lib.ListN.{length}
@@ -10,13 +9,13 @@ use borrow.Author.Tests.{eq-eqb, ne-eqb}
 use Rattle.sets.specs.Sets.{designation}
 use Rattle.coding.specs.State.{State, setIn, designate}
 use Rattle.coding.specs.Candidates.{Cand}
-use Rattle.coding.specs.Ways.{Way, way, through, byElement, ways}
+use Rattle.coding.specs.Ways.{Way, through, byElement, ways}
 use Rattle.coding.specs.Search.{Node, byWays}
 use Rattle.encode_states.specs.Packed.{setOf, unpack, Codes}
-use Rattle.encode_states.specs.Written.{written, invocation, half}
+use Rattle.encode_states.specs.Written.{written}
 use Rattle.encode_states.proofs.Same.{one-set}
 use Rattle.encode_layer.specs.Layer.{Bounds, Pushes}
-use Rattle.encode_ways.specs.Turn.{Turn, Through, By, prefix, bytesOf, upTo}
+use Rattle.encode_ways.specs.Turn.{Turn, Through, By, prefix, upTo}
 use Rattle.encode_ways.proofs.Chain.{none, and, pushes-as, reached}
 
 -- designation leaves the invocations, and a set that stands there already

@@ -1,6 +1,6 @@
 -- Cases of the definitions, computed.
 use mathlib.Core.Path.{_≡_, refl}
-use mathlib.Core.Bool.{true, false}
+use mathlib.Core.Bool.{false}
 use mathlib.Core.List.{[], _∷_}
 use Rattle.questions.specs.Questions.{all, cellsHold}
 use Rattle.encoding_lines.specs.Lines.{encoding}

@@ -1,5 +1,5 @@
 -- The questions of a key call in the paper's words: specs/Laws.antt states them. Assumes nothing.
-use Prim.Native.Nat.{ℕ, zero, suc, _≤_}
+use Prim.Native.Nat.{ℕ, suc, _≤_}
 use mathlib.Core.Path.{_≡_, refl, sym, _∙_}
 use mathlib.Core.Bool.{Bool, true, false, cond, _&&_}
 use mathlib.Core.List.{List, [], _∷_}
@@ -11,7 +11,7 @@ use Rattle.questions.specs.Questions.{cellsHold, firstRefusal, decodeLimit}
 use Rattle.issues.specs.Issue.{Issue, issueNumbers, issuesNumbers}
 use Rattle.reading.specs.Call as decoding
 use Rattle.key.specs.Key.{Lent, decodingOf, reading, textBytes, questionOf, refusal}
-use Rattle.key.specs.Laws.{firstOf, Questions, KeyQuestions}
+use Rattle.key.specs.Laws.{firstOf, KeyQuestions}
 
 -- each issue has numbers
 none-counted : (l : List Issue) → leb (length (issuesNumbers l)) 0 ≡ eqb (length l) 0

@@ -9,7 +9,7 @@ use lib.Seq.{sets, length-sets, length-take-le, drop-drop}
 use Rattle.lent.specs.Put.{Put}
 use Rattle.lent.proofs.Stores.{take-sets, drop-sets}
 use Rattle.utf8.specs.declared.Sequence.the-variants.{Scalar, Fault, End}
-use Rattle.utf8.specs.Utf8.{utf8, utf8s, sequence, scalarsFrom, scalars}
+use Rattle.utf8.specs.Utf8.{utf8s, sequence, scalarsFrom, scalars}
 use Rattle.utf8.proofs.Reading.{sequence-begins, sequence-not-end}
 use Rattle.utf8.proofs.Texts.{sequence-least, sequence-within, scalars-next}
 use Rattle.questions.specs.Buffer.{padded, cleared}

@@ -3,7 +3,6 @@ ghost use mathlib.Core.Path.{_≡_};
 ghost use mathlib.Core.Bool.{true};
 ghost use Prim.Native.Nat.{_≤_};
 ghost use lib.ListN.{length};
-ghost use Rattle.questions.specs.Questions.{cellsHold};
 ghost use Rattle.keys_lines.specs.Contracts.{PrintRoom};
 ghost use Rattle.keys.specs.Contracts.{Buffers, Within};
 use keys_lines::Printed;

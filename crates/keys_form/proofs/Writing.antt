@@ -1,5 +1,5 @@
 -- The line that is printed, put together. Assumes nothing.
-use Prim.Native.Nat.{ℕ, zero, suc, _+_, _-_, _/_, _≤_, _<_}
+use Prim.Native.Nat.{ℕ, zero, suc, _+_, _-_, _≤_, _<_}
 use mathlib.Core.Path.{_≡_, refl, sym, ap, ap₂, _∙_}
 use mathlib.Core.List.{List, [], _∷_, _++_, append-assoc}
 use native.Mathlib.Numerals.{add-one}
@@ -10,9 +10,9 @@ use Rattle.lent.specs.Put.{Put}
 use Rattle.lent.proofs.Stores.{take-sets}
 use Rattle.lent.proofs.Putting.{put-long}
 use Rattle.ascii.specs.Ascii.{newline, refusal, refusedLine}
-use Rattle.keys_form.specs.Line.{bytesOf, tabAt, numberOf, hexOf, isLine, tab, answerText, lineOf}
+use Rattle.keys_form.specs.Line.{bytesOf, tabAt, numberOf, tab, answerText, lineOf}
 use Rattle.keys_form.specs.Contracts.{Titled, endingAt, ending}
-use Rattle.keys_form.proofs.Reading.{rest-all, Formed}
+use Rattle.keys_form.proofs.Reading.{rest-all}
 
 -- ---- the title
 

@@ -7,7 +7,7 @@ use native.Mathlib.Omega.{arith}
 use borrow.Author.Tests.{le-leb, leb-true}
 use lib.Dec.{eqb, leb}
 use lib.ListN.{length, take, replicate, length-replicate}
-use Rattle.questions.specs.Questions.{cellsHold, firstRefusal, decodeLimit}
+use Rattle.questions.specs.Questions.{firstRefusal, decodeLimit}
 use Rattle.questions.proofs.Refusals.{passed}
 use Rattle.reading.specs.Call.{Lent, Outcome, reading, textBytes, issueList, fits, refusal, outcomeOf, outcome}
 use Rattle.laws_reading.proofs.Reading.{charge-bound, question-8-9}

@@ -1,7 +1,7 @@
 -- Laws of `padded` and `cleared`. Assumes nothing.
 use Prim.Native.Nat.{ℕ, zero, suc, _+_, _≤_, _<_}
 use mathlib.Core.Path.{_≡_, refl, ap, _∙_}
-use mathlib.Core.List.{List, [], _∷_, _++_, append-nil}
+use mathlib.Core.List.{List, [], _∷_}
 use native.Mathlib.Nat.{not-suc-le-zero}
 use native.Mathlib.Numerals.{add-one}
 use native.Mathlib.Omega.{arith}
@@ -33,9 +33,6 @@ pub padded-none : (n : ℕ) → padded n [] ≡ replicate n 0
 unfolding padded
 padded-none zero = refl
 padded-none (suc n) = ap (λ (r : List ℕ). 0 ∷ r) (padded-none n)
-
-pub padded-nil : (n : ℕ) (vs : List ℕ) → padded n (vs ++ []) ≡ padded n vs
-padded-nil n vs = rw append-nil
 
 -- one turn of the loops of `clear` and `clear32`, and their end
 pub clear-turn : (l : List ℕ) (j : ℕ) → j < length l → cleared (set l j 0) (j + 1) ≡ cleared l j

@@ -3,12 +3,12 @@ use Prim.Native.Nat.{ℕ, zero, suc, _+_, _-_, _%_, _≤_, _<_}
 use mathlib.Core.Path.{_≡_, refl, ap, subst}
 use mathlib.Core.Logic.{_⊎_, inl, inr}
 use mathlib.Core.Bool.{Bool, true, false, cond, _&&_, _||_}
-use mathlib.Core.List.{List, _∷_}
+use mathlib.Core.List.{_∷_}
 use mathlib.Core.Option.{Option, none, some}
 use native.Mathlib.Omega.{arith}
 use borrow.Author.Tests.{ne-eqb, lt-ltb, le-ltb, le-leb, lt-leb}
 use lib.Dec.{T, eqb, leb, eqb→eq}
-use lib.ListN.{length, getD, drop, replicate}
+use lib.ListN.{getD, drop, replicate}
 use Rattle.base.proofs.Table.{every, at}
 use Rattle.sets.specs.Sets.{bytesPerChar, isDrcsForm, finalBytes, finalByte, sequence, designation, hasFinal, firstFrom, fromDesignation, Designation, readDesignation, HoldsBytes}
 use Rattle.sets.specs.declared.Sequence.{Sequence}
@@ -97,22 +97,6 @@ begins s n = go (eqb (bytesPerChar s) 2) (isDrcsForm s) (eqb n 0) refl
     go true false true e = rw e
     go true false false e = rw e
     go true true g0 e = refl
-
--- a designation has three to five bytes
-pub record Short (xs : List ℕ) : Type 0 where
-  pub low : 3 ≤ length xs
-  pub high : length xs ≤ 5
-
-pub short : (s n : ℕ) → Short (designation s n)
-unfolding designation
-short s n = go (eqb (bytesPerChar s) 2) (isDrcsForm s) (eqb n 0) refl
-  where
-    go : (two drcs g0 : Bool) → eqb n 0 ≡ g0 → Short (sequence two drcs n (finalByte s))
-    go false false g0 e = record { low = omega arith; high = omega arith }
-    go false true g0 e = record { low = omega arith; high = omega arith }
-    go true false true e = rw e (record { low = omega arith; high = omega arith })
-    go true false false e = rw e (record { low = omega arith; high = omega arith })
-    go true true g0 e = record { low = omega arith; high = omega arith }
 
 -- what is read is element n and set s
 abbrev reads : Option Designation → ℕ → ℕ → Bool

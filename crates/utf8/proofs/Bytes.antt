@@ -3,14 +3,12 @@
 use mathlib.Core.Path.{_≡_, refl, sym, ap, _∙_, subst}
 use mathlib.Core.List.{List, [], _∷_, _++_, append-assoc, append-nil}
 use Prim.Native.Nat.{ℕ, zero, suc, _+_, _-_, _/_, _%_, _≤_, _<_}
-use native.Mathlib.Nat.{zero-add}
 use native.Mathlib.Omega.{arith}
 use native.Mathlib.Decide.{decLt}
 use borrow.Author.Tests.{lt-ltb, le-ltb}
-use lib.ListN.{length, getD, length-append, List·getD-append}
-use lib.Seq.{sets, getD-append-add}
+use lib.ListN.{length, getD, List·getD-append}
+use lib.Seq.{getD-append-add}
 use Rattle.utf8.specs.Utf8.{utf8, utf8s, trailing}
-use Rattle.lent.proofs.Stores.{sets-append}
 
 -- ---- the rows of Table 3-6
 
@@ -71,20 +69,10 @@ unfolding utf8s
 utf8s-append [] ds = refl
 utf8s-append (c ∷ cs) ds = ap (λ (r : List ℕ). utf8 c ++ r) (utf8s-append cs ds) ∙ sym (append-assoc (utf8 c) (utf8s cs) (utf8s ds))
 
-pub length-utf8s-append : (cs ds : List ℕ) → length (utf8s (cs ++ ds)) ≡ length (utf8s cs) + length (utf8s ds)
-length-utf8s-append cs ds = ap length (utf8s-append cs ds) ∙ length-append (utf8s cs) (utf8s ds)
-
 -- one scalar more
 pub utf8s-snoc : (cs : List ℕ) (c : ℕ) → utf8s (cs ++ (c ∷ [])) ≡ utf8s cs ++ utf8 c
 unfolding utf8s
 utf8s-snoc cs c = utf8s-append cs (c ∷ []) ∙ ap (λ (r : List ℕ). utf8s cs ++ r) (append-nil (utf8 c))
-
-pub length-utf8s-snoc : (cs : List ℕ) (c : ℕ) → length (utf8s (cs ++ (c ∷ []))) ≡ length (utf8s cs) + length (utf8 c)
-length-utf8s-snoc cs c = ap length (utf8s-snoc cs c) ∙ length-append (utf8s cs) (utf8 c)
-
--- a text that stands at the beginning of a buffer, as far as it fits, and one scalar more put at its end
-pub put-end : (cs t₀ t : List ℕ) (n c : ℕ) → t ≡ sets t₀ 0 (utf8s cs) → n ≡ length (utf8s cs) → sets t n (utf8 c) ≡ sets t₀ 0 (utf8s (cs ++ (c ∷ [])))
-put-end cs t₀ t n c p q = rw (p, q, utf8s-snoc, sets-append) (rw zero-add)
 
 -- ---- each byte is below 256
 

@@ -1,8 +1,6 @@
 -- The definitions at the corners of Table 3-7, computed.
-use Prim.Native.Nat.{ℕ}
 use mathlib.Core.Path.{_≡_, refl}
-use mathlib.Core.List.{List, [], _∷_}
-use Rattle.utf8.specs.declared.Text.{Text}
+use mathlib.Core.List.{[], _∷_}
 use Rattle.utf8.specs.declared.Text.the-variants.{WellFormed, FaultAt}
 use Rattle.utf8.specs.Utf8.{utf8s, firstFault, scalars}
 

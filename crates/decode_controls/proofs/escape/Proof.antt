@@ -1,5 +1,4 @@
 -- `escape` meets its contract. Assumes nothing.
-use Prim.Native.Nat.{ℕ, _+_, _-_}
 use mathlib.Core.Path.{refl, sym, _∙_}
 use native.Mathlib.Omega.{arith}
 use Rattle.decode_controls.proofs.Effects.{reads-of, bounded}

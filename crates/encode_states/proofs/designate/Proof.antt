@@ -4,8 +4,6 @@ use Rattle.encode_states.proofs.Elements.{moved}
 use borrow.Author.Needs.{needs}
 use Rattle.encode_states.proofs.designate.Statement.{statement}
 use Rattle.encode_states.proofs.designate.Tie as tie
-use Rattle.encode_states.proofs.designate.Reads as reads
-use Rattle.encode_states.proofs.designate.Lts as lts
 
 mul-k : tie.Need-mul-k
 mul-k c = search needs

@@ -2,8 +2,6 @@
 use Rattle.encode_states.proofs.Elements.{to-first, kanji, symbols, one-byte}
 use Rattle.encode_states.proofs.designation_length.Statement.{statement}
 use Rattle.encode_states.proofs.designation_length.Tie as tie
-use Rattle.encode_states.proofs.designation_length.Reads as reads
-use Rattle.encode_states.proofs.designation_length.Lts as lts
 
 returns : tie.Need-returns
 returns c = to-first (c .before .args .x) (c .before .args .n) (c .before .pre) (c .if1 .taken)

@@ -4,8 +4,6 @@ use native.Mathlib.Omega.{arith}
 use Rattle.encode_states.specs.Packed.{unpack}
 use Rattle.encode_states.proofs.gl.Statement.{statement}
 use Rattle.encode_states.proofs.gl.Tie as tie
-use Rattle.encode_states.proofs.gl.Reads as reads
-use Rattle.encode_states.proofs.gl.Lts as lts
 
 returns : tie.Need-returns
 unfolding unpack

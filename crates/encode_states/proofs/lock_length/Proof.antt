@@ -2,8 +2,6 @@
 use Rattle.encode_states.proofs.Elements.{lock-short, lock-long}
 use Rattle.encode_states.proofs.lock_length.Statement.{statement}
 use Rattle.encode_states.proofs.lock_length.Tie as tie
-use Rattle.encode_states.proofs.lock_length.Reads as reads
-use Rattle.encode_states.proofs.lock_length.Lts as lts
 
 returns : tie.Need-returns
 returns c = lock-short (c .before .args .n) (c .if1 .taken)

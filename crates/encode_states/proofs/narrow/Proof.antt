@@ -3,8 +3,6 @@ use mathlib.Core.Path.{refl}
 use Rattle.encode_states.specs.Packed.{unpack}
 use Rattle.encode_states.proofs.narrow.Statement.{statement}
 use Rattle.encode_states.proofs.narrow.Tie as tie
-use Rattle.encode_states.proofs.narrow.Reads as reads
-use Rattle.encode_states.proofs.narrow.Lts as lts
 
 returns : tie.Need-returns
 unfolding unpack

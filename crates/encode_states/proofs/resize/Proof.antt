@@ -3,8 +3,6 @@ use Rattle.encode_states.proofs.Digits.{to-narrow}
 use borrow.Author.Needs.{needs}
 use Rattle.encode_states.proofs.resize.Statement.{statement}
 use Rattle.encode_states.proofs.resize.Tie as tie
-use Rattle.encode_states.proofs.resize.Reads as reads
-use Rattle.encode_states.proofs.resize.Lts as lts
 
 mul-result : tie.Need-mul-result
 mul-result c = search needs

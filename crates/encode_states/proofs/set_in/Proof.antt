@@ -3,8 +3,6 @@ use Rattle.encode_states.proofs.Elements.{in-element}
 use borrow.Author.Needs.{needs}
 use Rattle.encode_states.proofs.set_in.Statement.{statement}
 use Rattle.encode_states.proofs.set_in.Tie as tie
-use Rattle.encode_states.proofs.set_in.Reads as reads
-use Rattle.encode_states.proofs.set_in.Lts as lts
 
 mul-result : tie.Need-mul-result
 mul-result c = search needs

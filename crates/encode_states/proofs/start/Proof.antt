@@ -1,13 +1,10 @@
 -- `encode_states::start` meets its contract: the start: Si (0) or Caption.
-use mathlib.Core.Path.{refl}
 use native.Mathlib.Omega.{arith}
 use borrow.Author.Tests.{eq-eqb, ne-eqb}
 use Rattle.coding.specs.State.{start}
 use Rattle.encode_states.specs.Packed.{unpack}
 use Rattle.encode_states.proofs.start.Statement.{statement}
 use Rattle.encode_states.proofs.start.Tie as tie
-use Rattle.encode_states.proofs.start.Reads as reads
-use Rattle.encode_states.proofs.start.Lts as lts
 
 returns : tie.Need-returns
 unfolding start unpack

@@ -3,8 +3,6 @@ use Rattle.encode_states.proofs.Digits.{to-gl}
 use borrow.Author.Needs.{needs}
 use Rattle.encode_states.proofs.to_gl.Statement.{statement}
 use Rattle.encode_states.proofs.to_gl.Tie as tie
-use Rattle.encode_states.proofs.to_gl.Reads as reads
-use Rattle.encode_states.proofs.to_gl.Lts as lts
 
 mul-result : tie.Need-mul-result
 mul-result c = search needs

@@ -3,8 +3,6 @@ use Rattle.encode_states.proofs.Digits.{to-gr}
 use borrow.Author.Needs.{needs}
 use Rattle.encode_states.proofs.to_gr.Statement.{statement}
 use Rattle.encode_states.proofs.to_gr.Tie as tie
-use Rattle.encode_states.proofs.to_gr.Reads as reads
-use Rattle.encode_states.proofs.to_gr.Lts as lts
 
 mul-result : tie.Need-mul-result
 mul-result c = search needs

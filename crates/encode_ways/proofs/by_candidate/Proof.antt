@@ -4,13 +4,6 @@ use Rattle.encode_ways.proofs.Choosing.{few-bytes, as-plain, as-graphic
 use borrow.Author.Needs.{needs}
 use Rattle.encode_ways.proofs.by_candidate.Statement.{statement}
 use Rattle.encode_ways.proofs.by_candidate.Tie as tie
-use Rattle.encode_ways.proofs.by_candidate.Reads as reads
-use Rattle.encode_ways.proofs.by_candidate.Lts as lts
-use Rattle.encode_layer.proofs.push.Reads as push-reads
-use Rattle.encode_ways.proofs.by_ways.Reads as by-ways-reads
-use Rattle.encode_ways.proofs.control_length.Reads as control-length-reads
-use Rattle.encode_ways.proofs.size_control.Reads as size-control-reads
-use Rattle.encode_ways.proofs.sized.Reads as sized-reads
 
 sized-requires : tie.Need-sized-requires
 sized-requires c κs = search needs

@@ -7,7 +7,7 @@ use native.Mathlib.Omega.{arith}
 use borrow.Author.Needs.{needs}
 use lib.ListN.{length, getD, take, drop, replicate}
 use Rattle.coding.specs.Candidates.{either, Cand, plain}
-use Rattle.coding.specs.Search.{Node, node, pushAll, byCand, byCands}
+use Rattle.coding.specs.Search.{Node, pushAll, byCand, byCands}
 use Rattle.encode_states.specs.Packed.{unpack}
 use Rattle.encode_layer.specs.Layer.{bounds, Changes}
 use Rattle.encode_ways.specs.Turn.{MatchAll, Is}
@@ -15,11 +15,6 @@ use Rattle.encode_ways.proofs.Choosing.{any, any-matches, any-at}
 use Rattle.encode_ways.proofs.Trying.{few-bytes-code, changes-as, no-change, then, one-more, none-yet, all-of, at-link, place-link}
 use Rattle.encode_ways.proofs.by_candidates.Statement.{statement}
 use Rattle.encode_ways.proofs.by_candidates.Tie as tie
-use Rattle.encode_ways.proofs.by_candidates.Reads as reads
-use Rattle.encode_ways.proofs.by_candidates.Lts as lts
-use Rattle.encode_ways.proofs.by_candidate.Reads as by-candidate-reads
-use Rattle.encode_ways.proofs.code_length.Reads as code-length-reads
-use Rattle.encode_ways.proofs.wide.Reads as wide-reads
 
 abbrev Inv-loop : tie.InvT-loop
 Inv-loop store₀ index₀ from cap count a cost i back m sets codes sizes c₀ k₀ store index c k =

@@ -1,9 +1,8 @@
 -- `encode_ways::by_element` meets its contract: pushes the ways through the code element n, to which the set of code x is designated unless it stands there.
-use mathlib.Core.Path.{_≡_, sym, ap, _∙_}
+use mathlib.Core.Path.{sym, ap, _∙_}
 use mathlib.Core.Logic.{⊎-elim}
 use mathlib.Core.List.{[]}
 use native.Mathlib.Omega.{arith}
-use lib.ListN.{length}
 use Rattle.sets.specs.Sets.{designation}
 use Rattle.coding.specs.State.{State}
 use Rattle.encode_states.specs.Packed.{setOf, unpack}
@@ -13,12 +12,6 @@ use Rattle.encode_ways.proofs.Reaching.{same-gl, same-gr, through-stand
 use borrow.Author.Needs.{needs}
 use Rattle.encode_ways.proofs.by_element.Statement.{statement}
 use Rattle.encode_ways.proofs.by_element.Tie as tie
-use Rattle.encode_ways.proofs.by_element.Reads as reads
-use Rattle.encode_ways.proofs.by_element.Lts as lts
-use Rattle.encode_states.proofs.designate.Reads as designate-reads
-use Rattle.encode_states.proofs.designation_length.Reads as designation-length-reads
-use Rattle.encode_states.proofs.set_in.Reads as set-in-reads
-use Rattle.encode_ways.proofs.through.Reads as through-reads
 
 designate-requires : tie.Need-designate-requires
 designate-requires c κs = search needs

@@ -1,6 +1,6 @@
 -- `encode_ways::by_elements` meets its contract: pushes the ways through each code element.
-use mathlib.Core.Path.{_≡_, refl, _∙_}
-use mathlib.Core.List.{List, []}
+use mathlib.Core.Path.{_≡_, refl}
+use mathlib.Core.List.{List}
 use Prim.Native.Nat.{ℕ, _+_, _-_, _≤_}
 use native.Mathlib.Omega.{arith}
 use borrow.Author.Needs.{needs}
@@ -10,15 +10,9 @@ use Rattle.coding.specs.Search.{byWays}
 use Rattle.encode_states.specs.Packed.{setOf, unpack}
 use Rattle.encode_layer.specs.Layer.{bounds, Pushes}
 use Rattle.encode_ways.specs.Turn.{Turn, By, upTo}
-use Rattle.encode_ways.proofs.Chain.{none}
 use Rattle.encode_ways.proofs.Reaching.{up-one, up-none}
 use Rattle.encode_ways.proofs.by_elements.Statement.{statement}
 use Rattle.encode_ways.proofs.by_elements.Tie as tie
-use Rattle.encode_ways.proofs.by_elements.Reads as reads
-use Rattle.encode_ways.proofs.by_elements.Lts as lts
-use Rattle.encode_states.proofs.gl.Reads as gl-reads
-use Rattle.encode_states.proofs.gr.Reads as gr-reads
-use Rattle.encode_ways.proofs.by_element.Reads as by-element-reads
 
 abbrev Inv-loop : tie.InvT-loop
 Inv-loop store₀ index₀ from cap count a x cost link back l r c₀ n₀ store index c n =

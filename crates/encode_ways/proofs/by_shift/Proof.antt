@@ -1,20 +1,14 @@
 -- `encode_ways::by_shift` meets its contract: pushes the ways through the code element n of the state a, in which it is not invoked.
 use Rattle.encode_states.proofs.Elements.{lock-most}
-use mathlib.Core.Path.{_≡_, sym}
-use mathlib.Core.List.{List, [], _∷_, _++_}
+use mathlib.Core.Path.{sym}
+use mathlib.Core.List.{[], _∷_, _++_}
 use native.Mathlib.Omega.{arith}
 use Rattle.coding.specs.State.{invokeGL, invokeGR, lockGL, lockGR, single}
 use Rattle.encode_states.specs.Packed.{unpack}
-use Rattle.encode_ways.proofs.Chain.{none, and, pushes-as, renamed, reached, locks, locks-right, shifts, stands, stands-right, in-both, in-left, in-right, by-one, by-two, by-three}
+use Rattle.encode_ways.proofs.Chain.{and, pushes-as, renamed, reached, locks, locks-right, shifts, by-one, by-two, by-three}
 use borrow.Author.Needs.{needs}
 use Rattle.encode_ways.proofs.by_shift.Statement.{statement}
 use Rattle.encode_ways.proofs.by_shift.Tie as tie
-use Rattle.encode_ways.proofs.by_shift.Reads as reads
-use Rattle.encode_ways.proofs.by_shift.Lts as lts
-use Rattle.encode_layer.proofs.push.Reads as push-reads
-use Rattle.encode_states.proofs.lock_length.Reads as lock-length-reads
-use Rattle.encode_states.proofs.to_gl.Reads as to-gl-reads
-use Rattle.encode_states.proofs.to_gr.Reads as to-gr-reads
 
 to-gl-requires : tie.Need-to-gl-requires
 to-gl-requires c κs = search needs

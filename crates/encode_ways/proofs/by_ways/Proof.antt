@@ -1,6 +1,6 @@
 -- `encode_ways::by_ways` meets its contract: pushes the ways to the set of code x.
-use mathlib.Core.Path.{_≡_, sym}
-use mathlib.Core.List.{List, [], _∷_}
+use mathlib.Core.Path.{sym}
+use mathlib.Core.List.{[], _∷_}
 use native.Mathlib.Omega.{arith}
 use Rattle.encode_states.specs.Packed.{unpack}
 use Rattle.encode_ways.proofs.Chain.{and, pushes-as, renamed, reached, stands, stands-right}
@@ -8,13 +8,6 @@ use Rattle.encode_ways.proofs.Reaching.{codes-at, through-none, set-bot
 use borrow.Author.Needs.{needs}
 use Rattle.encode_ways.proofs.by_ways.Statement.{statement}
 use Rattle.encode_ways.proofs.by_ways.Tie as tie
-use Rattle.encode_ways.proofs.by_ways.Reads as reads
-use Rattle.encode_ways.proofs.by_ways.Lts as lts
-use Rattle.encode_layer.proofs.push.Reads as push-reads
-use Rattle.encode_states.proofs.gl.Reads as gl-reads
-use Rattle.encode_states.proofs.gr.Reads as gr-reads
-use Rattle.encode_states.proofs.set_in.Reads as set-in-reads
-use Rattle.encode_ways.proofs.by_elements.Reads as by-elements-reads
 
 gl-requires : tie.Need-gl-requires
 gl-requires c κs = search needs

@@ -2,8 +2,6 @@
 use Rattle.encode_ways.proofs.Trying.{one-byte-code, two-byte-code}
 use Rattle.encode_ways.proofs.code_length.Statement.{statement}
 use Rattle.encode_ways.proofs.code_length.Tie as tie
-use Rattle.encode_ways.proofs.code_length.Reads as reads
-use Rattle.encode_ways.proofs.code_length.Lts as lts
 
 returns : tie.Need-returns
 returns c = one-byte-code (c .before .args .code) (c .if1 .taken)

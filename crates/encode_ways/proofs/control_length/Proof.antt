@@ -2,8 +2,6 @@
 use Rattle.encode_ways.proofs.Choosing.{no-bytes, one-byte}
 use Rattle.encode_ways.proofs.control_length.Statement.{statement}
 use Rattle.encode_ways.proofs.control_length.Tie as tie
-use Rattle.encode_ways.proofs.control_length.Reads as reads
-use Rattle.encode_ways.proofs.control_length.Lts as lts
 
 returns : tie.Need-returns
 returns c = no-bytes (c .before .args .z) (c .if1 .taken)

@@ -5,9 +5,6 @@ use Rattle.encode_ways.proofs.Choosing.{no-size, msz, narrow-already, n
 use borrow.Author.Needs.{needs}
 use Rattle.encode_ways.proofs.size_control.Statement.{statement}
 use Rattle.encode_ways.proofs.size_control.Tie as tie
-use Rattle.encode_ways.proofs.size_control.Reads as reads
-use Rattle.encode_ways.proofs.size_control.Lts as lts
-use Rattle.encode_states.proofs.narrow.Reads as narrow-reads
 
 narrow-requires : tie.Need-narrow-requires
 narrow-requires c κs = search needs

@@ -3,9 +3,6 @@ use Rattle.encode_ways.proofs.Choosing.{any-size, to-narrow, to-wide}
 use borrow.Author.Needs.{needs}
 use Rattle.encode_ways.proofs.sized.Statement.{statement}
 use Rattle.encode_ways.proofs.sized.Tie as tie
-use Rattle.encode_ways.proofs.sized.Reads as reads
-use Rattle.encode_ways.proofs.sized.Lts as lts
-use Rattle.encode_states.proofs.resize.Reads as resize-reads
 
 returns : tie.Need-returns
 returns c = any-size (c .before .args .a) (c .before .args .size) (c .before .pre) (c .if1 .taken)

@@ -1,17 +1,12 @@
 -- `encode_ways::through` meets its contract: pushes the ways through the code element n of the state a, in which l is in GL and r in GR.
-use mathlib.Core.Path.{_≡_, sym, _∙_}
-use mathlib.Core.List.{List, [], _∷_, _++_}
+use mathlib.Core.Path.{sym, _∙_}
+use mathlib.Core.List.{[], _∷_}
 use native.Mathlib.Omega.{arith}
-use Rattle.coding.specs.State.{invokeGL, invokeGR, lockGL, lockGR, single}
 use Rattle.encode_states.specs.Packed.{unpack}
-use Rattle.encode_ways.proofs.Chain.{none, and, pushes-as, renamed, reached, locks, locks-right, shifts, stands, stands-right, in-both, in-left, in-right, by-one, by-two, by-three}
+use Rattle.encode_ways.proofs.Chain.{and, pushes-as, renamed, reached, stands, stands-right, in-both, in-left, in-right}
 use borrow.Author.Needs.{needs}
 use Rattle.encode_ways.proofs.through.Statement.{statement}
 use Rattle.encode_ways.proofs.through.Tie as tie
-use Rattle.encode_ways.proofs.through.Reads as reads
-use Rattle.encode_ways.proofs.through.Lts as lts
-use Rattle.encode_layer.proofs.push.Reads as push-reads
-use Rattle.encode_ways.proofs.by_shift.Reads as by-shift-reads
 
 push-requires : tie.Need-push-requires
 push-requires c κs = search needs

@@ -1,9 +1,7 @@
 -- `key::finish` meets its contract, by the decoding's answer. Assumes nothing.
-use mathlib.Core.Path.{_≡_, sym, ap, subst}
-use Prim.Native.Nat.{_≤_}
+use mathlib.Core.Path.{sym, ap}
 use native.Mathlib.Omega.{arith}
 use borrow.Author.Needs.{needs}
-use lib.ListN.{length}
 use lib.Seq.{length-take-le}
 use Rattle.decode.specs.Answers.{textOf}
 use Rattle.key.proofs.Calls.{keyed-as, refused-as}

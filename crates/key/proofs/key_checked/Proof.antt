@@ -3,7 +3,7 @@ use Prim.Native.Nat.{ℕ, _<_}
 use native.Mathlib.Omega.{arith}
 use borrow.Author.Needs.{needs}
 use lib.ListN.{getD}
-use Rattle.key.specs.Contracts.{lent, Decodes}
+use Rattle.key.specs.Contracts.{lent}
 use Rattle.key.proofs.Calls.{decodes, text-inside}
 use Rattle.key.proofs.key_checked.Statement.{statement}
 use Rattle.key.proofs.key_checked.Tie as tie

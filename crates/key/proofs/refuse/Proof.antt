@@ -1,6 +1,4 @@
 -- `key::refuse` meets its contract: the arms are the definition's cases. Assumes nothing.
-use mathlib.Core.Path.{sym}
-use mathlib.Core.Logic.{inl, inr}
 use borrow.Author.Tests.{ne-eqb}
 use Rattle.key.proofs.refuse.Statement.{statement}
 use Rattle.key.proofs.refuse.Tie as tie

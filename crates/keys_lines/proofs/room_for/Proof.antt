@@ -1,6 +1,5 @@
 -- `room_for` meets its contract. Assumes nothing.
 use native.Mathlib.Omega.{arith}
-use borrow.Author.Needs.{needs}
 use Rattle.keys_lines.proofs.Writing.{room-less, room-most}
 use Rattle.keys_lines.proofs.room_for.Statement.{statement}
 use Rattle.keys_lines.proofs.room_for.Tie as tie

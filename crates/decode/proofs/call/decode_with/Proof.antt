@@ -1,6 +1,5 @@
 -- `decode_with`: a question that fails refuses; else the decoding answers.
 use mathlib.Core.Path.{refl, sym}
-use native.Mathlib.Omega.{arith}
 use Rattle.decode.proofs.Calls.{refused}
 use borrow.Author.Needs.{needs}
 use Rattle.decode.proofs.call.decode_with.Statement.{statement}

@@ -1,5 +1,4 @@
 -- `finish`: 8, 9, or the counts and zeros behind the result.
-use native.Mathlib.Omega.{arith}
 use Rattle.decode.proofs.Calls.{finish-8, finish-9, finish-0}
 use borrow.Author.Needs.{needs}
 use Rattle.decode.proofs.call.finish.Statement.{statement}

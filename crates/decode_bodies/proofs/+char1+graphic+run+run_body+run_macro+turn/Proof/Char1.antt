@@ -1,7 +1,6 @@
 -- `char1`: the macro of the character runs.
 use Prim.Native.Nat.{ℕ}
 use native.Mathlib.Omega.{arith}
-use borrow.Author.Needs.{needs}
 use Rattle.decode_bodies.proofs.char1.Reads as char1
 use Rattle.decode_bodies.proofs.run_macro.Reads as run-macro
 use Rattle.decode_bodies.proofs.Steps.{ran-as}

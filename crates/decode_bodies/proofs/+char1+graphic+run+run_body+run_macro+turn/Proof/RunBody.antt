@@ -1,7 +1,6 @@
 -- `run_body`: MacroLimit, an empty body, or a body that runs one deeper.
 use Prim.Native.Nat.{ℕ, _+_, _≤_, _<_}
 use native.Mathlib.Omega.{arith}
-use borrow.Author.Needs.{needs}
 use lib.ListN.{length}
 use Rattle.reading.specs.Macros.{limit}
 use Rattle.decode_characters.proofs.report.Reads as report

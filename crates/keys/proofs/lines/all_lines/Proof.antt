@@ -1,7 +1,6 @@
 -- `keys::lines::all_lines` meets its contract. Assumes nothing.
 use mathlib.Core.Path.{sym, _∙_}
 use borrow.Author.Needs.{needs}
-use Rattle.keys.specs.Contracts.{Buffers}
 use Rattle.keys.proofs.lines.all_lines.Statement.{statement}
 use Rattle.keys.proofs.lines.all_lines.Tie as tie
 

@@ -1,9 +1,8 @@
 -- `keys::lines::read_all` meets its contract: the lengths stay. Assumes nothing.
 use mathlib.Core.Path.{_≡_, refl, _∙_}
 use native.Mathlib.Omega.{arith}
-use borrow.Author.Needs.{needs}
 use lib.ListN.{length}
-use Rattle.keys.specs.Contracts.{Buffers, Within}
+use Rattle.keys.specs.Contracts.{Within}
 use Rattle.keys.proofs.lines.read_all.Statement.{statement}
 use Rattle.keys.proofs.lines.read_all.Tie as tie
 

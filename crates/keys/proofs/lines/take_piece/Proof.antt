@@ -2,9 +2,8 @@
 use Prim.Native.Nat.{_-_, _≤_, suc}
 use mathlib.Core.Path.{_≡_, refl, _∙_}
 use native.Mathlib.Omega.{arith}
-use borrow.Author.Needs.{needs}
 use lib.ListN.{length}
-use Rattle.keys.specs.Contracts.{Buffers, Within}
+use Rattle.keys.specs.Contracts.{Within}
 use Rattle.keys.proofs.lines.take_piece.Statement.{statement}
 use Rattle.keys.proofs.lines.take_piece.Tie as tie
 

@@ -1,12 +1,11 @@
 -- `is_number` meets its contract: the digits that are left decide. Assumes nothing.
 use Prim.Native.Nat.{_-_, _≤_}
-use mathlib.Core.Path.{_≡_, sym, ap, _∙_}
-use mathlib.Core.Bool.{true}
+use mathlib.Core.Path.{_≡_, sym, _∙_}
 use native.Mathlib.Omega.{arith}
 use borrow.Author.Needs.{needs}
 use borrow.Author.Tests.{not-true, not-false}
-use lib.ListN.{length, drop, getD}
-use Rattle.keys_form.specs.Line.{isDecimal, isNumber}
+use lib.ListN.{length, drop}
+use Rattle.keys_form.specs.Line.{isNumber}
 use Rattle.keys_form.proofs.Reading.{decimal-range, numbers, number-empty, number-long, number-start, number-over, number-end, number-not, number-next}
 use Rattle.keys_form.proofs.parts.is_number.Statement.{statement}
 use Rattle.keys_form.proofs.parts.is_number.Tie as tie

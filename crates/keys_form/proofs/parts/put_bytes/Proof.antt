@@ -1,10 +1,8 @@
 -- `put_bytes` meets its contract: a byte a turn. Assumes nothing.
-use Prim.Native.Nat.{_-_, _*_, _+_, _<_}
-use mathlib.Core.Path.{_≡_, refl, sym, ap, ap₂, subst}
+use Prim.Native.Nat.{_-_, _*_, _+_}
 use native.Mathlib.Omega.{arith}
 use borrow.Author.Needs.{needs}
-use lib.ListN.{length, set, getD, length-set}
-use Rattle.keys_form.specs.Line.{hexValue}
+use lib.ListN.{length, length-set}
 use Rattle.keys_form.proofs.Reading.{Half, half-none, half-next, half-all, is-hex}
 use Rattle.keys_form.proofs.parts.put_bytes.Statement.{statement}
 use Rattle.keys_form.proofs.parts.put_bytes.Tie as tie
