@@ -2,14 +2,13 @@
 // encode.rs. A node's link is that of its place before, to which each choice on the way adds its
 // part: specs/Turn.antt.
 ghost use mathlib.Core.Path.{_≡_};
-ghost use mathlib.Core.List.{List, [], _∷_};
+ghost use mathlib.Core.List.{List, _∷_};
 ghost use Prim.Native.Nat.{ℕ, _+_, _*_, _/_, _%_, _≤_, _<_};
 ghost use lib.ListN.{length, take, drop};
-ghost use Rattle.coding.specs.State.{State};
 ghost use Rattle.coding.specs.Candidates.{Cand};
 ghost use Rattle.coding.specs.Ways.{through, byElement, ways};
 ghost use Rattle.coding.specs.Search.{Node, sizeBytes, sized, byWays, byCand, byCands};
-ghost use Rattle.encode_states.specs.Packed.{setOf, sizeOf, unpack, Proper, Packs, Codes, Element};
+ghost use Rattle.encode_states.specs.Packed.{setOf, sizeOf, unpack, Proper, Packs};
 ghost use Rattle.encode_states.specs.Written.{sizeControl};
 ghost use Rattle.encode_layer.specs.Layer.{bounds, HasRoom, Changes, Pushes};
 ghost use Rattle.encode_ways.specs.Turn.{Apart, Invoked, Sized, Small, Turn, Through, By, upTo, Control, Is, Matches, lengthOf, MatchAll};
