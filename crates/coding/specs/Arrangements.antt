@@ -1,4 +1,4 @@
--- Worked examples of admissible codings: controls that no search writes.
+-- Worked examples of admissible codings: controls that serve no character.
 use Prim.Native.Nat.{ℕ}
 use mathlib.Core.Path.{refl}
 use mathlib.Core.List.{List, [], _∷_}
