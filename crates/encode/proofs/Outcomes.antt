@@ -14,6 +14,7 @@ use Rattle.coding.specs.Search.{Coded}
 use Rattle.coding.specs.Call.{Lent, coding, Refusal, refuse, question4, question8, refusal, Outcome, outcomeOf, outcome}
 use Rattle.encode_find.specs.Plans.{asked, planned, leads, Leading, Planned}
 use Rattle.encode.specs.Answers.{numberOf, placeOf, lengthOf, gapOf, Zeroed, Refuses, Answers, lent, Answered}
+use Rattle.encode_find.specs.declared.Target.{Target}
 use Rattle.encode_find.specs.declared.Plan.{Plan}
 use Rattle.encode_find.specs.declared.Plan.the-variants as plan
 use Rattle.encode.specs.declared.call.Answer.{Answer}
@@ -143,7 +144,7 @@ module _ (cells : List ℕ) (initial width : ℕ) (text s b s₁ chs ks ss : Lis
   abbrev c : Lent
   c = lent cells initial width text s b
 
-  pub leading : {n from node len gap : ℕ} → p ≡ plan.Leads n from node len gap → Leading (eqb width 1) (coding c) n from node len gap s₁ chs ks ss
+  pub leading : {l : Target} → p ≡ plan.Leads l → Leading (eqb width 1) (coding c) l s₁ chs ks ss
   unfolding leads
   leading e = subst (λ (x : Plan). leads x (eqb width 1) (coding c) s₁ chs ks ss) e (d .found)
 
@@ -155,8 +156,8 @@ module _ (cells : List ℕ) (initial width : ℕ) (text s b s₁ chs ks ss : Lis
       outcome-as c s₁ b (question8 (length b) (coding c)) (first-three cells initial width text s b z ∙ d .answer ∙ ap (λ (x : Plan). planned x (length b) (coding c)) e)
       (sym m) refl (q (coding c) (h .0) (h .1))
 
-  pub answered-written : {n from node len gap : ℕ} {r : Answer} {s′ b′ : List ℕ} → firstRefusal cells initial width 7281 (length text) ≡ 0 →
-      p ≡ plan.Leads n from node len gap → length s₁ ≡ length s → Answers (question8 (length b) (coding c)) (coding c) s₁ b r s′ b′ → Answered c r s′ b′
+  pub answered-written : {l : Target} {r : Answer} {s′ b′ : List ℕ} → firstRefusal cells initial width 7281 (length text) ≡ 0 → p ≡ plan.Leads l →
+      length s₁ ≡ length s → Answers (question8 (length b) (coding c)) (coding c) s₁ b r s′ b′ → Answered c r s′ b′
   unfolding planned
   answered-written {s′ = s′} {b′ = b′} z e m q =
       outcome-as c s₁ b (question8 (length b) (coding c)) (first-three cells initial width text s b z ∙ d .answer ∙ ap (λ (x : Plan). planned x (length b) (coding c)) e)

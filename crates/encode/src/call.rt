@@ -1,6 +1,8 @@
 // The coding call: the questions in order, and every element of buffer and store.
 use encode_backtrack::Goal;
+use encode_find::Options;
 use encode_find::Plan;
+use encode_find::Target;
 ghost use mathlib.Core.Path.{_≡_};
 ghost use mathlib.Core.List.{[]};
 ghost use lib.ListN.{length};
@@ -49,18 +51,19 @@ fn write(
     kanji: &[u16],
     symbols: &[u16],
     annex: bool,
-    n: usize,
-    from: usize,
-    node: usize,
-    length: usize,
-    gap: usize,
+    target: Target,
     layers: &mut [u32],
     coding: &mut [u8],
 ) -> Answer
-    requires { ⌜ Held (now chars) (now kanji) (now symbols) n × Searched annex (now chars) (now kanji) (now symbols) n (now layers) from node ⌝ }
-    ensures { λ r. ⌜ ((k : Coded) → Leading annex k n from node length gap (now (layers .entry)) (now (chars .entry)) (now (kanji .entry)) (now (symbols .entry)) →
+    requires { ⌜ Held (now chars) (now kanji) (now symbols) (target .count) × Searched annex (now chars) (now kanji) (now symbols) (target .count) (now layers) (target .from) (target .node) ⌝ }
+    ensures { λ r. ⌜ ((k : Coded) → Leading annex k target (now (layers .entry)) (now (chars .entry)) (now (kanji .entry)) (now (symbols .entry)) →
         Answers (question8 (lib.ListN.length (now (coding .entry))) k) k (now (layers .entry)) (now (coding .entry)) r (now (layers .exit)) (now (coding .exit))) ⌝ }
 {
+    let count = target.count;
+    let from = target.from;
+    let node = target.node;
+    let length = target.length;
+    let gap = target.gap;
     if coding.len() < length {
         return refuse(8, 0, layers, coding);
     }
@@ -69,7 +72,7 @@ fn write(
         kanji,
         symbols,
         Goal {
-            count: n,
+            count,
             from,
             node,
             annex,
@@ -99,8 +102,7 @@ fn encode_checked(
     let mut symbols = [0u16; 7281];
     let plan = encode_find::find(
         cells,
-        initial,
-        width,
+        Options { initial, width },
         text,
         &mut *store,
         &mut chars,
@@ -109,25 +111,7 @@ fn encode_checked(
     );
     match plan {
         Plan::Nothing => nothing(store, coding),
-        Plan::Leads {
-            count,
-            from,
-            node,
-            length,
-            gap,
-        } => write(
-            &chars,
-            &kanji,
-            &symbols,
-            width == 1,
-            count,
-            from,
-            node,
-            length,
-            gap,
-            store,
-            coding,
-        ),
+        Plan::Leads(target) => write(&chars, &kanji, &symbols, width == 1, target, store, coding),
         Plan::Refused { number, place } => refuse(number, place, store, coding),
     }
 }

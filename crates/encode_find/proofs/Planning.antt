@@ -129,7 +129,8 @@ module _ (annexE : Bool) (initial : ℕ) (s s′ chs ks ss : List ℕ) (n rest :
       filled = run-filled css (t .each) (begin initial) (here tt)
 
       pub led-found : (best node gap : ℕ) → Held chs ks ss n → ((cs : List Cand) → best ≡ least (layerOf cs s′ from count)) →
-          ((cs : List Cand) → node ≡ firstOf best (layerOf cs s′ from count)) → gap ≡ gapOf best floor → Led annexE (code css initial) (needs css initial) (Leads n from node best gap) s′ chs ks ss
+          ((cs : List Cand) → node ≡ firstOf best (layerOf cs s′ from count)) → gap ≡ gapOf best floor →
+          Led annexE (code css initial) (needs css initial) (Leads (record { count = n; from = from; node = node; length = best; gap = gap })) s′ chs ks ss
       unfolding code finish planned leads
       led-found best node gap held eb en eg =
           let f = found-at in

@@ -13,6 +13,7 @@ use Rattle.coding.specs.Search.{begin, run, back, Coded}
 use Rattle.coding.specs.Store.{fit}
 use Rattle.coding.specs.Call.{Lent, coding, Refusal, refuse, question4, question8}
 use Rattle.encode_backtrack.specs.Contracts.{Searched, Held}
+use Rattle.encode_find.specs.declared.Target.{Target}
 use Rattle.encode_find.specs.declared.Plan.{Plan}
 use Rattle.encode_find.specs.declared.Plan.the-variants.{Nothing, Leads, Refused}
 
@@ -33,21 +34,21 @@ pub record Characters (annexE : Bool) (chs kanji symbols : List ℕ) (n rest : �
 unfoldable pub planned : Plan → ℕ → Coded → Refusal
 unfolding question8
 planned Nothing room k = question8 room k
-planned (Leads count from node len gap) room k = question8 room k
+planned (Leads l) room k = question8 room k
 planned (Refused number place) room k = refuse number place
 
 -- a node of the newest layer in the store s to which the coding of k leads, with the coding's length and its gap; the arrays hold the characters
-pub record Leading (annexE : Bool) (k : Coded) (n from node len gap : ℕ) (s chs kanji symbols : List ℕ) : Type 0 where
-  pub held : Held chs kanji symbols n
-  pub searched : Searched annexE chs kanji symbols n s from node
-  pub out : back (run (searched .css) (begin (searched .initial)) .layers) node [] ≡ k .out
-  pub length-is : len ≡ length (k .out)
-  pub gap-is : gap ≡ k .gap
+pub record Leading (annexE : Bool) (k : Coded) (l : Target) (s chs kanji symbols : List ℕ) : Type 0 where
+  pub held : Held chs kanji symbols (l .count)
+  pub searched : Searched annexE chs kanji symbols (l .count) s (l .from) (l .node)
+  pub out : back (run (searched .css) (begin (searched .initial)) .layers) (l .node) [] ≡ k .out
+  pub length-is : l .length ≡ length (k .out)
+  pub gap-is : l .gap ≡ k .gap
 
 -- what a plan says of store and arrays
 unfoldable pub leads : Plan → Bool → Coded → List ℕ → List ℕ → List ℕ → List ℕ → Type 0
 leads Nothing annexE k s chs kanji symbols = (k .out ≡ []) × (k .gap ≡ 0)
-leads (Leads n from node len gap) annexE k s chs kanji symbols = Leading annexE k n from node len gap s chs kanji symbols
+leads (Leads l) annexE k s chs kanji symbols = Leading annexE k l s chs kanji symbols
 leads (Refused number place) annexE k s chs kanji symbols = 1 ≤ number
 
 -- questions 4 to 7 of a call

@@ -1,4 +1,5 @@
 // The search for a coding: questions 4 to 7, the coding's length and its gap. No byte is written yet.
+use encode_search::Task;
 use encode_tokens::Tokens;
 ghost use mathlib.Core.Path.{_≡_};
 ghost use Prim.Native.Nat.{ℕ, _≤_};
@@ -10,24 +11,30 @@ ghost use Rattle.encode_tokens.specs.Contracts as tokens;
 ghost use Rattle.encode_search.specs.Layers.{Arrays};
 ghost use Rattle.encode_find.specs.Plans.{asked, Characters, Planned, Led};
 
+/// The two options of a call.
+pub struct Options {
+    pub initial: u32,
+    pub width: u32,
+}
+
+/// Where the coding is: how many characters there are, the node to which it leads, by its place in the
+/// layer that begins at the node from of the store, its length and its gap.
+pub struct Target {
+    pub count: usize,
+    pub from: usize,
+    pub node: usize,
+    pub length: usize,
+    pub gap: usize,
+}
+
 /// What questions 4 to 7 say of a text.
 pub enum Plan {
     /// All yes, and there is no character.
     Nothing,
-    /// All yes: how many characters there are, the node to which the coding leads, by its place in the
-    /// layer that begins at the node from of the store, the coding's length and its gap.
-    Leads {
-        count: usize,
-        from: usize,
-        node: usize,
-        length: usize,
-        gap: usize,
-    },
+    /// All yes.
+    Leads(Target),
     /// One no: its number, and the place.
-    Refused {
-        number: u32,
-        place: usize,
-    },
+    Refused { number: u32, place: usize },
 }
 
 /// The length less the floor, or 0 where that is negative or there is none.
@@ -44,26 +51,18 @@ fn gap_of(length: usize, floor: u32) -> usize
     0
 }
 
-/// Searches, question 7, for the n characters in the arrays, whose shortest codes are of rest bytes.
-fn lead(
-    chars: &[u32],
-    kanji: &[u16],
-    symbols: &[u16],
-    annex: bool,
-    n: usize,
-    rest: usize,
-    initial: u32,
-    store: &mut [u32],
-) -> Plan
-    requires { ⌜ Arrays (now chars) (now kanji) (now symbols) n rest ⌝ }
-    ensures { λ r. ⌜ ((t : Characters annex (now (chars .entry)) (now (kanji .entry)) (now (symbols .entry)) n rest) →
-        Led annex (code (candidatesOf (t .cells) annex (t .chars)) initial) (needs (candidatesOf (t .cells) annex (t .chars)) initial) r (now (store .exit)) (now (chars .entry))
-        (now (kanji .entry)) (now (symbols .entry))) ⌝ }
+/// Searches, question 7, for the characters in the arrays.
+fn lead(chars: &[u32], kanji: &[u16], symbols: &[u16], task: Task, store: &mut [u32]) -> Plan
+    requires { ⌜ Arrays (now chars) (now kanji) (now symbols) (task .count) (task .rest) ⌝ }
+    ensures { λ r. ⌜ ((t : Characters (task .annex) (now (chars .entry)) (now (kanji .entry)) (now (symbols .entry)) (task .count) (task .rest)) →
+        Led (task .annex) (code (candidatesOf (t .cells) (task .annex) (t .chars)) (task .initial)) (needs (candidatesOf (t .cells) (task .annex) (t .chars)) (task .initial)) r
+        (now (store .exit)) (now (chars .entry)) (now (kanji .entry)) (now (symbols .entry))) ⌝ }
 {
+    let n = task.count;
     if n == 0 {
         return Plan::Nothing;
     }
-    let last = encode_search::search(&mut *store, chars, kanji, symbols, n, annex, initial, rest);
+    let last = encode_search::search(&mut *store, chars, kanji, symbols, task);
     let fits = last.fits;
     if !fits {
         return Plan::Refused {
@@ -77,21 +76,20 @@ fn lead(
     let node = encode_backtrack::first_of(&*store, from, count, best);
     let length = best as usize;
     let gap = gap_of(length, last.floor);
-    Plan::Leads {
+    Plan::Leads(Target {
         count: n,
         from,
         node,
         length,
         gap,
-    }
+    })
 }
 
 /// Puts questions 4 to 7 to a text of at most 7,281 bytes. The arrays then hold its characters in the
 /// order in which they are coded, and the store what was searched.
 pub fn find(
     cells: &[u16],
-    initial: u32,
-    width: u32,
+    options: Options,
     text: &[u8],
     store: &mut [u32],
     chars: &mut [u32],
@@ -99,22 +97,22 @@ pub fn find(
     symbols: &mut [u16],
 ) -> Plan
     requires { ⌜ (length (now text) ≤ 7281) × tokens.ArraysFit (now text) (now chars) (now kanji) (now symbols) ⌝ }
-    ensures { λ r. ⌜ ((room : ℕ) → Planned (asked (now (cells .entry)) initial width (now (text .entry)) (now (store .entry)) room) r (now (store .exit)) (now (chars .exit))
+    ensures { λ r. ⌜ ((room : ℕ) → Planned (asked (now (cells .entry)) (options .initial) (options .width) (now (text .entry)) (now (store .entry)) room) r (now (store .exit)) (now (chars .exit))
         (now (kanji .exit)) (now (symbols .exit))) ⌝ }
 {
-    let annex = width == 1;
+    let initial = options.initial;
+    let annex = options.width == 1;
     let t = encode_tokens::tokenise(cells, annex, text, &mut *chars, &mut *kanji, &mut *symbols);
     match t {
-        Tokens::Ordered { count, rest } => lead(
-            &*chars,
-            &*kanji,
-            &*symbols,
-            annex,
-            count,
-            rest,
-            initial,
-            store,
-        ),
+        Tokens::Ordered { count, rest } => {
+            let task = Task {
+                count,
+                rest,
+                annex,
+                initial,
+            };
+            lead(&*chars, &*kanji, &*symbols, task, store)
+        }
         Tokens::Refused { number, place } => Plan::Refused { number, place },
     }
 }

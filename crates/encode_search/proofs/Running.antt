@@ -149,9 +149,9 @@ pub record Going (chs ks ss : List ℕ) (n : ℕ) (annexE : Bool) (rest : ℕ) (
 abled : (back most : ℕ) (q : List Entry) → All (Sound back most) q → All (Able most) q
 abled back most q a = all-map (Sound back most) (Able most) q (λ e p. record { proper = p .proper; cheap = p .cheap }) a
 
-module _ (chs ks ss : List ℕ) (n : ℕ) (annexE : Bool) (rest : ℕ) (s₀ : List ℕ) where
-  pub going-start : (ix : List ℕ) → length ix ≡ 98304 → 4 ≤ length s₀ → rest ≤ 65535 → All (Able 0) (entriesOf s₀ 0 1) → Going chs ks ss n annexE rest s₀ s₀ ix 0 0 1 rest 0
-  going-start ix e f g a =
+module _ {chs ks ss : List ℕ} {n : ℕ} {annexE : Bool} {rest : ℕ} {s₀ : List ℕ} where
+  pub going-start : {ix : List ℕ} → length ix ≡ 98304 → 4 ≤ length s₀ → rest ≤ 65535 → All (Able 0) (entriesOf s₀ 0 1) → Going chs ks ss n annexE rest s₀ s₀ ix 0 0 1 rest 0
+  going-start e f g a =
       record {
         same = refl;
         index = e;
@@ -164,7 +164,7 @@ module _ (chs ks ss : List ℕ) (n : ℕ) (annexE : Bool) (rest : ℕ) (s₀ : L
         going = λ cells cs h k initial b. at-start (candidatesOf cells annexE cs) initial rest (length s₀) s₀ b;
       }
 
-  module _ (s ix : List ℕ) (j from count left floor : ℕ) (g : Going chs ks ss n annexE rest s₀ s ix j from count left floor) where
+  module _ {s ix : List ℕ} {j from count left floor : ℕ} (g : Going chs ks ss n annexE rest s₀ s ix j from count left floor) where
     -- the j-th character's candidates
     module _ (lt : j < n) (cells cs : List ℕ) (h : HoldCharacters cells cs chs ks ss) (k : n ≡ length cs) where
       char-at : getD chs j 0 ≡ getD cs j 0
@@ -179,9 +179,9 @@ module _ (chs ks ss : List ℕ) (n : ℕ) (annexE : Bool) (rest : ℕ) (s₀ : L
       inside : j < length (candidatesOf cells annexE cs)
       inside = omega (arith, length-of cells annexE cs)
 
-    module _ (lt : j < n) (s′ ix′ : List ℕ) (fits : Bool) (count′ rest′ floor′ : ℕ) (same : length s′ ≡ length s)
+    module _ (lt : j < n) {s′ : List ℕ} {fits : Bool} {count′ rest′ floor′ : ℕ} (same : length s′ ≡ length s)
         (t : Turned s s′ from count (getD chs j 0) (getD ks j 0) (getD ss j 0) annexE left floor fits count′ rest′ floor′) where
-      pub going-on : length ix′ ≡ length ix → fits ≡ true → Going chs ks ss n annexE rest s₀ s′ ix′ (j + 1) (from + count) count′ rest′ floor′
+      pub going-on : {ix′ : List ℕ} → length ix′ ≡ length ix → fits ≡ true → Going chs ks ss n annexE rest s₀ s′ ix′ (j + 1) (from + count) count′ rest′ floor′
       going-on ei ef =
           record {
             same = same ∙ g .same;

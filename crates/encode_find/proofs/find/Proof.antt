@@ -18,8 +18,10 @@ lead-requires c κs =
     let at-kanji = at-symbols .before .before in
     let at-chars = at-kanji .before .before in
     let at-tokenise = at-chars .before in
-    let at-start = at-tokenise .before .before .before .before .before .before .before .before .before .before in
-    arrays-of (at-start .args .cells .now) (at-start .args .initial) (at-start .args .width) (at-start .args .text .now) (at-tokenise .tokenise .last .1 .1 .1 .0)
+    let at-options = at-tokenise .before .before .before .before in
+    let at-lent = at-options .before .before .before .before in
+    let at-start = at-lent .before .before .before in
+    arrays-of (at-start .args .cells .now) (at-start .args .options .initial) (at-start .args .options .width) (at-start .args .text .now) (at-tokenise .tokenise .last .1 .1 .1 .0)
     (at-tokenise .tokenise .last .1 .1 .1 .1 .0) (at-tokenise .tokenise .last .1 .1 .1 .1 .1 .0) (at-tokenise .tokenise .result) (at-tokenise .tokenise .ensures)
     (at-t .t .given .1) (at-start .pre .0) (omega (arith, at-start .pre .1 .chars, at-chars .chars .given))
     (omega (arith, at-start .pre .1 .kanji, at-kanji .kanji .given)) (omega (arith, at-start .pre .1 .symbols, at-symbols .symbols .given))
@@ -41,15 +43,18 @@ same-length-4 c = search needs
 
 returns : tie.Need-returns
 returns c =
-    let at-store = c .before in
-    let at-lead = at-store .before in
-    let at-t = at-lead .before .before .before .before .before .before in
-    let at-tokenise = at-t .before .before .before .before .before .before .before .before in
-    let at-start = at-tokenise .before .before .before .before .before .before .before .before .before .before in
-    λ room. planned-on (at-start .args .cells .now) (at-start .args .initial) (at-start .args .width) (at-start .args .text .now) (at-tokenise .tokenise .last .1 .1 .1 .0)
+    let at-lead = c .before .before in
+    let at-kept = at-lead .before .before .before in
+    let at-t = at-kept .before .before .before in
+    let at-kanji = at-t .before .before .before .before .before in
+    let at-tokenise = at-kanji .before .before .before in
+    let at-options = at-tokenise .before .before .before .before in
+    let at-lent = at-options .before .before .before .before in
+    let at-start = at-lent .before .before .before in
+    λ room. planned-on (at-start .args .cells .now) (at-start .args .options .initial) (at-start .args .options .width) (at-start .args .text .now) (at-tokenise .tokenise .last .1 .1 .1 .0)
     (at-tokenise .tokenise .last .1 .1 .1 .1 .0) (at-tokenise .tokenise .last .1 .1 .1 .1 .1 .0) (at-tokenise .tokenise .result) (at-tokenise .tokenise .ensures)
-    (at-start .args .store .now) (at-lead .lead .last .1 .1 .1 .1 .1 .1 .1 .0) room (at-t .t .given .1) (at-store .store .given)
-    (at-lead .lead .ensures (characters-of (at-start .args .cells .now) (at-start .args .initial) (at-start .args .width) (at-start .args .text .now)
+    (at-start .args .store .now) (at-lead .lead .last .1 .1 .1 .1 .0) room (at-t .t .given .1) (c .before .store .given)
+    (at-lead .lead .ensures (characters-of (at-start .args .cells .now) (at-start .args .options .initial) (at-start .args .options .width) (at-start .args .text .now)
     (at-tokenise .tokenise .last .1 .1 .1 .0) (at-tokenise .tokenise .last .1 .1 .1 .1 .0) (at-tokenise .tokenise .last .1 .1 .1 .1 .1 .0) (at-tokenise .tokenise .result)
     (at-tokenise .tokenise .ensures) (at-t .t .given .1)))
 
@@ -65,9 +70,12 @@ same-length-7 c = search needs
 returns-2 : tie.Need-returns-2
 returns-2 c =
     let at-t2 = c .before in
-    let at-tokenise = at-t2 .before .before .before .before .before .before .before .before in
-    let at-start = at-tokenise .before .before .before .before .before .before .before .before .before .before in
-    λ room. planned-not (at-start .args .cells .now) (at-start .args .initial) (at-start .args .width) (at-start .args .text .now) (at-tokenise .tokenise .last .1 .1 .1 .0)
+    let at-kanji = at-t2 .before .before .before .before .before in
+    let at-tokenise = at-kanji .before .before .before in
+    let at-options = at-tokenise .before .before .before .before in
+    let at-lent = at-options .before .before .before .before in
+    let at-start = at-lent .before .before .before in
+    λ room. planned-not (at-start .args .cells .now) (at-start .args .options .initial) (at-start .args .options .width) (at-start .args .text .now) (at-tokenise .tokenise .last .1 .1 .1 .0)
     (at-tokenise .tokenise .last .1 .1 .1 .1 .0) (at-tokenise .tokenise .last .1 .1 .1 .1 .1 .0) (at-tokenise .tokenise .result) (at-tokenise .tokenise .ensures)
     (at-start .args .store .now) (at-start .args .store .now) room (at-t2 .t2 .given .1)
 

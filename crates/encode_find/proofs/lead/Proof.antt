@@ -9,8 +9,8 @@ use Rattle.encode_find.proofs.lead.Tie as tie
 returns : tie.Need-returns
 returns c =
     let at-start = c .before .before .before .before .before in
-    λ t. led-nothing (at-start .args .annex) (at-start .args .initial) (at-start .args .store .now) (at-start .args .store .now) (at-start .args .chars .now)
-    (at-start .args .kanji .now) (at-start .args .symbols .now) (at-start .args .n) (at-start .args .rest) t refl (c .if1 .taken)
+    λ t. led-nothing (at-start .args .task .annex) (at-start .args .task .initial) (at-start .args .store .now) (at-start .args .store .now) (at-start .args .chars .now)
+    (at-start .args .kanji .now) (at-start .args .symbols .now) (at-start .args .task .count) (at-start .args .task .rest) t refl (c .if1 .taken)
 
 search-requires : tie.Need-search-requires
 search-requires c κs = search needs
@@ -22,9 +22,10 @@ returns-2 : tie.Need-returns-2
 returns-2 c =
     let at-store = c .before .before in
     let at-search = at-store .before in
-    let at-start = at-search .before .before .before .before .before .before .before in
-    λ t. led-full (at-start .args .annex) (at-start .args .initial) (at-start .args .store .now) (at-search .search .last .0) (at-start .args .chars .now)
-    (at-start .args .kanji .now) (at-start .args .symbols .now) (at-start .args .n) (at-start .args .rest) t (at-store .store .given) (at-search .search .ensures)
+    let at-if1 = at-search .before .before in
+    let at-start = at-if1 .before .before .before .before .before in
+    λ t. led-full (at-start .args .task .annex) (at-start .args .task .initial) (at-start .args .store .now) (at-search .search .last .0) (at-start .args .chars .now)
+    (at-start .args .kanji .now) (at-start .args .symbols .now) (at-start .args .task .count) (at-start .args .task .rest) t (at-store .store .given) (at-search .search .ensures)
     (not-so _ (c .if2 .taken))
 
 least-requires : tie.Need-least-requires
@@ -53,9 +54,10 @@ returns-3 c =
     let at-if2 = at-least .before .before in
     let at-store = at-if2 .before .before in
     let at-search = at-store .before in
-    let at-start = at-search .before .before .before .before .before .before .before in
-    λ t. led-found (at-start .args .annex) (at-start .args .initial) (at-start .args .store .now) (at-search .search .last .0) (at-start .args .chars .now)
-    (at-start .args .kanji .now) (at-start .args .symbols .now) (at-start .args .n) (at-start .args .rest) t (at-store .store .given) (at-search .search .ensures)
+    let at-if1 = at-search .before .before in
+    let at-start = at-if1 .before .before .before .before .before in
+    λ t. led-found (at-start .args .task .annex) (at-start .args .task .initial) (at-start .args .store .now) (at-search .search .last .0) (at-start .args .chars .now)
+    (at-start .args .kanji .now) (at-start .args .symbols .now) (at-start .args .task .count) (at-start .args .task .rest) t (at-store .store .given) (at-search .search .ensures)
     (so _ (at-if2 .if2 .left)) _ _ _ (record { chars = at-start .pre .chars; kanji = at-start .pre .kanji; symbols = at-start .pre .symbols }) (at-least .least .ensures)
     (at-first-of .first-of .ensures) (c .gap-of .ensures)
 

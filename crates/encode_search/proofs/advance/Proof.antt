@@ -1,4 +1,4 @@
--- `encode_search::advance` meets its contract: the layer behind the pcount nodes from the node pfrom on, for a character with m candidates.
+-- `encode_search::advance` meets its contract: the next layer is reached, and is too large or kept. Assumes nothing.
 use native.Mathlib.Omega.{arith}
 use Rattle.encode_layer.specs.Entries.{entriesOf}
 use Rattle.encode_search.proofs.Advancing.{abled, too-large, reached-cheap, least-small, advanced}
@@ -22,9 +22,9 @@ room-requires c κs = search needs
 reach-requires : tie.Need-reach-requires
 reach-requires c κs =
     let at-room = c .before .before in
-    let start = at-room .before .before .before in
+    let start = at-room .before .before .before .before in
     let capped = at-room .room .ensures in
-    let layer = entriesOf (start .args .store .now) (start .args .pfrom) (start .args .pcount) in
+    let layer = entriesOf (start .args .store .now) (start .args .prev .from) (start .args .prev .count) in
     (record { store = capped .inside; index = omega arith; few = capped .few }, start .pre .2, start .pre .3, start .pre .4, abled 65526 65535 layer (omega arith) (start .pre .6))
 
 same-length : tie.Need-same-length
@@ -37,9 +37,9 @@ returns : tie.Need-returns
 returns c =
     let at-reach = c .before .before .before .before .before in
     let at-room = at-reach .before .before .before in
-    let at-start = at-room .before .before .before in
-    too-large (at-start .args .store .now) _ _ (at-start .args .pfrom) (at-start .args .pcount) (at-room .room .result) (at-start .args .m) (at-reach .reach .result)
-    (at-start .args .sets .now) (at-start .args .codes .now) (at-start .args .sizes .now) (at-reach .reach .ensures) (at-room .room .ensures) (omega arith)
+    let at-start = at-room .before .before .before .before in
+    too-large (at-start .args .store .now) _ _ (at-start .args .prev .from) (at-start .args .prev .count) (at-room .room .result) (at-start .args .k .count) (at-reach .reach .result)
+    (at-start .args .k .sets) (at-start .args .k .codes) (at-start .args .k .sizes) (at-reach .reach .ensures) (at-room .room .ensures) (omega arith)
     (at-start .pre .6) (c .if1 .taken) (at-start .args .rest) (at-start .args .floor) (at-start .pre .0)
 
 least-requires : tie.Need-least-requires
@@ -50,11 +50,11 @@ add-most c =
     let at-if1 = c .before .before in
     let at-reach = at-if1 .before .before .before .before .before in
     let at-room = at-reach .before .before .before in
-    let at-start = at-room .before .before .before in
+    let at-start = at-room .before .before .before .before in
     omega (
       arith,
-      least-small (at-start .args .store .now) _ _ (at-start .args .pfrom) (at-start .args .pcount) (at-room .room .result) (at-start .args .m)
-          (at-reach .reach .result) (at-start .args .sets .now) (at-start .args .codes .now) (at-start .args .sizes .now) (at-reach .reach .ensures) (at-room .room .ensures)
+      least-small (at-start .args .store .now) _ _ (at-start .args .prev .from) (at-start .args .prev .count) (at-room .room .result) (at-start .args .k .count)
+          (at-reach .reach .result) (at-start .args .k .sets) (at-start .args .k .codes) (at-start .args .k .sizes) (at-reach .reach .ensures) (at-room .room .ensures)
           (omega arith) (at-start .pre .6) (at-if1 .if1 .left) (c .least .result) (c .least .ensures),
     )
 
@@ -63,11 +63,11 @@ floor-requires c κs =
     let at-if1 = c .before .before .before in
     let at-reach = at-if1 .before .before .before .before .before in
     let at-room = at-reach .before .before .before in
-    let at-start = at-room .before .before .before in (
+    let at-start = at-room .before .before .before .before in (
       omega (arith, at-room .room .ensures .inside),
       at-start .pre .5,
-      reached-cheap (at-start .args .store .now) _ _ (at-start .args .pfrom) (at-start .args .pcount)
-          (at-room .room .result) (at-start .args .m) (at-reach .reach .result) (at-start .args .sets .now) (at-start .args .codes .now) (at-start .args .sizes .now)
+      reached-cheap (at-start .args .store .now) _ _ (at-start .args .prev .from) (at-start .args .prev .count)
+          (at-room .room .result) (at-start .args .k .count) (at-reach .reach .result) (at-start .args .k .sets) (at-start .args .k .codes) (at-start .args .k .sizes)
           (at-reach .reach .ensures) (at-room .room .ensures) (omega arith) (at-start .pre .6) (at-if1 .if1 .left),
     )
 
@@ -88,9 +88,9 @@ returns-2 c =
     let at-if1 = at-least .before .before in
     let at-reach = at-if1 .before .before .before .before .before in
     let at-room = at-reach .before .before .before in
-    let at-start = at-room .before .before .before in
-    advanced (at-start .args .store .now) _ _ (at-start .args .pfrom) (at-start .args .pcount) (at-room .room .result) (at-start .args .m) (at-reach .reach .result)
-    (at-start .args .sets .now) (at-start .args .codes .now) (at-start .args .sizes .now) (at-reach .reach .ensures) (at-room .room .ensures) (omega arith)
+    let at-start = at-room .before .before .before .before in
+    advanced (at-start .args .store .now) _ _ (at-start .args .prev .from) (at-start .args .prev .count) (at-room .room .result) (at-start .args .k .count) (at-reach .reach .result)
+    (at-start .args .k .sets) (at-start .args .k .codes) (at-start .args .k .sizes) (at-reach .reach .ensures) (at-room .room .ensures) (omega arith)
     (at-start .pre .6) (at-if1 .if1 .left) _ (at-least .least .result) (at-start .args .rest) (at-start .args .floor) (at-floor .floor .result) (at-keep .keep .result)
     (at-least .least .ensures) (at-floor .floor .ensures) (at-keep .keep .ensures)
 

@@ -1,12 +1,12 @@
--- `encode_search::reach` meets its contract: every state that the pcount nodes from the node pfrom on reach by the m candidates, behind them.
+-- `encode_search::reach` meets its contract: the nodes of the layer before one by one. Assumes nothing.
 use mathlib.Core.Path.{_≡_, refl, _∙_, subst}
 use mathlib.Core.List.{List, []}
-use Prim.Native.Nat.{ℕ, _+_, _*_, _-_, _≤_, _<_}
+use Prim.Native.Nat.{ℕ, _+_, _*_, _-_, _≤_}
 use native.Mathlib.Omega.{arith}
-use lib.ListN.{length, getD, take}
+use lib.ListN.{length, take}
 use Rattle.base.specs.Lists.{All}
 use Rattle.coding.specs.Candidates.{Cand}
-use Rattle.coding.specs.Search.{Node, reach}
+use Rattle.coding.specs.Search.{reach}
 use Rattle.encode_layer.specs.Entries.{nodeOf, entriesOf, layerOf}
 use Rattle.encode_layer.specs.Layer.{bounds, Represents}
 use Rattle.encode_layer.proofs.Pushing.{blank}
@@ -21,13 +21,13 @@ use Rattle.encode_search.proofs.reach.Lts as lts
 use Rattle.encode_ways.proofs.by_candidates.Reads as by-candidates-reads
 
 abbrev Inv-loop : tie.InvT-loop
-Inv-loop store₀ index₀ pfrom pcount cap m sets codes sizes from back count₀ i₀ store index count i =
+Inv-loop store₀ index₀ cap k pfrom pcount from back count₀ i₀ store index count i =
     (i ≤ pcount) × (length store ≡ length store₀) × (length index ≡ length index₀) × (take ((pfrom + pcount) * 4) store ≡ take ((pfrom + pcount) * 4) store₀) ×
-    ((cs cs₀ : List Cand) (b most : ℕ) → MatchAll cs m sets codes sizes → All (Able b) (entriesOf store₀ pfrom pcount) → b + 9 ≤ most →
+    ((cs cs₀ : List Cand) (b most : ℕ) → MatchAll cs (k .count) (k .sets) (k .codes) (k .sizes) → All (Able b) (entriesOf store₀ pfrom pcount) → b + 9 ≤ most →
     Represents cs (bounds (pfrom + pcount) cap pfrom most) store index count (reach cs (take i (layerOf cs₀ store₀ pfrom pcount)) 0 []))
 
 abbrev μ-loop : tie.MeasureT-loop
-μ-loop store₀ index₀ pfrom pcount cap m sets codes sizes from back count₀ i₀ store index count i = pcount - i
+μ-loop store₀ index₀ cap k pfrom pcount from back count₀ i₀ store index count i = pcount - i
 
 add-from : tie.Need-add-from Inv-loop μ-loop
 add-from c = omega arith
@@ -36,15 +36,15 @@ cast-back : tie.Need-cast-back Inv-loop μ-loop
 cast-back c = omega arith
 
 loop-holds : tie.Need-loop-holds Inv-loop μ-loop
-loop-holds c = (
-  omega arith,
-  refl,
-  refl,
-  refl,
-  λ cs cs₀ b most m a h. reach-none cs (c .before .before .args .pfrom + c .before .before .args .pcount) (c .before .before .args .cap)
-      (c .before .before .args .pfrom) most (c .before .before .args .store .now) (c .before .before .args .index .now)
-      (layerOf cs₀ (c .before .before .args .store .now) (c .before .before .args .pfrom) (c .before .before .args .pcount)),
-)
+loop-holds c =
+    let a = c .before .before .args in (
+      omega arith,
+      refl,
+      refl,
+      refl,
+      λ cs cs₀ b most m x h. reach-none cs (a .prev .from + a .prev .count) (a .cap) (a .prev .from) most (a .store .now) (a .index .now)
+          (layerOf cs₀ (a .store .now) (a .prev .from) (a .prev .count)),
+    )
 
 add-at : tie.Need-add-at Inv-loop μ-loop
 add-at c = omega arith
@@ -72,12 +72,14 @@ cast-by-candidates c = omega arith
 
 by-candidates-requires : tie.Need-by-candidates-requires Inv-loop μ-loop
 by-candidates-requires c κs =
-    let at-loop = c .before .before .before .before .before in
+    let at-k = c .before .before .before in
+    let at-read = at-k .before .before .before in
+    let at-loop = at-read .before .before .before in
     let at-start = at-loop .before .before .before in (
       record { store = omega arith; index = omega arith; few = at-start .pre .0 .few },
-      proper (at-start .args .store .now) (at-loop .loop .store) (at-start .args .pfrom) (at-start .args .pcount) (at-loop .loop .i) (omega arith) (at-loop .loop .inv .3)
+      proper (at-start .args .store .now) (at-loop .loop .store) (at-start .args .prev .from) (at-start .args .prev .count) (at-loop .loop .i) (omega arith) (at-loop .loop .inv .3)
           (omega arith) 65535 (at-start .pre .4),
-      cheap (at-start .args .store .now) (at-loop .loop .store) (at-start .args .pfrom) (at-start .args .pcount) (at-loop .loop .i)
+      cheap (at-start .args .store .now) (at-loop .loop .store) (at-start .args .prev .from) (at-start .args .prev .count) (at-loop .loop .i)
           (omega arith) (at-loop .loop .inv .3) (omega arith) 65535 (at-start .pre .4),
       omega arith,
       at-start .pre .3,
@@ -92,7 +94,9 @@ loop-less c = omega arith
 loop-again : tie.Need-loop-again Inv-loop μ-loop
 loop-again c =
     let at-by-candidates = c .before .before .before .before in
-    let at-loop = at-by-candidates .before .before .before .before .before .before in
+    let at-k = at-by-candidates .before .before .before .before in
+    let at-read = at-k .before .before .before in
+    let at-loop = at-read .before .before .before in
     let at-start = at-loop .before .before .before in
     let a = at-start .args in
     let i = at-loop .loop .i in
@@ -102,15 +106,15 @@ loop-again c =
       omega arith,
       q .0 ∙ at-loop .loop .inv .3,
       λ cs cs₀ b most m x h.
-          let l = length-layer cs₀ (a .store .now) (a .pfrom) (a .pcount) (omega arith) in
-          subst (Represents cs (bounds (a .pfrom + a .pcount) (a .cap) (a .pfrom) most) _ _ _)
-          (reach-more cs (layerOf cs₀ (a .store .now) (a .pfrom) (a .pcount)) i (nodeOf cs₀ blank) (omega arith))
-          (q .1 cs most (nodeAt (at-start .args .store .now) (at-loop .loop .store) (at-start .args .pfrom) (at-start .args .pcount) (at-loop .loop .i) (omega arith)
-          (at-loop .loop .inv .3) (omega arith) cs₀) m (is-node (at-start .args .store .now) (at-loop .loop .store) (at-start .args .pfrom) (at-start .args .pcount)
+          let l = length-layer cs₀ (a .store .now) (a .prev .from) (a .prev .count) (omega arith) in
+          subst (Represents cs (bounds (a .prev .from + a .prev .count) (a .cap) (a .prev .from) most) _ _ _)
+          (reach-more cs (layerOf cs₀ (a .store .now) (a .prev .from) (a .prev .count)) i (nodeOf cs₀ blank) (omega arith))
+          (q .1 cs most (nodeAt (at-start .args .store .now) (at-loop .loop .store) (at-start .args .prev .from) (at-start .args .prev .count) (at-loop .loop .i) (omega arith)
+          (at-loop .loop .inv .3) (omega arith) cs₀) m (is-node (at-start .args .store .now) (at-loop .loop .store) (at-start .args .prev .from) (at-start .args .prev .count)
           (at-loop .loop .i) (omega arith) (at-loop .loop .inv .3) (omega arith) cs₀)
           (omega (
             arith,
-            cheap (at-start .args .store .now) (at-loop .loop .store) (at-start .args .pfrom) (at-start .args .pcount) (at-loop .loop .i) (omega arith)
+            cheap (at-start .args .store .now) (at-loop .loop .store) (at-start .args .prev .from) (at-start .args .prev .count) (at-loop .loop .i) (omega arith)
                 (at-loop .loop .inv .3) (omega arith) b x,
           )) .stands _ (at-loop .loop .inv .4 cs cs₀ b most m x h)),
     )
@@ -123,13 +127,14 @@ same-length-2 c = c .before .loop .inv .2
 
 returns : tie.Need-returns Inv-loop μ-loop
 returns c =
-    let a = c .before .before .before .before .args in
+    let at-loop = c .before in
+    let a = at-loop .before .before .before .args in
     record {
-      before = c .before .loop .inv .3;
+      before = at-loop .loop .inv .3;
       stands = λ cs cs₀ b most m x h.
-          let l = length-layer cs₀ (a .store .now) (a .pfrom) (a .pcount) (omega arith) in
-          subst (Represents cs (bounds (a .pfrom + a .pcount) (a .cap) (a .pfrom) most) _ _ _)
-          (reach-all cs (layerOf cs₀ (a .store .now) (a .pfrom) (a .pcount)) (c .before .loop .i) (omega arith)) (c .before .loop .inv .4 cs cs₀ b most m x h);
+          let l = length-layer cs₀ (a .store .now) (a .prev .from) (a .prev .count) (omega arith) in
+          subst (Represents cs (bounds (a .prev .from + a .prev .count) (a .cap) (a .prev .from) most) _ _ _)
+          (reach-all cs (layerOf cs₀ (a .store .now) (a .prev .from) (a .prev .count)) (at-loop .loop .i) (omega arith)) (at-loop .loop .inv .4 cs cs₀ b most m x h);
     }
 
 pub reach-spec : {M : Type 1} → statement M

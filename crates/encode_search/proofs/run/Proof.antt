@@ -1,9 +1,7 @@
--- `encode_search::run` meets its contract: a layer for each of n characters, behind the start, which stands in the store.
-use mathlib.Core.Path.{_≡_, sym}
+-- `encode_search::run` meets its contract: where the loop stands after each character. Assumes nothing.
 use mathlib.Core.Bool.{true≢false, false≢true}
-use Prim.Native.Nat.{ℕ, _-_, _*_}
+use Prim.Native.Nat.{_-_, _*_}
 use native.Mathlib.Omega.{arith}
-use borrow.Author.Needs.{needs}
 use borrow.Author.Tests.{not-true, not-false}
 use Rattle.encode_layer.specs.Entries.{entriesOf}
 use Rattle.encode_search.proofs.Advancing.{abled}
@@ -15,18 +13,16 @@ use Rattle.encode_search.proofs.run.Lts as lts
 use Rattle.encode_search.proofs.turn.Reads as turn-reads
 
 abbrev Inv-loop : tie.InvT-loop
-Inv-loop store₀ index₀ chars kanji symbols n annex rest from₀ count₀ left₀ floor₀ j₀ store index from count left floor j =
+Inv-loop store₀ index₀ chars kanji symbols from₀ count₀ n annex rest floor₀ j₀ store index from count left floor j =
     Going chars kanji symbols n annex rest store₀ store index j from count left floor
 
 abbrev μ-loop : tie.MeasureT-loop
-μ-loop store₀ index₀ chars kanji symbols n annex rest from₀ count₀ left₀ floor₀ j₀ store index from count left floor j =
-    n - j
+μ-loop store₀ index₀ chars kanji symbols from₀ count₀ n annex rest floor₀ j₀ store index from count left floor j = n - j
 
 loop-holds : tie.Need-loop-holds Inv-loop μ-loop
 loop-holds c =
     let at-start = c .before .before .before .before .before in
-    going-start (at-start .args .chars .now) (at-start .args .kanji .now) (at-start .args .symbols .now) (at-start .args .n) (at-start .args .annex) (at-start .args .rest)
-    (at-start .args .store .now) _ (at-start .pre .2) (at-start .pre .1) (at-start .pre .0 .rest-small) (at-start .pre .3)
+    going-start (at-start .pre .2) (at-start .pre .1) (at-start .pre .0 .rest-small) (at-start .pre .3)
 
 mul-c : tie.Need-mul-c Inv-loop μ-loop
 mul-c c = omega arith
@@ -48,12 +44,14 @@ shared-slice-read-s c = omega arith
 
 turn-requires : tie.Need-turn-requires Inv-loop μ-loop
 turn-requires c κs =
-    let at-loop = c .before .before .before .before .before .before in
-    let start = at-loop .before .before .before .before .before .before in
+    let at-test = c .before .before .before .before .before in
+    let at-loop = at-test .before in
+    let at-index = at-loop .before .before .before .before in
+    let at-start = at-index .before .before in
     let at = at-loop .loop in
     let layer = entriesOf (at .store) (at .from) (at .count) in
-    let able = abled (9 * at .j) 65526 layer (omega (arith, start .pre .0 .few)) (at .inv .able) in
-    (omega (arith, at .inv .inside), omega (arith, at .inv .index), omega (arith, at .inv .low, start .pre .0 .few), omega (arith, at .inv .few), at .inv .left-le, able)
+    let able = abled (9 * at .j) 65526 layer (omega (arith, at-start .pre .0 .few)) (at .inv .able) in
+    (omega (arith, at .inv .inside), omega (arith, at .inv .index), omega (arith, at .inv .low, at-start .pre .0 .few), omega (arith, at .inv .few), at .inv .left-le, able)
 
 same-length : tie.Need-same-length Inv-loop μ-loop
 same-length c = omega arith
@@ -63,26 +61,15 @@ same-length-2 c = omega arith
 
 returns : tie.Need-returns Inv-loop μ-loop
 returns c =
-    λ initial b. record {
+    let at-store = c .before .before .before .before in
+    let at-turn = at-store .before in
+    let at-read = at-turn .before .before .before in
+    let at-test = at-read .before .before .before in
+    let at-loop = at-test .before in
+    λ b. record {
       inside = λ e. absurd (false≢true e);
-      full = λ cells cs h k e. going-full
-          (c .before .before .before .before .before .before .before .before .before .before .before .before .before .before .before .before .before .before .args .chars .now)
-          (c .before .before .before .before .before .before .before .before .before .before .before .before .before .before .before .before .before .before .args .kanji .now)
-          (c .before .before .before .before .before .before .before .before .before .before .before .before .before .before .before .before .before .before .args .symbols .now)
-          (c .before .before .before .before .before .before .before .before .before .before .before .before .before .before .before .before .before .before .args .n)
-          (c .before .before .before .before .before .before .before .before .before .before .before .before .before .before .before .before .before .before .args .annex)
-          (c .before .before .before .before .before .before .before .before .before .before .before .before .before .before .before .before .before .before .args .rest)
-          (c .before .before .before .before .before .before .before .before .before .before .before .before .before .before .before .before .before .before .args .store .now)
-          (c .before .before .before .before .before .before .before .before .before .before .before .before .loop .store)
-          (c .before .before .before .before .before .before .before .before .before .before .before .before .loop .index)
-          (c .before .before .before .before .before .before .before .before .before .before .before .before .loop .j)
-          (c .before .before .before .before .before .before .before .before .before .before .before .before .loop .from)
-          (c .before .before .before .before .before .before .before .before .before .before .before .before .loop .count)
-          (c .before .before .before .before .before .before .before .before .before .before .before .before .loop .left)
-          (c .before .before .before .before .before .before .before .before .before .before .before .before .loop .floor)
-          (c .before .before .before .before .before .before .before .before .before .before .before .before .loop .inv) (omega arith) _
-          (c .before .before .before .before .before .before .before .before .before .before .before .before .loop .index) _ _ _ _
-          (c .before .before .before .before .store .given) (c .before .before .before .before .before .turn .ensures) (not-true _ (c .if1 .taken)) cells cs h k initial b;
+      full = λ cells cs h k e. going-full (at-loop .loop .inv) (at-test .loop-test .taken) (at-store .store .given) (at-turn .turn .ensures)
+          (not-true _ (c .if1 .taken)) cells cs h k _ b;
       done = λ cells cs h k r e. absurd (false≢true e);
     }
 
@@ -97,24 +84,13 @@ loop-less c = omega arith
 
 loop-again : tie.Need-loop-again Inv-loop μ-loop
 loop-again c =
-    going-on
-    (c .before .before .before .before .before .before .before .before .before .before .before .before .before .before .before .before .before .before .args .chars .now)
-    (c .before .before .before .before .before .before .before .before .before .before .before .before .before .before .before .before .before .before .args .kanji .now)
-    (c .before .before .before .before .before .before .before .before .before .before .before .before .before .before .before .before .before .before .args .symbols .now)
-    (c .before .before .before .before .before .before .before .before .before .before .before .before .before .before .before .before .before .before .args .n)
-    (c .before .before .before .before .before .before .before .before .before .before .before .before .before .before .before .before .before .before .args .annex)
-    (c .before .before .before .before .before .before .before .before .before .before .before .before .before .before .before .before .before .before .args .rest)
-    (c .before .before .before .before .before .before .before .before .before .before .before .before .before .before .before .before .before .before .args .store .now)
-    (c .before .before .before .before .before .before .before .before .before .before .before .before .loop .store)
-    (c .before .before .before .before .before .before .before .before .before .before .before .before .loop .index)
-    (c .before .before .before .before .before .before .before .before .before .before .before .before .loop .j)
-    (c .before .before .before .before .before .before .before .before .before .before .before .before .loop .from)
-    (c .before .before .before .before .before .before .before .before .before .before .before .before .loop .count)
-    (c .before .before .before .before .before .before .before .before .before .before .before .before .loop .left)
-    (c .before .before .before .before .before .before .before .before .before .before .before .before .loop .floor)
-    (c .before .before .before .before .before .before .before .before .before .before .before .before .loop .inv) (omega arith) _ _ _ _ _ _
-    (c .before .before .before .before .store .given) (c .before .before .before .before .before .turn .ensures) (c .before .before .index .given)
-    (not-false _ (c .if1 .left))
+    let at-index = c .before .before in
+    let at-store = at-index .before .before in
+    let at-turn = at-store .before in
+    let at-read = at-turn .before .before .before in
+    let at-test = at-read .before .before .before in
+    let at-loop = at-test .before in
+    going-on (at-loop .loop .inv) (at-test .loop-test .taken) (at-store .store .given) (at-turn .turn .ensures) (at-index .index .given) (not-false _ (c .if1 .left))
 
 same-length-3 : tie.Need-same-length-3 Inv-loop μ-loop
 same-length-3 c = omega arith
@@ -125,13 +101,10 @@ same-length-4 c = omega arith
 returns-2 : tie.Need-returns-2 Inv-loop μ-loop
 returns-2 c =
     let at-loop = c .before in
-    let at-start = at-loop .before .before .before .before .before .before in
-    λ initial b. record {
+    λ b. record {
       inside = λ e. omega (arith, at-loop .loop .inv .inside, at-loop .loop .inv .same);
       full = λ cells cs h k e. absurd (true≢false e);
-      done = λ cells cs h k r e. going-end (at-start .args .chars .now) (at-start .args .kanji .now) (at-start .args .symbols .now) (at-start .args .n)
-          (at-start .args .annex) (at-start .args .rest) (at-start .args .store .now) (at-loop .loop .store) (at-loop .loop .index) (at-loop .loop .j) (at-loop .loop .from)
-          (at-loop .loop .count) (at-loop .loop .left) (at-loop .loop .floor) (at-loop .loop .inv) (c .loop-test .left) cells cs h k r initial b;
+      done = λ cells cs h k r e. going-end (at-loop .loop .inv) (c .loop-test .left) cells cs h k r _ b;
     }
 
 pub run-spec : {M : Type 1} → statement M

@@ -1,5 +1,5 @@
--- `encode_search::search` meets its contract: the search for n characters, of which each array has one number: the character, and its cells of the Kanji set and of the additional symbols, 0 for none.
-use mathlib.Core.Path.{_≡_, sym, subst}
+-- `encode_search::search` meets its contract: the start is put into the store, then a layer for each character. Assumes nothing.
+use mathlib.Core.Path.{sym, subst}
 use mathlib.Core.List.{List}
 use Prim.Native.Nat.{ℕ}
 use native.Mathlib.Omega.{arith}
@@ -19,8 +19,8 @@ use Rattle.encode_states.proofs.start.Reads as start-reads
 returns : tie.Need-returns
 returns c =
     let at-start = c .before .before .before .before .before in
-    no-room (at-start .args .chars .now) (at-start .args .kanji .now) (at-start .args .symbols .now) (at-start .args .n) (at-start .args .annex) (at-start .args .initial)
-    (at-start .args .rest) (at-start .args .store .now) _ (at-start .pre .1) (c .if1 .taken)
+    no-room (at-start .args .chars .now) (at-start .args .kanji .now) (at-start .args .symbols .now) (at-start .args .task .count) (at-start .args .task .annex) (at-start .args .task .initial)
+    (at-start .args .task .rest) (at-start .args .store .now) _ (at-start .pre .1) (c .if1 .taken)
 
 start-requires : tie.Need-start-requires
 start-requires c κs = search needs
@@ -41,7 +41,7 @@ run-requires c κs =
       omega arith,
       (search needs),
       subst (λ (x : List ℕ). All (Able 0) (entriesOf x 0 1)) (sym (at-put-node .put-node .ensures))
-          (able-start (at-start-2 .args .store .now) (at-start .start .result) (at-start-2 .args .initial) (at-if1 .if1 .left) (at-start .start .ensures)),
+          (able-start (at-start-2 .args .store .now) (at-start .start .result) (at-start-2 .args .task .initial) (at-if1 .if1 .left) (at-start .start .ensures)),
     )
 
 same-length : tie.Need-same-length
@@ -55,10 +55,10 @@ returns-2 c =
     let at-start = at-put-node .before .before in
     let at-if1 = at-start .before in
     let at-start-2 = at-if1 .before .before .before .before .before in
-    searched-as (at-start-2 .args .chars .now) (at-start-2 .args .kanji .now) (at-start-2 .args .symbols .now) (at-start-2 .args .n) (at-start-2 .args .annex)
-    (at-start-2 .args .initial) (at-start-2 .args .rest) (at-start-2 .args .store .now) _ _ _ _ _ _ (at-store .store .given)
-    (at-run .run .ensures (at-start-2 .args .initial) (subst (λ (x : List ℕ). Begins (at-start-2 .args .initial) x) (sym (at-put-node .put-node .ensures))
-    (begins (at-start-2 .args .store .now) (at-start .start .result) (at-start-2 .args .initial) (at-if1 .if1 .left) (at-start .start .ensures))))
+    searched-as (at-start-2 .args .chars .now) (at-start-2 .args .kanji .now) (at-start-2 .args .symbols .now) (at-start-2 .args .task .count) (at-start-2 .args .task .annex)
+    (at-start-2 .args .task .initial) (at-start-2 .args .task .rest) (at-start-2 .args .store .now) _ _ _ _ _ _ (at-store .store .given)
+    (at-run .run .ensures (subst (λ (x : List ℕ). Begins (at-start-2 .args .task .initial) x) (sym (at-put-node .put-node .ensures))
+    (begins (at-start-2 .args .store .now) (at-start .start .result) (at-start-2 .args .task .initial) (at-if1 .if1 .left) (at-start .start .ensures))))
 
 pub search-spec : {M : Type 1} → statement M
 search-spec =

@@ -1,4 +1,4 @@
--- `encode_search::turn` meets its contract: the layer behind the pcount nodes from the node pfrom on, for the character c with its cells of the Kanji set and of the additional symbols.
+-- `encode_search::turn` meets its contract: the next layer, by the character's candidates. Assumes nothing.
 use mathlib.Core.Path.{ap, _∙_}
 use Prim.Native.Nat.{ℕ, _-_}
 use Rattle.encode_search.proofs.Matching.{turned}
@@ -36,13 +36,13 @@ same-length-2 c = search needs
 returns : tie.Need-returns
 returns c =
     let at-advance = c .before .before .before .before in
-    let at-less = at-advance .before .before .before .before .before .before .before in
+    let at-less = at-advance .before .before .before in
     let at-shortest = at-less .before in
     let at-candidates = at-shortest .before in
     let at-start = at-candidates .before .before .before in
     let a = at-start .args in
-    turned (a .store .now) _ (a .pfrom) (a .pcount) (a .c) (a .kanji) (a .symbol) (a .annex) (a .rest) (a .floor) (at-less .less .result) (at-candidates .candidates .result) _
-    _ _ (at-candidates .candidates .ensures) (at-less .less .ensures ∙ ap (λ (x : ℕ). a .rest - x) (at-shortest .shortest .ensures)) (at-advance .advance .ensures)
+    turned (a .store .now) _ (a .at .from) (a .at .count) (a .x .c) (a .x .kanji) (a .x .symbol) (a .annex) (a .at .rest) (a .at .floor) (at-less .less .result) (at-candidates .candidates .result) _
+    _ _ (at-candidates .candidates .ensures) (at-less .less .ensures ∙ ap (λ (y : ℕ). a .at .rest - y) (at-shortest .shortest .ensures)) (at-advance .advance .ensures)
 
 pub turn-spec : {M : Type 1} → statement M
 turn-spec =

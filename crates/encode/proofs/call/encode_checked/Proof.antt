@@ -18,7 +18,8 @@ slice-aggregate-find-3 c = search needs
 
 find-requires : tie.Need-find-requires
 find-requires c κs =
-    let at-start = c .before .before .before .before .before .before .before .before in
+    let at-arrays = c .before .before .before .before in
+    let at-start = at-arrays .before .before .before .before in
     let h : length (at-start .args .text .now) ≤ 7281 = passed _ _ _ _ _ (at-start .pre) .within in (h, record { chars = h; kanji = h; symbols = h })
 
 enum-told : tie.Need-enum-told
@@ -41,12 +42,15 @@ slice-aggregate-write-3 c = search needs
 
 write-requires : tie.Need-write-requires
 write-requires c κs =
-    let at-plan = c .before .before .before .before .before .before in
-    let at-find = at-plan .before .before .before .before .before .before .before in
-    let at-start = at-find .before .before .before .before .before .before .before .before .before in
+    let at-lent = c .before .before .before in
+    let at-plan = at-lent .before .before .before in
+    let at-kept = at-plan .before .before .before in
+    let at-find = at-kept .before .before .before .before in
+    let at-arrays = at-find .before .before .before .before .before in
+    let at-start = at-arrays .before .before .before .before in
     let l = leading (at-start .args .cells .now) (at-start .args .initial) (at-start .args .width) (at-start .args .text .now) (at-start .args .store .now)
-    (at-start .args .coding .now) (at-find .find .last .1 .1 .1 .1 .0) (at-find .find .last .1 .1 .1 .1 .1 .0) (at-find .find .last .1 .1 .1 .1 .1 .1 .0)
-    (at-find .find .last .1 .1 .1 .1 .1 .1 .1 .0) (at-find .find .result) (at-find .find .ensures (length (at-start .args .coding .now))) (at-plan .plan .given .1) in
+    (at-start .args .coding .now) (at-find .find .last .1 .1 .1 .0) (at-find .find .last .1 .1 .1 .1 .0) (at-find .find .last .1 .1 .1 .1 .1 .0)
+    (at-find .find .last .1 .1 .1 .1 .1 .1 .0) (at-find .find .result) (at-find .find .ensures (length (at-start .args .coding .now))) (at-plan .plan .given .1) in
     (l .held, l .searched)
 
 enum-known-plan-2 : tie.Need-enum-known-plan-2
@@ -65,12 +69,14 @@ returns : tie.Need-returns
 returns c =
     let at-nothing = c .before .before .before .before in
     let at-enum-told = at-nothing .before .before .before in
-    let at-store = at-enum-told .before .before .before .before .before .before in
+    let at-kept = at-enum-told .before .before .before in
+    let at-store = at-kept .before .before .before in
     let at-find = at-store .before in
-    let at-start = at-find .before .before .before .before .before .before .before .before .before in
+    let at-arrays = at-find .before .before .before .before .before in
+    let at-start = at-arrays .before .before .before .before in
     answered-nothing (at-start .args .cells .now) (at-start .args .initial) (at-start .args .width) (at-start .args .text .now) (at-start .args .store .now)
-    (at-start .args .coding .now) (at-find .find .last .1 .1 .1 .1 .0) (at-find .find .last .1 .1 .1 .1 .1 .0) (at-find .find .last .1 .1 .1 .1 .1 .1 .0)
-    (at-find .find .last .1 .1 .1 .1 .1 .1 .1 .0) (at-find .find .result) (at-find .find .ensures (length (at-start .args .coding .now))) (at-start .pre)
+    (at-start .args .coding .now) (at-find .find .last .1 .1 .1 .0) (at-find .find .last .1 .1 .1 .1 .0) (at-find .find .last .1 .1 .1 .1 .1 .0)
+    (at-find .find .last .1 .1 .1 .1 .1 .1 .0) (at-find .find .result) (at-find .find .ensures (length (at-start .args .coding .now))) (at-start .pre)
     (at-enum-told .enum-told .given .1) (at-store .store .given) (at-nothing .nothing .ensures)
 
 same-length-3 : tie.Need-same-length-3
@@ -82,17 +88,20 @@ same-length-4 c = search needs
 returns-2 : tie.Need-returns-2
 returns-2 c =
     let at-write = c .before .before .before .before in
-    let at-plan = at-write .before .before .before .before .before .before .before in
-    let at-store = at-plan .before .before .before .before .before .before in
+    let at-lent = at-write .before .before .before .before in
+    let at-plan = at-lent .before .before .before in
+    let at-kept = at-plan .before .before .before in
+    let at-store = at-kept .before .before .before in
     let at-find = at-store .before in
-    let at-start = at-find .before .before .before .before .before .before .before .before .before in
+    let at-arrays = at-find .before .before .before .before .before in
+    let at-start = at-arrays .before .before .before .before in
     answered-written (at-start .args .cells .now) (at-start .args .initial) (at-start .args .width) (at-start .args .text .now) (at-start .args .store .now)
-    (at-start .args .coding .now) (at-find .find .last .1 .1 .1 .1 .0) (at-find .find .last .1 .1 .1 .1 .1 .0) (at-find .find .last .1 .1 .1 .1 .1 .1 .0)
-    (at-find .find .last .1 .1 .1 .1 .1 .1 .1 .0) (at-find .find .result) (at-find .find .ensures (length (at-start .args .coding .now))) (at-start .pre)
+    (at-start .args .coding .now) (at-find .find .last .1 .1 .1 .0) (at-find .find .last .1 .1 .1 .1 .0) (at-find .find .last .1 .1 .1 .1 .1 .0)
+    (at-find .find .last .1 .1 .1 .1 .1 .1 .0) (at-find .find .result) (at-find .find .ensures (length (at-start .args .coding .now))) (at-start .pre)
     (at-plan .plan .given .1) (at-store .store .given) (at-write .write .ensures _
     (leading (at-start .args .cells .now) (at-start .args .initial) (at-start .args .width) (at-start .args .text .now) (at-start .args .store .now)
-    (at-start .args .coding .now) (at-find .find .last .1 .1 .1 .1 .0) (at-find .find .last .1 .1 .1 .1 .1 .0) (at-find .find .last .1 .1 .1 .1 .1 .1 .0)
-    (at-find .find .last .1 .1 .1 .1 .1 .1 .1 .0) (at-find .find .result) (at-find .find .ensures (length (at-start .args .coding .now))) (at-plan .plan .given .1)))
+    (at-start .args .coding .now) (at-find .find .last .1 .1 .1 .0) (at-find .find .last .1 .1 .1 .1 .0) (at-find .find .last .1 .1 .1 .1 .1 .0)
+    (at-find .find .last .1 .1 .1 .1 .1 .1 .0) (at-find .find .result) (at-find .find .ensures (length (at-start .args .coding .now))) (at-plan .plan .given .1)))
 
 same-length-5 : tie.Need-same-length-5
 same-length-5 c = search needs
@@ -104,12 +113,14 @@ returns-3 : tie.Need-returns-3
 returns-3 c =
     let at-refuse = c .before .before .before .before in
     let at-plan2 = at-refuse .before .before .before .before in
-    let at-store = at-plan2 .before .before .before .before .before .before in
+    let at-kept = at-plan2 .before .before .before in
+    let at-store = at-kept .before .before .before in
     let at-find = at-store .before in
-    let at-start = at-find .before .before .before .before .before .before .before .before .before in
+    let at-arrays = at-find .before .before .before .before .before in
+    let at-start = at-arrays .before .before .before .before in
     answered-refused (at-start .args .cells .now) (at-start .args .initial) (at-start .args .width) (at-start .args .text .now) (at-start .args .store .now)
-    (at-start .args .coding .now) (at-find .find .last .1 .1 .1 .1 .0) (at-find .find .last .1 .1 .1 .1 .1 .0) (at-find .find .last .1 .1 .1 .1 .1 .1 .0)
-    (at-find .find .last .1 .1 .1 .1 .1 .1 .1 .0) (at-find .find .result) (at-find .find .ensures (length (at-start .args .coding .now))) (at-start .pre)
+    (at-start .args .coding .now) (at-find .find .last .1 .1 .1 .0) (at-find .find .last .1 .1 .1 .1 .0) (at-find .find .last .1 .1 .1 .1 .1 .0)
+    (at-find .find .last .1 .1 .1 .1 .1 .1 .0) (at-find .find .result) (at-find .find .ensures (length (at-start .args .coding .now))) (at-start .pre)
     (at-plan2 .plan2 .given .1) (at-store .store .given) (at-refuse .refuse .ensures)
 
 pub encode-checked-spec : {M : Type 1} → statement M

@@ -20,8 +20,9 @@ returns : tie.Need-returns
 returns c =
     let at-refuse = c .before .before .before .before in
     let at-if1 = at-refuse .before .before .before in
-    let at-start = at-if1 .before .before .before .before .before .before in
-    λ k l. too-long (at-start .args .length) (at-if1 .if1 .taken) k (l .length-is) (at-refuse .refuse .ensures)
+    let at-symbols = at-if1 .before .before .before in
+    let at-start = at-symbols .before .before .before in
+    λ k l. too-long (at-start .args .target .length) (at-if1 .if1 .taken) k (l .length-is) (at-refuse .refuse .ensures)
 
 write-back-requires : tie.Need-write-back-requires
 write-back-requires c κs = search needs
@@ -43,7 +44,9 @@ returns-2 c =
     let at-clear32 = c .before .before in
     let at-clear = at-clear32 .before .before .before .before in
     let at-write-back = at-clear .before .before .before .before in
-    let at-start = at-write-back .before .before .before .before .before .before .before .before .before in
+    let at-if1 = at-write-back .before .before .before in
+    let at-symbols = at-if1 .before .before .before in
+    let at-start = at-symbols .before .before .before in
     λ k l. wrote k (l .length-is) (l .gap-is) (omega arith) (at-write-back .write-back .ensures (l .searched) ∙ ap (sets (at-start .args .coding .now) 0) (l .out))
     (at-clear .clear .ensures) (at-clear32 .clear32 .ensures)
 
