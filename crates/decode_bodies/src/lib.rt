@@ -5,6 +5,7 @@ use control::MACRO;
 use decode_macros::Command;
 use decode_state::Core;
 use decode_state::Stepped;
+use decode_steps::Source;
 use decode_steps::Stop;
 use issues::IssueKind;
 ghost use mathlib.Core.Path.{_≡_};
@@ -245,7 +246,12 @@ fn run<'a>(
     let mut s = core;
     let mut i: usize = 0;
     loop {
-        let f = decode_steps::plain(cells, b, i, p.base, p.at + 1, s, text, issues);
+        let origin = p.at + 1;
+        let o = Source {
+            base: p.base,
+            origin,
+        };
+        let f = decode_steps::plain(cells, b, i, o, s, text, issues);
         i = f.at;
         s = f.core;
         if i >= b.len() {

@@ -14,6 +14,14 @@ ghost use Rattle.reading.specs.Characters.{isGraphic, char1, char2, graphic2, g
 ghost use Rattle.decode_state.specs.Contracts.{MayTake, TookOver};
 ghost use Rattle.decode_characters.specs.Contracts.{Did};
 
+/// The byte of a body at which a character or a control begins.
+pub struct At {
+    /// Its place in the body.
+    pub i: usize,
+    /// The offset that its issues carry.
+    pub at: u32,
+}
+
 /// A code of a two-byte set.
 struct Code2 {
     set: u8,
@@ -77,24 +85,24 @@ fn truncated(at: u32, s: Core, issues: &mut [u32]) -> Stepped
     Stepped { used: 1, core: r }
 }
 
-/// A character of a two-byte set that begins at the byte `i`: its second byte is in the same area, or it is none.
+/// A character of a two-byte set that begins at a place: its second byte is in the same area, or it is none.
 fn graphic2(
     cells: &[u16],
     b: &[u8],
-    i: usize,
+    p: At,
     set: u8,
-    at: u32,
     s: Core,
     text: &mut [u8],
     issues: &mut [u32],
 ) -> Stepped
     requires { ⌜ MayTake 1 s ⌝ }
-    requires { ⌜ (i < length (now b)) × (isGraphic (getD (now b) i 0) ≡ true) ⌝ }
-    ensures { λ r. ⌜ TookOver (now (cells .entry)) (now (b .entry)) i (λ g. graphic2 g set (getD (now (b .entry)) i 0) (drop (i + 1) (now (b .entry))) at) s
+    requires { ⌜ (p .i < length (now b)) × (isGraphic (getD (now b) (p .i) 0) ≡ true) ⌝ }
+    ensures { λ r. ⌜ TookOver (now (cells .entry)) (now (b .entry)) (p .i) (λ g. graphic2 g set (getD (now (b .entry)) (p .i) 0) (drop (p .i + 1) (now (b .entry))) (p .at)) s
         (now (text .entry)) (now (issues .entry)) r (now (text .exit)) (now (issues .exit)) ⌝ }
 {
+    let i = p.i;
     if i + 1 >= b.len() {
-        return truncated(at, s, issues);
+        return truncated(p.at, s, issues);
     }
     let x = b[i];
     let y = b[i + 1];
@@ -104,65 +112,66 @@ fn graphic2(
             a: x % 128,
             b: y % 128,
         };
-        let r = char2(cells, c, at, s, text, issues);
+        let r = char2(cells, c, p.at, s, text, issues);
         return Stepped { used: 2, core: r };
     }
-    truncated(at, s, issues)
+    truncated(p.at, s, issues)
 }
 
-/// The character that begins at the byte `i`, of a set other than the macro set.
+/// The character that begins at a place, of a set other than the macro set.
 pub fn graphic(
     cells: &[u16],
     b: &[u8],
-    i: usize,
+    p: At,
     set: u8,
-    at: u32,
     s: Core,
     text: &mut [u8],
     issues: &mut [u32],
 ) -> Stepped
     requires { ⌜ MayTake 1 s ⌝ }
-    requires { ⌜ (i < length (now b)) × (isGraphic (getD (now b) i 0) ≡ true) × (set ≡ 15 → ⊥) ⌝ }
-    ensures { λ r. ⌜ ((left : ℕ) (R : Run) → TookOver (now (cells .entry)) (now (b .entry)) i
-        (λ g. graphicOf g left R set (getD (now (b .entry)) i 0) (drop (i + 1) (now (b .entry))) at) s (now (text .entry)) (now (issues .entry)) r (now (text .exit))
+    requires { ⌜ (p .i < length (now b)) × (isGraphic (getD (now b) (p .i) 0) ≡ true) × (set ≡ 15 → ⊥) ⌝ }
+    ensures { λ r. ⌜ ((left : ℕ) (R : Run) → TookOver (now (cells .entry)) (now (b .entry)) (p .i)
+        (λ g. graphicOf g left R set (getD (now (b .entry)) (p .i) 0) (drop (p .i + 1) (now (b .entry))) (p .at)) s (now (text .entry)) (now (issues .entry)) r (now (text .exit))
         (now (issues .exit))) ⌝ }
 {
     if decode_codes::two_bytes(set) {
-        return graphic2(cells, b, i, set, at, s, text, issues);
+        return graphic2(cells, b, p, set, s, text, issues);
     }
-    let r = char1(set, b[i] % 128, at, s, text, issues);
+    let i = p.i;
+    let r = char1(set, b[i] % 128, p.at, s, text, issues);
     Stepped { used: 1, core: r }
 }
 
-/// SS2 or SS3 at the byte `i`: one character of G2 or G3. Table 7-1.
+/// SS2 or SS3 at a place: one character of G2 or G3. Table 7-1.
 pub fn single_shift(
     cells: &[u16],
     b: &[u8],
-    i: usize,
+    p: At,
     element: usize,
-    at: u32,
     s: Core,
     text: &mut [u8],
     issues: &mut [u32],
 ) -> Stepped
     requires { ⌜ MayTake 1 s ⌝ }
-    requires { ⌜ (i < length (now b)) × (element < 4) × (i + 1 < length (now b) → isGraphic (getD (now b) (i + 1) 0) ≡ true → getD (s .sets) element 0 ≡ 15 → ⊥) ⌝ }
-    ensures { λ r. ⌜ ((left : ℕ) (R : Run) → TookOver (now (cells .entry)) (now (b .entry)) i (λ g. singleShift g left R element (drop (i + 1) (now (b .entry))) at) s
+    requires { ⌜ (p .i < length (now b)) × (element < 4) × (p .i + 1 < length (now b) → isGraphic (getD (now b) (p .i + 1) 0) ≡ true → getD (s .sets) element 0 ≡ 15 → ⊥) ⌝ }
+    ensures { λ r. ⌜ ((left : ℕ) (R : Run) → TookOver (now (cells .entry)) (now (b .entry)) (p .i) (λ g. singleShift g left R element (drop (p .i + 1) (now (b .entry))) (p .at)) s
         (now (text .entry)) (now (issues .entry)) r (now (text .exit)) (now (issues .exit))) ⌝ }
 {
-    if i + 1 >= b.len() {
-        return truncated(at, s, issues);
+    let i = p.i + 1;
+    if i >= b.len() {
+        return truncated(p.at, s, issues);
     }
-    if decode_codes::is_graphic(b[i + 1]) {
+    if decode_codes::is_graphic(b[i]) {
         let sets = s.sets;
         let set = sets[element];
-        let w = graphic(cells, b, i + 1, set, at, s, text, issues);
+        let next = At { i, at: p.at };
+        let w = graphic(cells, b, next, set, s, text, issues);
         let core = w.core;
         return Stepped {
             used: w.used + 1,
             core: core,
         };
     }
-    let r = decode_characters::report(at, IssueKind::LoneSingleShift, s, issues);
+    let r = decode_characters::report(p.at, IssueKind::LoneSingleShift, s, issues);
     Stepped { used: 1, core: r }
 }

@@ -5,6 +5,7 @@ use decode_bodies::Place;
 use decode_macros::Command;
 use decode_state::Core;
 use decode_state::Decoder;
+use decode_steps::Source;
 use decode_steps::Stop;
 use issues::IssueKind;
 ghost use mathlib.Core.Path.{_≡_};
@@ -250,7 +251,8 @@ pub fn top(
     let mut i: usize = 0;
     loop {
         let core = d.core;
-        let f = decode_steps::steps(cells, input, i, 0, 0, core, text, issues);
+        let o = Source { base: 0, origin: 0 };
+        let f = decode_steps::steps(cells, input, i, o, core, text, issues);
         let after = f.core;
         d.core = after;
         i = f.at;

@@ -5,6 +5,7 @@ use control::MACRO;
 use control::SP;
 use control::SS2;
 use control::SS3;
+use decode_graphic::At;
 use decode_state::Core;
 use decode_state::Stepped;
 ghost use mathlib.Core.Path.{_≡_};
@@ -38,6 +39,14 @@ pub struct Stretched {
     pub at: usize,
     pub stop: Stop,
     pub core: Core,
+}
+
+/// Where the bytes of a body stand.
+pub struct Source {
+    /// The body's place in the input; 0 for a built-in one, and for the input itself.
+    pub base: u32,
+    /// 0 for the input; for a body one more than the offset that its issues carry.
+    pub origin: u32,
 }
 
 /// The macro set, by 01's number.
@@ -131,50 +140,49 @@ fn newline(s: Core, text: &mut [u8], issues: &mut [u32]) -> Stepped
 fn graphic(
     cells: &[u16],
     b: &[u8],
-    i: usize,
+    p: At,
     e: usize,
-    at: u32,
     s: Core,
     text: &mut [u8],
     issues: &mut [u32],
 ) -> Stepped
-    requires { ⌜ (i < length (now b)) × (e < 4) × (isGraphic (getD (now b) i 0) ≡ true) × (getD (s .sets) e 0 ≡ 15 → ⊥) ⌝ }
+    requires { ⌜ (p .i < length (now b)) × (e < 4) × (isGraphic (getD (now b) (p .i) 0) ≡ true) × (getD (s .sets) e 0 ≡ 15 → ⊥) ⌝ }
     requires { ⌜ MayTake 1 s ⌝ }
-    ensures { λ r. ⌜ ((left : ℕ) (R : Run) → TookOver (now (cells .entry)) (now (b .entry)) i
-        (λ g. graphicOf g left R (getD (s .sets) e 0) (getD (now (b .entry)) i 0) (drop (i + 1) (now (b .entry))) at) s (now (text .entry)) (now (issues .entry)) r
+    ensures { λ r. ⌜ ((left : ℕ) (R : Run) → TookOver (now (cells .entry)) (now (b .entry)) (p .i)
+        (λ g. graphicOf g left R (getD (s .sets) e 0) (getD (now (b .entry)) (p .i) 0) (drop (p .i + 1) (now (b .entry))) (p .at)) s (now (text .entry)) (now (issues .entry)) r
         (now (text .exit)) (now (issues .exit))) ⌝ }
 {
     let sets = s.sets;
-    decode_graphic::graphic(cells, b, i, sets[e], at, s, text, issues)
+    decode_graphic::graphic(cells, b, p, sets[e], s, text, issues)
 }
 
 /// One step that concerns no macro.
 fn simple(
     cells: &[u16],
     b: &[u8],
-    i: usize,
+    p: At,
     place: u32,
-    at: u32,
     s: Core,
     text: &mut [u8],
     issues: &mut [u32],
 ) -> Stepped
-    requires { ⌜ (i < length (now b)) × (length (now b) ≤ 65535) ⌝ }
+    requires { ⌜ (p .i < length (now b)) × (length (now b) ≤ 65535) ⌝ }
     requires { ⌜ MayTake 1 s ⌝ }
-    requires { ⌜ Passes (now b) i s ⌝ }
-    ensures { λ r. ⌜ ((left : ℕ) (R : Run) → TookOver (now (cells .entry)) (now (b .entry)) i
-        (λ g. step g left R (getD (now (b .entry)) i 0) (drop (i + 1) (now (b .entry))) place at) s (now (text .entry)) (now (issues .entry)) r (now (text .exit))
+    requires { ⌜ Passes (now b) (p .i) s ⌝ }
+    ensures { λ r. ⌜ ((left : ℕ) (R : Run) → TookOver (now (cells .entry)) (now (b .entry)) (p .i)
+        (λ g. step g left R (getD (now (b .entry)) (p .i) 0) (drop (p .i + 1) (now (b .entry))) place (p .at)) s (now (text .entry)) (now (issues .entry)) r (now (text .exit))
         (now (issues .exit))) ⌝ }
 {
+    let i = p.i;
     let x = b[i];
     match x {
-        0x21..=0x7E => graphic(cells, b, i, s.gl as usize, at, s, text, issues),
-        0xA1..=0xFE => graphic(cells, b, i, s.gr as usize, at, s, text, issues),
+        0x21..=0x7E => graphic(cells, b, p, s.gl as usize, s, text, issues),
+        0xA1..=0xFE => graphic(cells, b, p, s.gr as usize, s, text, issues),
         SP => space(s, text),
         APR => newline(s, text, issues),
-        SS2 => decode_graphic::single_shift(cells, b, i, 2, at, s, text, issues),
-        SS3 => decode_graphic::single_shift(cells, b, i, 3, at, s, text, issues),
-        _ => decode_reports::control(b, i, place, at, s, issues),
+        SS2 => decode_graphic::single_shift(cells, b, p, 2, s, text, issues),
+        SS3 => decode_graphic::single_shift(cells, b, p, 3, s, text, issues),
+        _ => decode_reports::control(b, i, place, p.at, s, issues),
     }
 }
 
@@ -183,15 +191,14 @@ pub fn steps(
     cells: &[u16],
     b: &[u8],
     from: usize,
-    base: u32,
-    origin: u32,
+    o: Source,
     core: Core,
     text: &mut [u8],
     issues: &mut [u32],
 ) -> Stretched
-    requires { ⌜ (from ≤ length (now b)) × (length (now b) ≤ 65535) × (base ≤ 65535) ⌝ }
+    requires { ⌜ (from ≤ length (now b)) × (length (now b) ≤ 65535) × (o .base ≤ 65535) ⌝ }
     requires { ⌜ MayTake (length (now b) - from) core ⌝ }
-    ensures { λ r. ⌜ Plain (now (cells .entry)) base origin (now (b .entry)) from core (now (text .entry)) (now (issues .entry)) r (now (text .exit)) (now (issues .exit)) ⌝ }
+    ensures { λ r. ⌜ Plain (now (cells .entry)) (o .base) (o .origin) (now (b .entry)) from core (now (text .entry)) (now (issues .entry)) r (now (text .exit)) (now (issues .exit)) ⌝ }
 {
     let mut s = core;
     let mut i = from;
@@ -214,8 +221,8 @@ pub fn steps(
                 core: s,
             };
         };
-        let at = offset(origin, i);
-        let r = simple(cells, b, i, base + i as u32, at, s, text, issues);
+        let at = offset(o.origin, i);
+        let r = simple(cells, b, At { i, at }, o.base + i as u32, s, text, issues);
         s = r.core;
         i += r.used;
     }
@@ -226,15 +233,14 @@ pub fn plain(
     cells: &[u16],
     b: &[u8],
     from: usize,
-    base: u32,
-    origin: u32,
+    o: Source,
     core: Core,
     text: &mut [u8],
     issues: &mut [u32],
 ) -> Stretched
-    requires { ⌜ (from ≤ length (now b)) × (length (now b) ≤ 65535) × (base ≤ 65535) ⌝ }
+    requires { ⌜ (from ≤ length (now b)) × (length (now b) ≤ 65535) × (o .base ≤ 65535) ⌝ }
     requires { ⌜ MayTake (length (now b) - from) core ⌝ }
-    ensures { λ r. ⌜ Plain (now (cells .entry)) base origin (now (b .entry)) from core (now (text .entry)) (now (issues .entry)) r (now (text .exit)) (now (issues .exit)) ⌝ }
+    ensures { λ r. ⌜ Plain (now (cells .entry)) (o .base) (o .origin) (now (b .entry)) from core (now (text .entry)) (now (issues .entry)) r (now (text .exit)) (now (issues .exit)) ⌝ }
 {
     if from >= b.len() {
         return Stretched {
@@ -251,5 +257,5 @@ pub fn plain(
             core,
         };
     };
-    steps(cells, b, from, base, origin, core, text, issues)
+    steps(cells, b, from, o, core, text, issues)
 }

@@ -45,7 +45,7 @@ returns c =
     let after-steps = c .before .before in
     let at-steps = after-steps .before .before .before .before in
     let at-loop = at-steps .before .before .before .before in
-    let w = along-stretch (at-loop .loop .inv .along) (at-steps .steps .ensures .stretch) (at-steps .steps .kept .1 .1 .1 .1 .1 .1 .0) (at-steps .steps .kept .1 .1 .1 .1 .1 .1 .1 .0) in
+    let w = along-stretch (at-loop .loop .inv .along) (at-steps .steps .ensures .stretch) (at-steps .steps .kept .1 .1 .1 .1 .1 .0) (at-steps .steps .kept .1 .1 .1 .1 .1 .1 .0) in
     along-end w (c .if1 .taken)
 
 step-requires : tie.Need-step-requires Inv-loop μ-loop
@@ -55,7 +55,7 @@ step-requires c κs =
     let at-steps = after-steps .before .before .before .before in
     let at-loop = at-steps .before .before .before .before in
     let outside = at-loop .before .before .before .before .before .pre in
-    let w = along-stretch (at-loop .loop .inv .along) (at-steps .steps .ensures .stretch) (at-steps .steps .kept .1 .1 .1 .1 .1 .1 .0) (at-steps .steps .kept .1 .1 .1 .1 .1 .1 .1 .0) in
+    let w = along-stretch (at-loop .loop .inv .along) (at-steps .steps .ensures .stretch) (at-steps .steps .kept .1 .1 .1 .1 .1 .0) (at-steps .steps .kept .1 .1 .1 .1 .1 .1 .0) in
     let ready = ready-less {e = 1} (ready-left (outside .ready) (w .within) (w .grown)) (omega (arith, at-test .if1 .left)) in
     (record { short = outside .short; inside = at-loop .loop .inv .inside; ready = ready }, (at-test .if1 .left, at-steps .steps .ensures .stop))
 
@@ -85,7 +85,7 @@ loop-again c =
     let after-steps = at-test .before .before in
     let at-steps = after-steps .before .before .before .before in
     let at-loop = at-steps .before .before .before .before in
-    let w = along-stretch (at-loop .loop .inv .along) (at-steps .steps .ensures .stretch) (at-steps .steps .kept .1 .1 .1 .1 .1 .1 .0) (at-steps .steps .kept .1 .1 .1 .1 .1 .1 .1 .0) in
+    let w = along-stretch (at-loop .loop .inv .along) (at-steps .steps .ensures .stretch) (at-steps .steps .kept .1 .1 .1 .1 .1 .0) (at-steps .steps .kept .1 .1 .1 .1 .1 .1 .0) in
     let step = at-step .step .ensures in
     record {
       along =

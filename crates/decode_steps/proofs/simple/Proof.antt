@@ -52,7 +52,7 @@ graphic-requires c κs =
     let at-start = entry-gl (c .before .before .before) in
     let a = at-start .args in
     let p = at-start .pre in
-    let x = getD (a .b .now) (a .i) 0 in
+    let x = getD (a .b .now) (a .p .i) 0 in
     let k = gl-in x (omega arith) (omega arith) in
     ((p .0 .0, p .1 .0 .gl, graphic-left x k, p .1 .1 .left k), p .1 .0)
 
@@ -66,7 +66,7 @@ graphic-requires-2 c κs =
     let at-start = at-slices .before .before .before .before .before in
     let a = at-start .args in
     let p = at-start .pre in
-    let x = getD (a .b .now) (a .i) 0 in
+    let x = getD (a .b .now) (a .p .i) 0 in
     let k = gr-in x (omega arith) (omega arith) in
     ((p .0 .0, p .1 .0 .gr, graphic-right x (gl-above x (omega arith)) k, p .1 .1 .right k), p .1 .0)
 
@@ -78,7 +78,7 @@ control-requires c κs =
     let at-start = at-slices .before .before .before .before in
     let a = at-start .args in
     let p = at-start .pre in
-    let x = getD (a .b .now) (a .i) 0 in
+    let x = getD (a .b .now) (a .p .i) 0 in
     let came = at-if1 .if1 .came in
     let other = at-match .match .rest in
     let l : isGL x ≡ false = ⊎-elim (λ w. gl-below x (omega (arith, w .taken)))
@@ -100,7 +100,7 @@ returns c =
     let is = at-match .match .keys1 in
     let inside = at-start .pre .0 .0 in
     λ left R.
-    took-as (λ g starts lens t₀ i₀ s h. step-space g left R _ _ _ _ s is) (at-space .space .ensures (a .cells .now) (a .b .now) (a .issues .now) (a .i) inside)
+    took-as (λ g starts lens t₀ i₀ s h. step-space g left R _ _ _ _ s is) (at-space .space .ensures (a .cells .now) (a .b .now) (a .issues .now) (a .p .i) inside)
 
 same-length-2 : tie.Need-same-length-2
 same-length-2 c = search needs
@@ -118,7 +118,7 @@ returns-2 c =
     let is = at-match .match .keys2 in
     let inside = at-start .pre .0 .0 in
     λ left R.
-    took-as (λ g starts lens t₀ i₀ s h. step-newline g left R _ _ _ _ s is) (at-newline .newline .ensures (a .cells .now) (a .b .now) (a .i) inside)
+    took-as (λ g starts lens t₀ i₀ s h. step-newline g left R _ _ _ _ s is) (at-newline .newline .ensures (a .cells .now) (a .b .now) (a .p .i) inside)
 
 same-length-4 : tie.Need-same-length-4
 same-length-4 c = search needs
@@ -158,7 +158,7 @@ returns-5 c =
     let at-if2 = at-graphic .before .before .before .before in
     let at-slices = at-if2 .before .before .before in
     let a = at-slices .before .before .before .before .before .args in
-    let x = getD (a .b .now) (a .i) 0 in
+    let x = getD (a .b .now) (a .p .i) 0 in
     let k = gl-in x (omega arith) (omega arith) in
     λ left R. took-as (λ g starts lens t₀ i₀ s h. step-left g left R _ _ _ _ s _ (set-left h) k) (at-graphic .graphic .ensures left R)
 
@@ -175,7 +175,7 @@ returns-6 c =
     let at-slices = at-if4 .before .before .before .before .before in
     let at-start = at-slices .before .before .before .before .before in
     let a = at-start .args in
-    let x = getD (a .b .now) (a .i) 0 in
+    let x = getD (a .b .now) (a .p .i) 0 in
     let k = gr-in x (omega arith) (omega arith) in
     let n = gl-above x (omega arith) in
     λ left R. took-as (λ g starts lens t₀ i₀ s h. step-right g left R _ _ _ _ s _ (set-right h) n k) (at-graphic2 .graphic2 .ensures left R)

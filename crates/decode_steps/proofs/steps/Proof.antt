@@ -14,10 +14,10 @@ use Rattle.decode_steps.proofs.steps.Statement.{statement}
 use Rattle.decode_steps.proofs.steps.Tie as tie
 
 abbrev Inv-loop : tie.InvT-loop
-Inv-loop cells b from base origin text₀ issues₀ s₀ i₀ text issues s i = Way cells base origin b from s₀ text₀ issues₀ i s text issues
+Inv-loop cells b from o text₀ issues₀ s₀ i₀ text issues s i = Way cells (o .base) (o .origin) b from s₀ text₀ issues₀ i s text issues
 
 abbrev μ-loop : tie.MeasureT-loop
-μ-loop cells b from base origin text₀ issues₀ s₀ i₀ text issues s i = length b - i
+μ-loop cells b from o text₀ issues₀ s₀ i₀ text issues s i = length b - i
 
 loop-holds : tie.Need-loop-holds Inv-loop μ-loop
 loop-holds c =
@@ -41,7 +41,7 @@ returns c =
     let at-letters = c .before .before .before .before in
     let at-loop = at-letters .before .before in
     let entry = at-loop .before .before .before .before .before in
-    let w = way-on (at-loop .loop .inv) (at-letters .letters .ensures (entry .args .base) (entry .args .origin) (at-loop .loop .issues)) (at-letters .letters .kept .1 .1 .1 .1 .0) in
+    let w = way-on (at-loop .loop .inv) (at-letters .letters .ensures (entry .args .o .base) (entry .args .o .origin) (at-loop .loop .issues)) (at-letters .letters .kept .1 .1 .1 .1 .0) in
     record { stretch = w .stretch; stop = c .if1 .taken }
 
 stop-at-requires : tie.Need-stop-at-requires Inv-loop μ-loop
@@ -49,7 +49,7 @@ stop-at-requires c κs =
     let at-letters = c .before .before .before .before in
     let at-loop = at-letters .before .before in
     let entry = at-loop .before .before .before .before .before in
-    let v = at-letters .letters .ensures (entry .args .base) (entry .args .origin) (at-loop .loop .issues) .kept in
+    let v = at-letters .letters .ensures (entry .args .o .base) (entry .args .o .origin) (at-loop .loop .issues) .kept in
     (c .if1 .left, v .gl, v .gr)
 
 enum-told : tie.Need-enum-told Inv-loop μ-loop
@@ -67,7 +67,7 @@ returns-2 c =
     let at-letters = at-test .before .before .before .before in
     let at-loop = at-letters .before .before in
     let entry = at-loop .before .before .before .before .before in
-    let w = way-on (at-loop .loop .inv) (at-letters .letters .ensures (entry .args .base) (entry .args .origin) (at-loop .loop .issues)) (at-letters .letters .kept .1 .1 .1 .1 .0) in
+    let w = way-on (at-loop .loop .inv) (at-letters .letters .ensures (entry .args .o .base) (entry .args .o .origin) (at-loop .loop .issues)) (at-letters .letters .kept .1 .1 .1 .1 .0) in
     let n : c .before .stop-at .result ≡ End → ⊥ =
     λ e. ⊎-elim (λ z. omega (arith, z)) (⊎-elim (λ z. omega (arith, z)) (λ z. omega (arith, z))) (rw e at (c .match .keys2)) in
     let stop = stop-at (c .before .stop-at .result) (entry .args .b .now) (at-letters .letters .result .at) (at-letters .letters .result .core) n (c .before .stop-at .ensures) in
@@ -91,7 +91,7 @@ cast-simple c =
 
 add-simple : tie.Need-add-simple Inv-loop μ-loop
 add-simple c =
-    let at-test = c .before .before .before .before in
+    let at-test = c .before .before .before .before .before in
     let at-letters = at-test .before .before .before .before in
     let at-loop = at-letters .before .before in
     let entry = at-loop .before .before .before .before .before in
@@ -99,12 +99,12 @@ add-simple c =
 
 simple-requires : tie.Need-simple-requires Inv-loop μ-loop
 simple-requires c κs =
-    let at-place = c .before .before .before in
+    let at-place = c .before .before .before .before in
     let at-test = at-place .before .before .before in
     let at-letters = at-test .before .before .before .before in
     let at-loop = at-letters .before .before in
     let entry = at-loop .before .before .before .before .before in
-    let w = way-on (at-loop .loop .inv) (at-letters .letters .ensures (entry .args .base) (entry .args .origin) (at-loop .loop .issues)) (at-letters .letters .kept .1 .1 .1 .1 .0) in
+    let w = way-on (at-loop .loop .inv) (at-letters .letters .ensures (entry .args .o .base) (entry .args .o .origin) (at-loop .loop .issues)) (at-letters .letters .kept .1 .1 .1 .1 .0) in
     let far = at-letters .letters .result in
     let v =
     subst (λ (r : Stop). Verdict r (entry .args .b .now) (far .at) (far .core)) (at-place .enum-told .given .1) (at-place .before .before .stop-at .ensures) in
@@ -114,7 +114,7 @@ add-i : tie.Need-add-i Inv-loop μ-loop
 add-i c =
     let after-simple = c .before .before in
     let at-simple = after-simple .before .before .before .before in
-    let at-offset = at-simple .before .before .before in
+    let at-offset = at-simple .before .before .before .before in
     let at-test = at-offset .before .before .before .before in
     let at-letters = at-test .before .before .before .before in
     let at-loop = at-letters .before .before in
@@ -125,26 +125,26 @@ loop-less : tie.Need-loop-less Inv-loop μ-loop
 loop-less c =
     let after-simple = c .before .before in
     let at-simple = after-simple .before .before .before .before in
-    let at-offset = at-simple .before .before .before in
+    let at-offset = at-simple .before .before .before .before in
     let at-test = at-offset .before .before .before .before in
     let at-letters = at-test .before .before .before .before in
     let at-loop = at-letters .before .before in
     let entry = at-loop .before .before .before .before .before in
     let step = at-simple .simple .ensures 0 (λ b₁ base₁ origin₁ s₁. s₁) in
-    omega (arith, at-test .if1 .left, step .some, at-letters .letters .ensures (entry .args .base) (entry .args .origin) (at-loop .loop .issues) .past)
+    omega (arith, at-test .if1 .left, step .some, at-letters .letters .ensures (entry .args .o .base) (entry .args .o .origin) (at-loop .loop .issues) .past)
 
 loop-again : tie.Need-loop-again Inv-loop μ-loop
 loop-again c =
     let after-simple = c .before .before in
     let at-simple = after-simple .before .before .before .before in
-    let at-offset = at-simple .before .before .before in
+    let at-offset = at-simple .before .before .before .before in
     let at-test = at-offset .before .before .before .before in
     let at-letters = at-test .before .before .before .before in
     let at-loop = at-letters .before .before in
     let entry = at-loop .before .before .before .before .before in
-    let w = way-on (at-loop .loop .inv) (at-letters .letters .ensures (entry .args .base) (entry .args .origin) (at-loop .loop .issues)) (at-letters .letters .kept .1 .1 .1 .1 .0) in
+    let w = way-on (at-loop .loop .inv) (at-letters .letters .ensures (entry .args .o .base) (entry .args .o .origin) (at-loop .loop .issues)) (at-letters .letters .kept .1 .1 .1 .1 .0) in
     way-step (at-simple .simple .result) (at-offset .offset .result) (at-offset .offset .ensures) (at-test .if1 .left) w (at-simple .simple .ensures)
-    (at-simple .simple .kept .1 .1 .1 .1 .1 .1 .0) (at-simple .simple .kept .1 .1 .1 .1 .1 .1 .1 .0)
+    (at-simple .simple .kept .1 .1 .1 .1 .1 .0) (at-simple .simple .kept .1 .1 .1 .1 .1 .1 .0)
 
 pub steps-spec : {M : Type 1} → statement M
 steps-spec =

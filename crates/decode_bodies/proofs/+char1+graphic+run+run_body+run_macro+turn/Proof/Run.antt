@@ -29,8 +29,8 @@ module _ (t : ℕ) where
       let entry = c .before .before .before .before .before in
       along-start (entry .pre .1 .0 .ready)
 
-  add-plain : lts.Need-add-plain claims (run-at t) run.Post Inv μ
-  add-plain c =
+  add-origin : lts.Need-add-origin claims (run-at t) run.Post Inv μ
+  add-origin c =
       let at-slices = c .before .before in
       let entry = at-slices .before .before .before .before .before in
       omega (arith, entry .pre .1 .0 .at)
@@ -56,7 +56,7 @@ module _ (t : ℕ) where
       let after-plain = c .before .before in
       let at-plain = after-plain .before .before .before .before in
       let inv = at-plain .before .before .before .before .loop .inv in
-      along-end (along-stretch inv (at-plain .plain .ensures .stretch) (at-plain .plain .kept .1 .1 .1 .1 .1 .1 .0) (at-plain .plain .kept .1 .1 .1 .1 .1 .1 .1 .0)) (c .if1 .taken)
+      along-end (along-stretch inv (at-plain .plain .ensures .stretch) (at-plain .plain .kept .1 .1 .1 .1 .1 .0) (at-plain .plain .kept .1 .1 .1 .1 .1 .1 .0)) (c .if1 .taken)
 
   turn-requires : lts.Need-turn-requires claims (run-at t) run.Post Inv μ
   turn-requires c κs =
@@ -68,7 +68,7 @@ module _ (t : ℕ) where
       let entry = at-slices .before .before .before .before in
       let opens = entry .pre .1 .0 in
       let w =
-      along-stretch (at-loop .loop .inv) (at-plain .plain .ensures .stretch) (at-plain .plain .kept .1 .1 .1 .1 .1 .1 .0) (at-plain .plain .kept .1 .1 .1 .1 .1 .1 .1 .0) in
+      along-stretch (at-loop .loop .inv) (at-plain .plain .ensures .stretch) (at-plain .plain .kept .1 .1 .1 .1 .1 .0) (at-plain .plain .kept .1 .1 .1 .1 .1 .1 .0) in
       let ready = ready-less {e = 1} (ready-left (opens .ready) (w .within) (w .grown)) (omega (arith, at-test .if1 .left)) in (
         omega (arith, entry .pre .0),
         (opens-to (entry .args .p) (opens .base) (opens .at) ready opens, (entry .pre .1 .1, (at-test .if1 .left, at-plain .plain .ensures .stop))),
@@ -105,11 +105,11 @@ module _ (t : ℕ) where
       let at-slices = at-loop .before .before in
       let entry = at-slices .before .before .before .before in
       let w =
-      along-stretch (at-loop .loop .inv) (at-plain .plain .ensures .stretch) (at-plain .plain .kept .1 .1 .1 .1 .1 .1 .0) (at-plain .plain .kept .1 .1 .1 .1 .1 .1 .1 .0) in
+      along-stretch (at-loop .loop .inv) (at-plain .plain .ensures .stretch) (at-plain .plain .kept .1 .1 .1 .1 .1 .0) (at-plain .plain .kept .1 .1 .1 .1 .1 .1 .0) in
       along-step w (at-test .if1 .left) (inside-step (entry .args .p) (at-plain .plain .result .at) (at-turn .turn .ensures))
       (at-turn .turn .kept .1 .1 .1 .1 .1 .1 .1 .1 .1 .0) (at-turn .turn .kept .1 .1 .1 .1 .1 .1 .1 .1 .1 .1 .0)
 
   pub meets : {M : Type 1} → lts.Closed claims (run-at t) run.Post M
   meets =
       lts.spec claims (run-at t) run.Post Inv μ
-      loop-holds add-plain plain-requires same-length same-length-2 returns turn-requires add-i loop-less loop-again
+      loop-holds add-origin plain-requires same-length same-length-2 returns turn-requires add-i loop-less loop-again
