@@ -7,6 +7,7 @@ ghost use lib.ListN.{length};
 ghost use Rattle.base.specs.Lists.{All};
 ghost use Rattle.encode_layer.specs.Entries.{entriesOf};
 ghost use Rattle.encode_layer.specs.Layer.{HasRoom};
+ghost use Rattle.encode_ways.specs.Turn.{Sizes};
 ghost use Rattle.encode_search.specs.Layers.{Able, Reached, Capped, Advanced, Turned, Begins, Arrays, Searched};
 
 /// A layer in the store: its first node, and how many nodes it has.
@@ -15,12 +16,22 @@ struct Layer {
     count: usize,
 }
 
-/// Every state that the nodes of the layer prev reach by the candidates, behind them. Returns how
+/// Every state that the nodes of the layer prev reach by the m candidates, behind them. Returns how
 /// many there are, cap + 1 for more than cap.
-fn reach(store: &mut [u32], index: &mut [u16], prev: Layer, cap: usize, k: Cands) -> usize
-    requires { ⌜ HasRoom (prev .from + prev .count) cap (now store) (now index) × (prev .from < 4294967296) × (prev .count ≤ 131072) × (k .count ≤ 9) ×
-        All (Able 65535) (entriesOf (now store) (prev .from) (prev .count)) ⌝ }
-    ensures { λ c. ⌜ Reached (now (store .entry)) (now (store .exit)) (now (index .exit)) (prev .from) (prev .count) cap (k .count) (k .sets) (k .codes) (k .sizes) c ⌝ }
+fn reach<'a>(
+    store: &mut [u32],
+    index: &mut [u16],
+    prev: Layer,
+    cap: usize,
+    m: usize,
+    sets: &'a [u8; 9],
+    codes: &'a [u16; 9],
+    sizes: &'a [u8; 9],
+) -> usize
+    requires { ⌜ HasRoom (prev .from + prev .count) cap (now store) (now index) × (prev .from < 4294967296) × (prev .count ≤ 131072) × (m ≤ 9) ×
+        All (Able 65535) (entriesOf (now store) (prev .from) (prev .count)) × Sizes m (now sizes) ⌝ }
+    ensures { λ c. ⌜ Reached (now (store .entry)) (now (store .exit)) (now (index .exit)) (prev .from) (prev .count) cap m (now (sets .entry)) (now (codes .entry))
+        (now (sizes .entry)) c ⌝ }
 {
     let pfrom = prev.from;
     let pcount = prev.count;
@@ -42,10 +53,10 @@ fn reach(store: &mut [u32], index: &mut [u16], prev: Layer, cap: usize, k: Cands
             cost,
             i as u32,
             back,
-            k.count,
-            &k.sets,
-            &k.codes,
-            &k.sizes,
+            m,
+            sets,
+            codes,
+            sizes,
         );
         i += 1;
     }
@@ -79,13 +90,22 @@ fn advance(
     floor: u32,
 ) -> Step
     requires { ⌜ ((prev .from + prev .count) * 4 ≤ length (now store)) × (length (now index) ≡ 98304) × (prev .from < 4294967296) × (prev .count ≤ 131072) ×
-        (k .count ≤ 9) × (rest ≤ 65535) × All (Able 65526) (entriesOf (now store) (prev .from) (prev .count)) ⌝ }
+        (k .count ≤ 9) × (rest ≤ 65535) × All (Able 65526) (entriesOf (now store) (prev .from) (prev .count)) × Sizes (k .count) (k .sizes) ⌝ }
     ensures { λ r. ⌜ Advanced (now (store .entry)) (now (store .exit)) (prev .from) (prev .count) (k .count) (k .sets) (k .codes) (k .sizes) rest floor (r .fits)
         (r .count) (r .floor) ⌝ }
 {
     let from = prev.from + prev.count;
     let cap = room(store.len(), from);
-    let n = reach(&mut *store, &mut *index, prev, cap, k);
+    let n = reach(
+        &mut *store,
+        &mut *index,
+        prev,
+        cap,
+        k.count,
+        &k.sets,
+        &k.codes,
+        &k.sizes,
+    );
     if cap < n {
         return Step {
             fits: false,

@@ -42,14 +42,13 @@ module _ (s : State) (size : ℕ) where
   unfolding sizeBytes sizeOf sizeControl
   narrow-already e f = record { small = omega arith; is = rw (e, ne-eqb _ _ f) }
 
-  module _ (e : size ≡ 0 → ⊥) (f : size ≡ 1 → ⊥) where
-    pub nsz : s .narrow ≡ 1 → Control 2 (sizeBytes s (sizeOf size))
-    unfolding sizeBytes sizeControl
-    nsz g = record { small = omega arith; is = rw (is-wide size e f, eq-eqb _ _ g) }
+  pub nsz : size ≡ 2 → s .narrow ≡ 1 → Control 2 (sizeBytes s (sizeOf size))
+  unfolding sizeBytes sizeOf sizeControl
+  nsz e f = record { small = omega arith; is = rw (e, eq-eqb _ _ f) }
 
-    pub wide-already : (s .narrow ≡ 1 → ⊥) → Control 0 (sizeBytes s (sizeOf size))
-    unfolding sizeBytes sizeControl
-    wide-already g = record { small = omega arith; is = rw (is-wide size e f, ne-eqb _ _ g) }
+  pub wide-already : size ≡ 2 → (s .narrow ≡ 1 → ⊥) → Control 0 (sizeBytes s (sizeOf size))
+  unfolding sizeBytes sizeOf sizeControl
+  wide-already e f = record { small = omega arith; is = rw (e, ne-eqb _ _ f) }
 
 pub no-bytes : (z : ℕ) → z ≡ 0 → 0 ≡ length (sizeControl z)
 unfolding sizeControl

@@ -85,6 +85,10 @@ Matches x size len (plain b z) = (6 ≤ x) × (sizeOf size ≡ z)
 unfoldable pub lengthOf : ℕ → ℕ
 lengthOf code = cond (ltb code 256) 1 2
 
+-- the sizes of m candidates: 0 either, 1 narrow, 2 wide
+abbrev pub Sizes : ℕ → List ℕ → Type 0
+Sizes m sizes = (j : ℕ) → j < m → getD sizes j 0 ≤ 2
+
 -- m candidates by their numbers
 pub record MatchAll (cs : List Cand) (m : ℕ) (sets codes sizes : List ℕ) : Type 0 where
   pub many : length cs ≡ m

@@ -11,7 +11,7 @@ ghost use Rattle.coding.specs.Search.{Node, sizeBytes, sized, byWays, byCand, b
 ghost use Rattle.encode_states.specs.Packed.{setOf, sizeOf, unpack, Proper, Packs};
 ghost use Rattle.encode_states.specs.Written.{sizeControl};
 ghost use Rattle.encode_layer.specs.Layer.{bounds, HasRoom, Changes, Pushes};
-ghost use Rattle.encode_ways.specs.Turn.{Apart, Invoked, Sized, Small, Turn, Through, By, upTo, Control, Is, Matches, lengthOf, MatchAll};
+ghost use Rattle.encode_ways.specs.Turn.{Apart, Invoked, Sized, Small, Turn, Through, By, upTo, Control, Is, Matches, lengthOf, MatchAll, Sizes};
 
 /// What the invocations add to a link: as the code element stands in GR, by a locking shift to GL, by
 /// one to GR, by a single shift.
@@ -332,20 +332,21 @@ fn by_ways(
 
 /// The size control before a candidate of a size: none (0), MSZ (1) or NSZ (2).
 fn size_control(a: u32, size: u32) -> u32
+    requires { ⌜ size ≤ 2 ⌝ }
     ensures { λ z. ⌜ Control z (sizeBytes (unpack a) (sizeOf size)) ⌝ }
 {
     let narrow = encode_states::narrow(a);
-    if size == 0 {
-        return 0;
-    }
     if size == 1 {
         if narrow == 0 {
             return 1;
         }
         return 0;
     }
-    if narrow == 1 {
-        return 2;
+    if size == 2 {
+        if narrow == 1 {
+            return 2;
+        }
+        return 0;
     }
     0
 }
@@ -387,7 +388,7 @@ fn by_candidate(
     link: u32,
     back: u32,
 ) -> usize
-    requires { ⌜ HasRoom from cap (now store) (now index) × Proper a × (cost ≤ 65535) × (len ≤ 2) × (link < 2097152) ⌝ }
+    requires { ⌜ HasRoom from cap (now store) (now index) × Proper a × (cost ≤ 65535) × (size ≤ 2) × (len ≤ 2) × (link < 2097152) ⌝ }
     ensures { λ c. ⌜ ((cs : List Cand) (k : Cand) (ks : List Cand) (most : ℕ) (n : Node) → drop (link / 131072) cs ≡ k ∷ ks → Matches x size len k → Is n a cost →
         cost + 9 ≤ most → Pushes cs (bounds from cap back most) (now (store .entry)) (now (index .entry)) count (now (store .exit)) (now (index .exit)) c
         (byCand n (link % 131072) k)) ⌝ }
@@ -452,7 +453,7 @@ pub fn by_candidates<'a>(
     codes: &'a [u16; 9],
     sizes: &'a [u8; 9],
 ) -> usize
-    requires { ⌜ HasRoom from cap (now store) (now index) × Proper a × (cost ≤ 65535) × (i < 131072) × (m ≤ 9) ⌝ }
+    requires { ⌜ HasRoom from cap (now store) (now index) × Proper a × (cost ≤ 65535) × (i < 131072) × (m ≤ 9) × Sizes m (now sizes) ⌝ }
     ensures kept { λ _. ⌜ take (from * 4) (now (store .exit)) ≡ take (from * 4) (now (store .entry)) ⌝ }
     ensures reached { λ c. ⌜ ((cs : List Cand) (most : ℕ) (n : Node) → MatchAll cs m (now (sets .entry)) (now (codes .entry)) (now (sizes .entry)) → Is n a cost →
         cost + 9 ≤ most → Changes cs (bounds from cap back most) (now (store .entry)) (now (index .entry)) count (now (store .exit)) (now (index .exit)) c

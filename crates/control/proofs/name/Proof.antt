@@ -34,7 +34,8 @@ wide-requires c κs = search needs
 sub-t14 : tie.Need-sub-t14
 unfolding lengthOf
 sub-t14 c =
-    let at-start = c .before .before .before .before .before .before in
+    let at-letter3 = c .before .before .before in
+    let at-start = at-letter3 .before .before .before in
     let e : c .wide .result ≡ 48 + lengthOf (at-start .args .code) = c .wide .ensures ∙ length-at (at-start .args .code) (omega arith) in
     omega arith
 

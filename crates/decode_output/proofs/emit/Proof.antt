@@ -53,7 +53,8 @@ put-requires c κs = search needs
 add-to : tie.Need-add-to
 add-to c =
     let at-put = c .before .before in
-    let at-start = at-put .before .before .before .before .before .before .before in
+    let at-if1 = at-put .before .before .before .before in
+    let at-start = at-if1 .before .before .before in
     let a = at-start .args in
     omega (arith, at-put .put .ensures .count, length-utf8 (a .c) .most)
 

@@ -79,7 +79,8 @@ returns-2 c =
 
 add-i : tie.Need-add-i Inv-loop μ-loop
 add-i c =
-    let at-start = c .before .before .before .before .before .before in
+    let at-loop = c .before .before .before .before .before in
+    let at-start = at-loop .before in
     record { fits = omega (arith, at-start .pre) }
 
 loop-less : tie.Need-loop-less Inv-loop μ-loop

@@ -21,13 +21,13 @@ use Rattle.encode_search.proofs.reach.Lts as lts
 use Rattle.encode_ways.proofs.by_candidates.Reads as by-candidates-reads
 
 abbrev Inv-loop : tie.InvT-loop
-Inv-loop store₀ index₀ cap k pfrom pcount from back count₀ i₀ store index count i =
+Inv-loop store₀ index₀ cap m sets codes sizes pfrom pcount from back count₀ i₀ store index count i =
     (i ≤ pcount) × (length store ≡ length store₀) × (length index ≡ length index₀) × (take ((pfrom + pcount) * 4) store ≡ take ((pfrom + pcount) * 4) store₀) ×
-    ((cs cs₀ : List Cand) (b most : ℕ) → MatchAll cs (k .count) (k .sets) (k .codes) (k .sizes) → All (Able b) (entriesOf store₀ pfrom pcount) → b + 9 ≤ most →
+    ((cs cs₀ : List Cand) (b most : ℕ) → MatchAll cs m sets codes sizes → All (Able b) (entriesOf store₀ pfrom pcount) → b + 9 ≤ most →
     Represents cs (bounds (pfrom + pcount) cap pfrom most) store index count (reach cs (take i (layerOf cs₀ store₀ pfrom pcount)) 0 []))
 
 abbrev μ-loop : tie.MeasureT-loop
-μ-loop store₀ index₀ cap k pfrom pcount from back count₀ i₀ store index count i = pcount - i
+μ-loop store₀ index₀ cap m sets codes sizes pfrom pcount from back count₀ i₀ store index count i = pcount - i
 
 add-from : tie.Need-add-from Inv-loop μ-loop
 add-from c = omega arith
@@ -72,9 +72,7 @@ cast-by-candidates c = omega arith
 
 by-candidates-requires : tie.Need-by-candidates-requires Inv-loop μ-loop
 by-candidates-requires c κs =
-    let at-k = c .before .before .before in
-    let at-read = at-k .before .before .before in
-    let at-loop = at-read .before .before .before in
+    let at-loop = c .before .before .before .before .before in
     let at-start = at-loop .before .before .before in (
       record { store = omega arith; index = omega arith; few = at-start .pre .0 .few },
       proper (at-start .args .store .now) (at-loop .loop .store) (at-start .args .prev .from) (at-start .args .prev .count) (at-loop .loop .i) (omega arith) (at-loop .loop .inv .3)
@@ -83,6 +81,7 @@ by-candidates-requires c κs =
           (omega arith) (at-loop .loop .inv .3) (omega arith) 65535 (at-start .pre .4),
       omega arith,
       at-start .pre .3,
+      at-start .pre .5,
     )
 
 add-i : tie.Need-add-i Inv-loop μ-loop
@@ -94,9 +93,8 @@ loop-less c = omega arith
 loop-again : tie.Need-loop-again Inv-loop μ-loop
 loop-again c =
     let at-by-candidates = c .before .before .before .before in
-    let at-k = at-by-candidates .before .before .before .before in
-    let at-read = at-k .before .before .before in
-    let at-loop = at-read .before .before .before in
+    let at-arguments = at-by-candidates .before in
+    let at-loop = at-arguments .before .before .before .before .before in
     let at-start = at-loop .before .before .before in
     let a = at-start .args in
     let i = at-loop .loop .i in

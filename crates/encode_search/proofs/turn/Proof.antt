@@ -2,6 +2,7 @@
 use mathlib.Core.Path.{ap, _∙_}
 use Prim.Native.Nat.{ℕ, _-_}
 use Rattle.encode_search.proofs.Matching.{turned}
+use native.Mathlib.Omega.{arith}
 use borrow.Author.Needs.{needs}
 use Rattle.encode_search.proofs.turn.Statement.{statement}
 use Rattle.encode_search.proofs.turn.Tie as tie
@@ -25,7 +26,12 @@ cast-advance : tie.Need-cast-advance
 cast-advance c = search needs
 
 advance-requires : tie.Need-advance-requires
-advance-requires c κs = search needs
+advance-requires c κs =
+    let at-less = c .before .before in
+    let at-candidates = at-less .before .before in
+    let start = at-candidates .before .before .before in
+    let k = at-candidates .candidates .ensures in
+    (start .pre .0, start .pre .1, start .pre .2, start .pre .3, k .few, omega (arith, at-less .less .ensures, start .pre .4), start .pre .5, λ j h. k .fits j h .size)
 
 same-length : tie.Need-same-length
 same-length c = search needs

@@ -59,7 +59,7 @@ returns c =
     let a = at-start .args in
     λ cs k ks most n at m i h.
     as-graphic cs ks n (a .a) (at-sized .sized .result) (a .x) (a .size) (a .len) (a .cost) (a .link) (at-size-control .size-control .result)
-    (at-control-length .control-length .result) (a .back) (at-start .pre .4) i (at-size-control .size-control .ensures) (at-control-length .control-length .ensures)
+    (at-control-length .control-length .result) (a .back) (at-start .pre .5) i (at-size-control .size-control .ensures) (at-control-length .control-length .ensures)
     (at-sized .sized .ensures .is) k at m (at-if1 .if1 .taken)
     (λ t w. at-by-ways .by-ways .ensures cs most t w (omega (arith, at-control-length .control-length .ensures, few-bytes (at-size-control .size-control .result))))
 
@@ -86,7 +86,7 @@ returns-2 c =
     let a = at-start .args in
     λ cs k ks most n at m i h.
     as-plain cs ks n (a .a) (at-sized .sized .result) (a .x) (a .size) (a .len) (a .cost) (a .link) (at-size-control .size-control .result)
-    (at-control-length .control-length .result) (a .back) (at-start .pre .4) i (at-size-control .size-control .ensures) (at-control-length .control-length .ensures)
+    (at-control-length .control-length .result) (a .back) (at-start .pre .5) i (at-size-control .size-control .ensures) (at-control-length .control-length .ensures)
     (at-sized .sized .ensures .is) k at m (at-if1 .if1 .left)
     (at-push .push .ensures cs most (omega (arith, at-control-length .control-length .ensures, few-bytes (at-size-control .size-control .result))))
 

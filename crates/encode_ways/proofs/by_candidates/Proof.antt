@@ -69,11 +69,14 @@ add-link c = omega arith
 by-candidate-requires : tie.Need-by-candidate-requires Inv-loop μ-loop
 by-candidate-requires c κs =
     let at-code-length = c .before .before in
-    let at-loop = at-code-length .before .before .before .before .before .before .before in
+    let at-wide2 = at-code-length .before .before in
+    let at-wide = at-wide2 .before .before in
+    let at-loop = at-wide .before .before .before in
     let at-start = at-loop .before .before .before in (
       record { store = omega arith; index = omega arith; few = at-start .pre .0 .few },
       at-start .pre .1,
       at-start .pre .2,
+      omega (arith, at-wide2 .wide2 .ensures, at-start .pre .5 (at-loop .loop .k) (omega arith)),
       omega (arith, at-code-length .code-length .ensures, few-bytes-code (getD (at-start .args .codes .now) (at-loop .loop .k) 0)),
       omega arith,
     )

@@ -30,7 +30,8 @@ designation-length-requires c κs = search needs
 
 add-more : tie.Need-add-more
 add-more c =
-    let at-start = c .before .before .before .before .before .before in
+    let at-designate = c .before .before .before in
+    let at-start = at-designate .before .before .before in
     omega (arith, c .designation-length .ensures, designation-most (at-start .args .x) (at-start .args .n) (at-start .pre .5))
 
 add-k-2 : tie.Need-add-k-2
