@@ -1,15 +1,15 @@
 -- A push among nodes, by the place of the node's state. Assumes nothing.
-use mathlib.Core.Path.{_≡_, refl, sym, ap, _∙_}
+use mathlib.Core.Path.{_≡_, refl, ap, _∙_}
 use mathlib.Core.Bool.{Bool, true, false, cond}
 use mathlib.Core.List.{List, [], _∷_, _++_, map}
-use Prim.Native.Nat.{ℕ, zero, suc, _+_, _≤_, _<_}
+use Prim.Native.Nat.{ℕ, zero, suc, _≤_, _<_}
 use native.Mathlib.Omega.{arith}
 use lib.Dec.{leb}
 use lib.ListN.{length, getD, set}
 use borrow.Author.Tests.{le-leb, lt-leb}
 use Rattle.coding.specs.State.{sameState}
 use Rattle.coding.specs.Candidates.{Cand}
-use Rattle.coding.specs.Search.{Node, push, pushAll}
+use Rattle.coding.specs.Search.{Node, push}
 use Rattle.encode_states.proofs.Same.{same-of, differ}
 use Rattle.encode_layer.specs.Entries.{Entry, entry, nodeOf}
 

@@ -1,7 +1,7 @@
 -- What a layer stands for after a push, by the index. Assumes nothing.
-use mathlib.Core.Path.{_≡_, refl, sym, ap, _∙_, subst}
+use mathlib.Core.Path.{_≡_, refl, sym, ap, _∙_}
 use mathlib.Core.List.{List, [], _∷_, _++_, map}
-use Prim.Native.Nat.{ℕ, zero, suc, _+_, _*_, _≤_, _<_}
+use Prim.Native.Nat.{ℕ, _+_, _*_, _≤_, _<_}
 use native.Mathlib.Decide.{ℕ-discrete, decLt}
 use native.Mathlib.Numerals.{add-one}
 use native.Mathlib.Omega.{arith}
@@ -12,10 +12,10 @@ use Rattle.base.proofs.Every.{all-append, all-at, all-set}
 use Rattle.coding.specs.Candidates.{Cand}
 use Rattle.coding.specs.Search.{Node, push, pushAll}
 use Rattle.encode_states.proofs.Dense.{dense, spread, spread-dense, dense-small, below}
-use Rattle.encode_layer.specs.Entries.{Entry, entry, nodeOf, entries, entriesOf, layerOf, entryAt, setEntry}
-use Rattle.encode_layer.specs.Layer.{Sound, Indexed, Bounds, bounds, Held, Over, Represents, held, over, Changes, Pushes}
+use Rattle.encode_layer.specs.Entries.{Entry, nodeOf, entries, entriesOf, layerOf, entryAt, setEntry}
+use Rattle.encode_layer.specs.Layer.{Sound, Indexed, bounds, Held, Represents, held, over, Pushes}
 use Rattle.encode_layer.proofs.Entries.{length-entries, entries-set, length-of, entry-of, before-set}
-use Rattle.encode_layer.proofs.Pigeonhole.{Hit, pigeonhole}
+use Rattle.encode_layer.proofs.Pigeonhole.{pigeonhole}
 use Rattle.encode_layer.proofs.Pushing.{blank, push-grows, push-kept, push-replaced, push-new}
 
 -- no more nodes than states that the coder can reach

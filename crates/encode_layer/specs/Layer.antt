@@ -1,7 +1,7 @@
 -- The layer of the definition that a layer in the store represents, while nodes are pushed into it.
 use Prim.Native.Nat.{ℕ, _+_, _*_, _≤_, _<_}
 use mathlib.Core.Path.{_≡_}
-use mathlib.Core.List.{List, [], _∷_}
+use mathlib.Core.List.{List}
 use lib.ListN.{length, take, getD}
 use Rattle.base.specs.Lists.{All}
 use Rattle.coding.specs.Candidates.{Cand}

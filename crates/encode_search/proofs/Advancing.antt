@@ -1,16 +1,16 @@
 -- The next layer, once it is reached: too large, or kept. Assumes nothing.
-use mathlib.Core.Path.{_≡_, refl, sym, ap, _∙_}
-use mathlib.Core.Bool.{Bool, true, false, false≢true, true≢false}
+use mathlib.Core.Path.{_≡_, ap, _∙_}
+use mathlib.Core.Bool.{true, false, false≢true, true≢false}
 use mathlib.Core.List.{List, [], _∷_, map}
-use Prim.Native.Nat.{ℕ, zero, suc, _+_, _*_, _/_, _≤_, _<_, min}
+use Prim.Native.Nat.{ℕ, _+_, _*_, _/_, _≤_, _<_}
 use native.Mathlib.Omega.{arith}
-use lib.ListN.{length, take}
+use lib.ListN.{length}
 use Rattle.base.specs.Lists.{All}
 use Rattle.base.proofs.Every.{all-map}
 use Rattle.coding.specs.Candidates.{Cand}
-use Rattle.coding.specs.Search.{Node, reach, least, keep, floorOf}
+use Rattle.coding.specs.Search.{reach, least, keep, floorOf}
 use Rattle.encode_layer.specs.Entries.{Entry, nodeOf, entriesOf, layerOf}
-use Rattle.encode_layer.specs.Layer.{Sound, bounds, Held, Over, Represents, held, over}
+use Rattle.encode_layer.specs.Layer.{Sound, bounds, Held, Represents, held, over}
 use Rattle.encode_layer.specs.Kept.{Kept}
 use Rattle.encode_layer.proofs.Entries.{length-of}
 use Rattle.encode_layer.proofs.Standing.{few}

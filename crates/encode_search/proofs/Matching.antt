@@ -1,20 +1,18 @@
 -- The candidates of a character, as the ways take them. Assumes nothing.
-use mathlib.Core.Path.{_≡_, refl, sym, ap, _∙_, subst}
+use mathlib.Core.Path.{_≡_, refl, ap, _∙_}
 use mathlib.Core.Bool.{Bool, true, false, cond}
 use mathlib.Core.List.{List, [], _∷_}
-use Prim.Native.Nat.{ℕ, zero, suc, _+_, _-_, _*_, _/_, _%_, _≤_, _<_}
+use Prim.Native.Nat.{ℕ, zero, suc, _+_, _-_, _/_, _%_, _<_}
 use native.Mathlib.Decide.{ℕ-discrete}
 use native.Mathlib.Omega.{arith}
-use lib.Dec.{eqb, ltb}
+use lib.Dec.{ltb}
 use lib.ListN.{length, getD}
 use borrow.Author.Tests.{eq-eqb, ne-eqb}
-use Rattle.coding.specs.Candidates.{either, Cand, graphic, plain, candidates, shortest}
+use Rattle.coding.specs.Candidates.{either, Cand, plain, shortest}
 use Rattle.encode_candidates.specs.declared.Cands.{Cands}
 use Rattle.encode_candidates.specs.Packed.{codeOf, candOf, candAt, candsFrom, candsOf, Fits, FitsAt, StandsForCandidates}
-use Rattle.encode_states.specs.Packed.{setOf}
-use Rattle.encode_layer.specs.Entries.{layerOf}
 use Rattle.encode_ways.specs.Turn.{Matches, MatchAll, lengthOf}
-use Rattle.encode_search.specs.Layers.{Next, Advanced, Turned}
+use Rattle.encode_search.specs.Layers.{Advanced, Turned}
 
 length-code : (code : ℕ) → lengthOf code ≡ length (codeOf code)
 unfolding lengthOf codeOf

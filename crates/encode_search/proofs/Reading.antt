@@ -1,22 +1,20 @@
 -- The nodes of a layer that is read while the next is written. Assumes nothing.
 use mathlib.Core.Path.{_≡_, refl, sym, ap, _∙_}
-use mathlib.Core.List.{List, [], _∷_, _++_, map}
-use Prim.Native.Nat.{ℕ, zero, suc, _+_, _*_, _≤_, _<_}
-use native.Mathlib.Nat.{add-zero, add-suc, suc-add}
+use mathlib.Core.List.{List, [], _∷_, _++_}
+use Prim.Native.Nat.{ℕ, suc, _+_, _*_, _≤_, _<_}
 use native.Mathlib.Numerals.{add-one}
 use native.Mathlib.Omega.{arith}
-use lib.ListN.{length, getD, take, drop, length-map, List·getD-map}
+use lib.ListN.{length, getD, take, List·getD-map}
 use lib.Seq.{getD-take, take-suc, take-all, length-take-le}
 use Rattle.base.specs.Lists.{All}
 use Rattle.base.proofs.Every.{all-at}
 use Rattle.coding.specs.Candidates.{Cand}
 use Rattle.coding.specs.Search.{Node, byCands, reach}
 use Rattle.encode_states.specs.Packed.{unpack, Proper}
-use Rattle.encode_layer.specs.Entries.{Entry, entry, nodeOf, entriesOf, layerOf, entryAt}
-use Rattle.encode_layer.specs.Layer.{Sound, Bounds, bounds, Held, Represents, held}
+use Rattle.encode_layer.specs.Entries.{nodeOf, entriesOf, layerOf, entryAt}
+use Rattle.encode_layer.specs.Layer.{bounds, Represents, held}
 use Rattle.encode_layer.proofs.Entries.{length-of, entry-of}
 use Rattle.encode_layer.proofs.Pushing.{blank}
-use Rattle.encode_layer.proofs.Costs.{length-layer}
 use Rattle.encode_ways.specs.Turn.{Is}
 use Rattle.encode_search.specs.Layers.{Able}
 

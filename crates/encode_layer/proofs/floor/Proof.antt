@@ -1,14 +1,11 @@
 -- `encode_layer::floor` meets its contract: the floor after those nodes of the layer are dropped that cost over most.
 use mathlib.Core.Path.{refl, _∙_}
 use mathlib.Core.Logic.{⊎-elim}
-use Prim.Native.Nat.{ℕ, _-_, _≤_}
+use Prim.Native.Nat.{_-_, _≤_}
 use native.Mathlib.Omega.{arith}
 use Rattle.encode_layer.proofs.Costs.{Floored, floored-kept, floored-dropped, floored-end, cost-bound}
 use Rattle.encode_layer.proofs.floor.Statement.{statement}
 use Rattle.encode_layer.proofs.floor.Tie as tie
-use Rattle.encode_layer.proofs.floor.Reads as reads
-use Rattle.encode_layer.proofs.floor.Lts as lts
-use Rattle.encode_layer.proofs.lower.Reads as lower-reads
 
 abbrev Inv-loop : tie.InvT-loop
 Inv-loop store from count most rest low f₀ i₀ f i = (i ≤ count) × Floored store from count most rest low f i

@@ -1,13 +1,10 @@
 -- `encode_layer::keep` meets its contract: drops the nodes of the layer that cost over most, the others moved up.
 use mathlib.Core.Logic.{⊎-elim}
-use Prim.Native.Nat.{ℕ, _-_}
+use Prim.Native.Nat.{_-_}
 use native.Mathlib.Omega.{arith}
 use Rattle.encode_layer.proofs.Keeping.{Going, going-start, going-drop, going-keep, going-end}
 use Rattle.encode_layer.proofs.keep.Statement.{statement}
 use Rattle.encode_layer.proofs.keep.Tie as tie
-use Rattle.encode_layer.proofs.keep.Reads as reads
-use Rattle.encode_layer.proofs.keep.Lts as lts
-use Rattle.encode_layer.proofs.put_node.Reads as put-node-reads
 
 abbrev Inv-loop : tie.InvT-loop
 Inv-loop store₀ from count most i₀ kept₀ store i kept = Going store₀ store from count most i kept

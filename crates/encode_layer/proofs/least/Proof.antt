@@ -1,7 +1,7 @@
 -- `encode_layer::least` meets its contract: the layer's least cost, 0 where it has no node.
-use mathlib.Core.Path.{_≡_, refl}
+use mathlib.Core.Path.{_≡_}
 use mathlib.Core.List.{List}
-use Prim.Native.Nat.{ℕ, _-_, _<_}
+use Prim.Native.Nat.{_-_, _<_}
 use native.Mathlib.Omega.{arith}
 use lib.ListN.{drop}
 use Rattle.coding.specs.Candidates.{Cand}
@@ -10,8 +10,6 @@ use Rattle.encode_layer.specs.Entries.{layerOf}
 use Rattle.encode_layer.proofs.Costs.{least-none, least-first, least-less, least-same}
 use Rattle.encode_layer.proofs.least.Statement.{statement}
 use Rattle.encode_layer.proofs.least.Tie as tie
-use Rattle.encode_layer.proofs.least.Reads as reads
-use Rattle.encode_layer.proofs.least.Lts as lts
 
 abbrev Inv-loop : tie.InvT-loop
 Inv-loop store from count i₀ best₀ i best = (i < count) × ((cs : List Cand) → best ≡ least (drop i (layerOf cs store from count)))

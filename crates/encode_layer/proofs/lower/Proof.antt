@@ -3,8 +3,6 @@ use Rattle.encode_layer.proofs.Costs.{lower-none, lower-less, lower-sam
 use borrow.Author.Needs.{needs}
 use Rattle.encode_layer.proofs.lower.Statement.{statement}
 use Rattle.encode_layer.proofs.lower.Tie as tie
-use Rattle.encode_layer.proofs.lower.Reads as reads
-use Rattle.encode_layer.proofs.lower.Lts as lts
 
 add-result : tie.Need-add-result
 add-result c = search needs

@@ -7,9 +7,6 @@ use Rattle.encode_layer.proofs.Standing.{full, stays, replaces, overflo
 use borrow.Author.Needs.{needs}
 use Rattle.encode_layer.proofs.push.Statement.{statement}
 use Rattle.encode_layer.proofs.push.Tie as tie
-use Rattle.encode_layer.proofs.push.Reads as reads
-use Rattle.encode_layer.proofs.push.Lts as lts
-use Rattle.encode_layer.proofs.put_node.Reads as put-node-reads
 
 returns : tie.Need-returns
 returns c =

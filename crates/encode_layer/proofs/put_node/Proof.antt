@@ -4,8 +4,6 @@ use lib.ListN.{length-set}
 use borrow.Author.Needs.{needs}
 use Rattle.encode_layer.proofs.put_node.Statement.{statement}
 use Rattle.encode_layer.proofs.put_node.Tie as tie
-use Rattle.encode_layer.proofs.put_node.Reads as reads
-use Rattle.encode_layer.proofs.put_node.Lts as lts
 
 mul-at : tie.Need-mul-at
 mul-at c = search needs

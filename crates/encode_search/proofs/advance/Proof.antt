@@ -5,13 +5,6 @@ use Rattle.encode_search.proofs.Advancing.{abled, too-large, reached-ch
 use borrow.Author.Needs.{needs}
 use Rattle.encode_search.proofs.advance.Statement.{statement}
 use Rattle.encode_search.proofs.advance.Tie as tie
-use Rattle.encode_search.proofs.advance.Reads as reads
-use Rattle.encode_search.proofs.advance.Lts as lts
-use Rattle.encode_layer.proofs.floor.Reads as floor-reads
-use Rattle.encode_layer.proofs.keep.Reads as keep-reads
-use Rattle.encode_layer.proofs.least.Reads as least-reads
-use Rattle.encode_search.proofs.reach.Reads as reach-reads
-use Rattle.encode_search.proofs.room.Reads as room-reads
 
 add-from : tie.Need-add-from
 add-from c = search needs

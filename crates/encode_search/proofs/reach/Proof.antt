@@ -16,9 +16,6 @@ use Rattle.encode_search.specs.Layers.{Able}
 use Rattle.encode_search.proofs.Reading.{proper, cheap, nodeAt, is-node, reach-more, reach-none, reach-all}
 use Rattle.encode_search.proofs.reach.Statement.{statement}
 use Rattle.encode_search.proofs.reach.Tie as tie
-use Rattle.encode_search.proofs.reach.Reads as reads
-use Rattle.encode_search.proofs.reach.Lts as lts
-use Rattle.encode_ways.proofs.by_candidates.Reads as by-candidates-reads
 
 abbrev Inv-loop : tie.InvT-loop
 Inv-loop store₀ index₀ cap m sets codes sizes pfrom pcount from back count₀ i₀ store index count i =

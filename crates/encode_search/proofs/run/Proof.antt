@@ -8,9 +8,6 @@ use Rattle.encode_search.proofs.Advancing.{abled}
 use Rattle.encode_search.proofs.Running.{Going, going-start, going-on, going-full, going-end}
 use Rattle.encode_search.proofs.run.Statement.{statement}
 use Rattle.encode_search.proofs.run.Tie as tie
-use Rattle.encode_search.proofs.run.Reads as reads
-use Rattle.encode_search.proofs.run.Lts as lts
-use Rattle.encode_search.proofs.turn.Reads as turn-reads
 
 abbrev Inv-loop : tie.InvT-loop
 Inv-loop store₀ index₀ chars kanji symbols from₀ count₀ n annex rest floor₀ j₀ store index from count left floor j =

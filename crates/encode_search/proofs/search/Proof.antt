@@ -10,11 +10,6 @@ use Rattle.encode_search.proofs.Running.{begins, able-start, no-room, s
 use borrow.Author.Needs.{needs}
 use Rattle.encode_search.proofs.search.Statement.{statement}
 use Rattle.encode_search.proofs.search.Tie as tie
-use Rattle.encode_search.proofs.search.Reads as reads
-use Rattle.encode_search.proofs.search.Lts as lts
-use Rattle.encode_layer.proofs.put_node.Reads as put-node-reads
-use Rattle.encode_search.proofs.run.Reads as run-reads
-use Rattle.encode_states.proofs.start.Reads as start-reads
 
 returns : tie.Need-returns
 returns c =

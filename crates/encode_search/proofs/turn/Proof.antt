@@ -6,12 +6,6 @@ use native.Mathlib.Omega.{arith}
 use borrow.Author.Needs.{needs}
 use Rattle.encode_search.proofs.turn.Statement.{statement}
 use Rattle.encode_search.proofs.turn.Tie as tie
-use Rattle.encode_search.proofs.turn.Reads as reads
-use Rattle.encode_search.proofs.turn.Lts as lts
-use Rattle.encode_candidates.proofs.candidates.Reads as candidates-reads
-use Rattle.encode_candidates.proofs.shortest.Reads as shortest-reads
-use Rattle.encode_search.proofs.advance.Reads as advance-reads
-use Rattle.encode_search.proofs.less.Reads as less-reads
 
 candidates-requires : tie.Need-candidates-requires
 candidates-requires c κs = search needs
