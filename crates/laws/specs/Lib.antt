@@ -1,1 +1,2 @@
 pub mod TableOfTwelve
+pub mod Coding
