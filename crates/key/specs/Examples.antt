@@ -4,6 +4,7 @@ use mathlib.Core.Path.{_≡_, refl}
 use mathlib.Core.List.{List, [], _∷_}
 use lib.ListN.{set, replicate}
 use Rattle.questions.specs.Questions.{all, cellsHold}
+use Rattle.key_text.specs.KeyText.{halfwidthOf}
 use Rattle.key.specs.Key.{Outcome, outcome}
 
 unfoldable zeros : List ℕ
@@ -21,6 +22,13 @@ refused number buffer = record { refused = number; len = 0; charged = 0; buffer 
 record Worked : Type 0 where
   -- narrow A, SP, B: the text has three bytes and the key two
   narrow : call zeros 0 (0x89 ∷ 0x0E ∷ 0x41 ∷ 0x20 ∷ 0x42 ∷ []) 4 ≡ keyed 2 0 (0x41 ∷ 0x42 ∷ 0 ∷ 0 ∷ [])
+  -- Ａ: three bytes, the key one; two bytes of room are too few for the text
+  letter : call zeros 0 (0x0E ∷ 0x41 ∷ []) 3 ≡ keyed 1 0 (0x41 ∷ 0 ∷ 0 ∷ [])
+  letter-full : call zeros 0 (0x0E ∷ 0x41 ∷ []) 2 ≡ refused 8 (0 ∷ 0 ∷ [])
+  -- ￥ becomes ¥, ～ becomes ~
+  signs : call zeros 0 (0x0E ∷ 0x5C ∷ 0x7E ∷ []) 6 ≡ keyed 3 0 (0xC2 ∷ 0xA5 ∷ 0x7E ∷ 0 ∷ 0 ∷ 0 ∷ [])
+  -- Ａ from a cell of the table; ＼ stays
+  cells : call (set (set zeros 0 0xFF21) 1 0xFF3C) 0 (0x21 ∷ 0x21 ∷ 0x21 ∷ 0x22 ∷ []) 6 ≡ keyed 4 0 (0x41 ∷ 0xEF ∷ 0xBC ∷ 0xBC ∷ 0 ∷ 0 ∷ [])
   -- wide SP, あ, newline, あ: ten bytes, the key six
   wide : call zeros 0 (0x20 ∷ 0xA2 ∷ 0x0D ∷ 0xA2 ∷ []) 10 ≡ keyed 6 0 (0xE3 ∷ 0x81 ∷ 0x82 ∷ 0xE3 ∷ 0x81 ∷ 0x82 ∷ 0 ∷ 0 ∷ 0 ∷ 0 ∷ [])
   -- nine bytes of room: "the text before removal"
@@ -40,6 +48,22 @@ record Worked : Type 0 where
   option : call zeros 2 (0x24 ∷ 0xA2 ∷ []) 1 ≡ refused 2 (0 ∷ [])
 
 worked : Worked
-unfolding outcome zeros cellsHold all
+unfolding outcome halfwidthOf zeros cellsHold all
 worked =
-    record { narrow = refl; wide = refl; full = refl; issue = refl; both = refl; cell = refl; charge = refl; spaces = refl; nothing = refl; table = refl; option = refl }
+    record {
+      narrow = refl;
+      letter = refl;
+      letter-full = refl;
+      signs = refl;
+      cells = refl;
+      wide = refl;
+      full = refl;
+      issue = refl;
+      both = refl;
+      cell = refl;
+      charge = refl;
+      spaces = refl;
+      nothing = refl;
+      table = refl;
+      option = refl;
+    }

@@ -11,7 +11,9 @@ use lib.Dec.{eqb}
 use lib.ListN.{length}
 use Rattle.lent.specs.Put.{Put}
 use Rattle.utf8.specs.Utf8.{utf8, utf8s, PutScalar}
-use Rattle.key_text.specs.KeyText.{keyChar, kept, keyText}
+use Rattle.key_text.specs.KeyText.{halfwidthOf, keyChar, kept, keyText}
+use Rattle.key_text.specs.Laws.{Widths}
+use Rattle.key_text.proofs.Widths.{Own, halved, no-more}
 
 -- the three that a key leaves out, and any other
 pub left-out : (c : ℕ) → (c ≡ 0x0A) ⊎ ((c ≡ 0x20) ⊎ (c ≡ 0x3000)) → keyChar c ≡ none
@@ -20,7 +22,7 @@ left-out c (inl e) = rw e
 left-out c (inr (inl e)) = rw e
 left-out c (inr (inr e)) = rw e
 
-pub stays : (c : ℕ) → (c ≡ 0x0A → ⊥) → (c ≡ 0x20 → ⊥) → (c ≡ 0x3000 → ⊥) → keyChar c ≡ some c
+pub stays : (c : ℕ) → (c ≡ 0x0A → ⊥) → (c ≡ 0x20 → ⊥) → (c ≡ 0x3000 → ⊥) → keyChar c ≡ some (halfwidthOf c)
 unfolding keyChar
 stays c p q r = rw (ne-eqb c 0x0A p, ne-eqb c 0x20 q, ne-eqb c 0x3000 r)
 
@@ -29,9 +31,13 @@ pub no-longer : (c : ℕ) → length (utf8s (kept (keyChar c) [])) ≤ length (u
 unfolding keyChar kept utf8s
 no-longer c = go (eqb c 0x0A || eqb c 0x20 || eqb c 0x3000)
   where
-    go : (b : Bool) → length (utf8s (kept (cond b none (some c)) [])) ≤ length (utf8 c)
+    half : Widths (halfwidthOf c) c ⊎ Own c → length (utf8 (halfwidthOf c)) ≤ length (utf8 c)
+    half (inl w) = no-more (halfwidthOf c) c w
+    half (inr own) = rw (own .same) (omega arith)
+
+    go : (b : Bool) → length (utf8s (kept (cond b none (some (halfwidthOf c))) [])) ≤ length (utf8 c)
     go true = omega arith
-    go false = rw append-nil (omega arith)
+    go false = rw append-nil (half (halved c))
 
 -- the bytes of a key, by the first character
 pub first-bytes : (c : ℕ) (cs : List ℕ) → utf8s (keyText (c ∷ cs)) ≡ utf8s (kept (keyChar c) []) ++ utf8s (keyText cs)

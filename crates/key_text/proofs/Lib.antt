@@ -1,3 +1,4 @@
+pub mod Widths
 pub mod Characters
 pub mod Moving
 pub mod Laws

@@ -1,5 +1,5 @@
-// The key of a text, by which two spellings of one title are found equal: the text without newline, U+0020 and U+3000.
-// 01, "Keys".
+// The key of a text, by which two spellings of one title are found equal: the text without newline, U+0020 and U+3000,
+// its full-width alphanumerics made half-width. 01, "Keys", and request 1 of docs/REQUESTS.md.
 use utf8::Sequence;
 ghost use mathlib.Core.Path.{_≡_};
 ghost use mathlib.Core.List.{[]};
@@ -16,13 +16,16 @@ pub enum Kept {
     Nothing,
 }
 
-/// The rule of a key, character by character. A rule on letters would change this function alone; the character that is
-/// kept takes no more bytes than the one it stands for.
+/// The rule of a key, character by character. The full-width forms of the 94 alphanumerics are a run, and that of YEN
+/// SIGN, which the set has in the place of backslash. What is kept takes no more bytes than what it stands for.
 pub fn key_char(c: u32) -> Kept
     ensures { λ r. ⌜ keptOf r ≡ keyChar c ⌝ }
 {
     match c {
         0x0A | 0x20 | 0x3000 => Kept::Nothing,
+        0xFF3C => Kept::Char(c),
+        0xFF01..=0xFF5E => Kept::Char(c - 0xFF01 + 0x21),
+        0xFFE5 => Kept::Char(0xA5),
         _ => Kept::Char(c),
     }
 }

@@ -5,6 +5,7 @@ use mathlib.Core.List.{List, [], _∷_}
 use mathlib.Core.Option.{none, some}
 use lib.ListN.{replicate}
 use Rattle.questions.specs.Questions.{all, cellsHold}
+use Rattle.key_text.specs.KeyText.{halfwidthOf}
 use Rattle.keys_lines.specs.Line.{printed}
 
 unfoldable zeros : List ℕ
@@ -13,6 +14,8 @@ zeros = replicate 8836 0
 record Worked : Type 0 where
   -- 7 TAB 890E41, and a carriage return: 7 TAB A
   key : printed zeros (0x37 ∷ 0x09 ∷ 0x38 ∷ 0x39 ∷ 0x30 ∷ 0x65 ∷ 0x34 ∷ 0x31 ∷ 0x0D ∷ []) ≡ some (0x37 ∷ 0x09 ∷ 0x41 ∷ 0x0A ∷ [])
+  -- 8 TAB 0E41, the same letter full-width: 8 TAB A
+  full-width : printed zeros (0x38 ∷ 0x09 ∷ 0x30 ∷ 0x45 ∷ 0x34 ∷ 0x31 ∷ []) ≡ some (0x38 ∷ 0x09 ∷ 0x41 ∷ 0x0A ∷ [])
   -- 007 TAB: an empty key
   empty : printed zeros (0x30 ∷ 0x30 ∷ 0x37 ∷ 0x09 ∷ []) ≡ some (0x30 ∷ 0x30 ∷ 0x37 ∷ 0x09 ∷ 0x0A ∷ [])
   -- 7 TAB 24a2: refused 10 0
@@ -29,10 +32,11 @@ record Worked : Type 0 where
   malformed-6 : printed zeros (0x30 ∷ 0x30 ∷ 0x30 ∷ 0x30 ∷ 0x30 ∷ 0x30 ∷ 0x30 ∷ 0x30 ∷ 0x30 ∷ 0x30 ∷ 0x37 ∷ 0x09 ∷ []) ≡ none
 
 worked : Worked
-unfolding printed zeros cellsHold all
+unfolding printed halfwidthOf zeros cellsHold all
 worked =
     record {
       key = refl;
+      full-width = refl;
       empty = refl;
       issue = refl;
       table = refl;
