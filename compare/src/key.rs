@@ -1,10 +1,20 @@
-//! Keys, as 01 tells them.
+//! Keys, as 01 and request 1 tell them.
 
 use crate::model::Reading;
 
-/// A text without newline, U+0020 and U+3000.
+/// A text without newline, U+0020 and U+3000, its full-width alphanumerics made half-width.
 pub fn key(text: &str) -> String {
-    text.chars().filter(|c| !matches!(c, '\n' | ' ' | '\u{3000}')).collect()
+    text.chars().filter(|c| !matches!(c, '\n' | ' ' | '\u{3000}')).map(halfwidth).collect()
+}
+
+/// The alphanumeric whose full-width form this is, or the character itself.
+pub fn halfwidth(c: char) -> char {
+    match c {
+        '\u{FF3C}' => c,
+        '\u{FF01}'..='\u{FF5E}' => char::from((u32::from(c) - 0xFEE0) as u8),
+        '\u{FFE5}' => '\u{A5}',
+        _ => c,
+    }
 }
 
 /// Questions 8 and 10 of a key: the refusal's number, or 0. The room is for the text before

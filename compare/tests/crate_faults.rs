@@ -80,6 +80,7 @@ fn faults_in_a_key() {
     let text = Calls { key: |bytes, options| Ok((CALLS.decode)(bytes, options).text), ..CALLS };
     let refused = Calls { key: |_, _| Err(Refused { number: 8, place: 0 }), ..CALLS };
     assert!(read(text, &[0xA2, 0x20]).is_some());
+    assert!(read(text, &[0x0E, 0x41]).is_some());
     assert!(read(text, &INPUT).is_some());
     assert!(read(refused, &INPUT).is_some());
     assert!(read(refused, &[0xA2]).is_some());
