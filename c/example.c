@@ -73,6 +73,12 @@ static void keys(void)
     assert(refused == 0 && counts[1] == 6);
     assert(memcmp(key, "あい\0\0\0\0\0\0\0\0\0", 16) == 0);
     printf("A2 20 A4 has the key %s\n", (const char *)key);
+    const uint8_t wide[] = {0x0E, 0x41}, narrow[] = {0x89, 0x0E, 0x41};
+    refused = arib_key(cells, 8836, 0, 0, wide, 2, key, 16, counts, 3);
+    assert(refused == 0 && counts[1] == 1 && memcmp(key, "A\0\0\0", 4) == 0);
+    refused = arib_key(cells, 8836, 0, 0, narrow, 3, key, 16, counts, 3);
+    assert(refused == 0 && counts[1] == 1 && memcmp(key, "A\0\0\0", 4) == 0);
+    printf("0E 41 and 89 0E 41 have the key %s\n", (const char *)key);
 }
 
 int main(int argc, char **argv)

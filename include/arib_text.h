@@ -98,9 +98,10 @@ uint32_t arib_encode(const uint16_t *cells, size_t cells_len, uint32_t initial, 
                      const uint8_t *text, size_t text_len, uint32_t *store, size_t store_len,
                      uint8_t *coding, size_t coding_len, size_t *counts, size_t counts_len);
 
-/* The key of a title: its text without newline, U+0020 and U+3000. counts: place, bytes of the key,
- * charge. The buffer must hold the text before removal. Questions 1, 2, 3, 8, 10. Takes at most
- * some 12,000 bytes of stack, as arib_decode does. */
+/* The key of a title: its text without newline, U+0020 and U+3000, the full-width forms of the 94
+ * alphanumerics made half-width (U+FFE5 becomes U+00A5; U+FF3C stays, since backslash is not one of
+ * the 94). counts: place, bytes of the key, charge. The buffer must hold the text before removal.
+ * Questions 1, 2, 3, 8, 10. Takes at most some 12,000 bytes of stack, as arib_decode does. */
 uint32_t arib_key(const uint16_t *cells, size_t cells_len, uint32_t initial, uint32_t width,
                   const uint8_t *input, size_t input_len, uint8_t *key, size_t key_len,
                   size_t *counts, size_t counts_len);

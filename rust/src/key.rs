@@ -4,13 +4,18 @@ use crate::buffers::{self, larger, written};
 use crate::decode::{DecodeOptions, Refused};
 use crate::ffi;
 
-/// The key of a title: its text without newline, U+0020 and U+3000. A title of more than 65,535
-/// bytes is refused with 3, one that does not read without issue with 10.
+/// The key of a title: its text without newline, U+0020 and U+3000, the full-width forms of the 94
+/// alphanumerics made half-width (U+FFE5 becomes U+00A5; U+FF3C stays, since backslash is not one
+/// of the 94). A title of more than 65,535 bytes is refused with 3, one that does not read without
+/// issue with 10.
 ///
 /// ```
 /// use isdb_text::{DecodeOptions, key_with};
 /// let options = DecodeOptions::default();
 /// assert_eq!(key_with(&[0xA2, 0x20, 0xA4], &options).unwrap(), "あい");
+/// // Ａ and A
+/// assert_eq!(key_with(&[0x0E, 0x41], &options).unwrap(), "A");
+/// assert_eq!(key_with(&[0x89, 0x0E, 0x41], &options).unwrap(), "A");
 /// assert_eq!(key_with(&[0x24, 0xA2], &options).unwrap_err().number, 10);
 /// ```
 pub fn key_with(bytes: &[u8], opts: &DecodeOptions) -> Result<String, Refused> {
