@@ -13,17 +13,17 @@ use Rattle.key_text.specs.KeyText.{halfwidthOf, keyChar, kept, keyText}
 use Rattle.key_text.specs.Laws.{Without, Widths, Halfwidth, SameLetter}
 use Rattle.key_text.specs.Laws.{KeyWithout, KeyHalfwidth, OwnKey, KeyOfKey, WidthsOneKey, OneKeyWidths}
 use Rattle.key_text.proofs.Characters.{stays}
-use Rattle.key_text.proofs.Widths.{Own, halved, again, ranges}
+use Rattle.key_text.proofs.Widths.{Own, halved, itself, again, ranges}
 
 -- ---- what a key holds
 
 -- what stands for a character is none of the three, if that is none
-half-without : (c : ℕ) → (c ≡ 0x0A → ⊥) → (c ≡ 0x20 → ⊥) → (c ≡ 0x3000 → ⊥) → (halfwidthOf c ≡ 0x0A → ⊥) × (halfwidthOf c ≡ 0x20 → ⊥) × (halfwidthOf c ≡ 0x3000 → ⊥)
-half-without c p q r = go (halved c)
+half-without : (c : ℕ) → Without (c ∷ []) → Without (halfwidthOf c ∷ [])
+half-without c n = go (halved c)
   where
-    go : Widths (halfwidthOf c) c ⊎ Own c → (halfwidthOf c ≡ 0x0A → ⊥) × (halfwidthOf c ≡ 0x20 → ⊥) × (halfwidthOf c ≡ 0x3000 → ⊥)
-    go (inl w) = let b = ranges (halfwidthOf c) c w in ((λ e. omega (arith, b .least)), (λ e. omega (arith, b .least)), (λ e. omega (arith, b .greatest)))
-    go (inr own) = ((λ e. p (sym (own .same) ∙ e)), (λ e. q (sym (own .same) ∙ e)), (λ e. r (sym (own .same) ∙ e)))
+    go : Widths (halfwidthOf c) c ⊎ Own c → Without (halfwidthOf c ∷ [])
+    go (inl w) = let b = ranges (halfwidthOf c) c w in ((λ e. omega (arith, b .least)), (λ e. omega (arith, b .least)), (λ e. omega (arith, b .greatest)), tt)
+    go (inr own) = rw (own .same) n
 
 pub key-without : KeyWithout
 unfolding keyText keyChar kept
@@ -35,7 +35,7 @@ key-without (c ∷ cs) = go (eqb c 0x0A) (eqb c 0x20) (eqb c 0x3000) refl refl r
     go false true d p q r w = w
     go false false true p q r w = w
     go false false false p q r w =
-        let h = half-without c (eqb-false c 0x0A p) (eqb-false c 0x20 q) (eqb-false c 0x3000 r) in
+        let h = half-without c (eqb-false c 0x0A p, eqb-false c 0x20 q, eqb-false c 0x3000 r, tt) in
         (h .0, h .1, h .2, w)
 
 -- what stands for a character is no form of the 94, which end before their forms begin
@@ -56,14 +56,6 @@ key-halfwidth (c ∷ cs) = go (eqb c 0x0A || eqb c 0x20 || eqb c 0x3000) (key-ha
     go false h = (half-halfwidth c, h)
 
 -- ---- the key of a key
-
--- what is the form of none of the 94 is itself
-itself : (c : ℕ) → ((half : ℕ) → Widths half c → ⊥) → halfwidthOf c ≡ c
-itself c n = go (halved c)
-  where
-    go : Widths (halfwidthOf c) c ⊎ Own c → halfwidthOf c ≡ c
-    go (inl w) = absurd (n (halfwidthOf c) w)
-    go (inr own) = own .same
 
 -- a character that is none of the three has its place in the key
 kept-first : (c : ℕ) (cs : List ℕ) → Without (c ∷ cs) → keyText (c ∷ cs) ≡ halfwidthOf c ∷ keyText cs

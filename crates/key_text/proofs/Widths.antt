@@ -83,6 +83,14 @@ halved c = go (searched alphanumericTable c)
           same = n .answer;
         })
 
+-- what is the form of none of the 94 is itself
+pub itself : (c : ℕ) → ((half : ℕ) → Widths half c → ⊥) → halfwidthOf c ≡ c
+itself c n = go (halved c)
+  where
+    go : Widths (halfwidthOf c) c ⊎ Own c → halfwidthOf c ≡ c
+    go (inl w) = absurd (n (halfwidthOf c) w)
+    go (inr own) = own .same
+
 -- ---- one test of the 94
 
 module _ (f : ℕ → Bool) where
@@ -142,8 +150,4 @@ in-run c a b n =
 
 -- what is outside of them is itself
 pub out-of-run : (c : ℕ) → (c ≡ 0xFFE5 → ⊥) → (0xFF01 ≤ c → c ≤ 0xFF5E → ⊥) → halfwidthOf c ≡ c
-out-of-run c n o = go (halved c)
-  where
-    go : Widths (halfwidthOf c) c ⊎ Own c → halfwidthOf c ≡ c
-    go (inl w) = let r = ranges (halfwidthOf c) c w in absurd (o (r .from) (r .to n))
-    go (inr own) = own .same
+out-of-run c n o = itself c (λ half w. let r = ranges half c w in o (r .from) (r .to n))
