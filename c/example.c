@@ -1,4 +1,5 @@
-/* Reads, codes and keys a title: the calls of arib_text.h, as a test. c/test builds and runs it. */
+/* Reads, codes and keys a title, and asks whether it is clean: the calls of arib_text.h, as a test.
+ * c/test builds and runs it. */
 #include <assert.h>
 #include <stdio.h>
 #include <string.h>
@@ -81,6 +82,27 @@ static void keys(void)
     printf("0E 41 and 89 0E 41 have the key %s\n", (const char *)key);
 }
 
+static void asks(void)
+{
+    const uint8_t title[] = {0x24, 0xA2}, mark[] = {0x21, 0x2D, 0xA2};
+    size_t counts[3] = {7, 7, 7};
+    uint32_t refused = arib_clean(cells, 8836, 0, 0, title, 2, counts, 3);
+    assert(refused == 0 && counts[0] == 0 && counts[1] == 0 && counts[2] == 7);
+    printf("24 A2 %s without issue\n", counts[1] ? "reads" : "does not read");
+    refused = arib_clean(cells, 8836, 0, 0, mark, 3, counts, 2);
+    assert(refused == 0 && counts[0] == 0 && counts[1] == 1);
+    refused = arib_clean(cells, 8836, 0, 0, mark, 2, counts, 2);
+    assert(refused == 0 && counts[0] == 0 && counts[1] == 0);
+
+    counts[1] = 7;
+    refused = arib_clean(cells, 8836, 0, 0, mark, 3, counts, 1);
+    assert(refused == 0 && counts[1] == 7);
+    refused = arib_clean(cells, 8836, 0, 2, mark, 3, counts, 2);
+    assert(refused == 2 && counts[0] == 0 && counts[1] == 0);
+    refused = arib_clean(cells, 8835, 0, 2, mark, 3, counts, 2);
+    assert(refused == 1 && counts[0] == 0 && counts[1] == 0);
+}
+
 int main(int argc, char **argv)
 {
     assert(argc == 2);
@@ -89,5 +111,6 @@ int main(int argc, char **argv)
     finds_an_escape();
     codes();
     keys();
+    asks();
     return 0;
 }

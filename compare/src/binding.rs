@@ -7,8 +7,8 @@ mod texts;
 mod types;
 
 use ours::{
-    AribString, Coded, DecodeOptions, Decoded, EncodeError, EncodeOptions, Refused, code_with,
-    decode_with, encode_with, key_with, try_decode_with,
+    AribString, Coded, DecodeOptions, Decoded, EncodeError, EncodeOptions, Refused, clean_with,
+    code_with, decode_with, encode_with, key_with, try_decode_with,
 };
 
 use crate::runs::{self, Part};
@@ -50,6 +50,7 @@ pub struct Calls {
     pub decode: fn(&[u8], &DecodeOptions) -> Decoded,
     pub try_decode: fn(&[u8], &DecodeOptions) -> Result<Decoded, Refused>,
     pub key: fn(&[u8], &DecodeOptions) -> Result<String, Refused>,
+    pub clean: fn(&[u8], &DecodeOptions) -> Result<bool, Refused>,
     pub encode: fn(&str, &EncodeOptions) -> Result<AribString, EncodeError>,
     pub code: fn(&str, &EncodeOptions) -> Result<Coded, EncodeError>,
 }
@@ -59,6 +60,7 @@ pub const CALLS: Calls = Calls {
     decode: decode_with,
     try_decode: try_decode_with,
     key: key_with,
+    clean: clean_with,
     encode: encode_with,
     code: code_with,
 };

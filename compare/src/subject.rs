@@ -35,6 +35,10 @@ pub trait Subject: Sync {
     /// `arib_key`: the refusal's number, or 0. The first three counts are place, length and
     /// charge.
     fn key(&self, call: Call, key: &mut [u8], counts: &mut [usize]) -> u32;
+
+    /// `arib_clean`: the refusal's number, or 0. The first two counts are the place, and 1 for a
+    /// reading without issue or 0.
+    fn clean(&self, call: Call, counts: &mut [usize]) -> u32;
 }
 
 /// The model, which is always there.

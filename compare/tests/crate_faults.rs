@@ -86,6 +86,26 @@ fn faults_in_a_key() {
     assert!(read(refused, &[0xA2]).is_some());
 }
 
+#[test]
+fn faults_in_clean() {
+    let yes = Calls { clean: |_, _| Ok(true), ..CALLS };
+    let no = Calls { clean: |_, _| Ok(false), ..CALLS };
+    let refused = Calls { clean: |_, _| Err(Refused { number: 10, place: 0 }), ..CALLS };
+    assert!(read(yes, &INPUT).is_some());
+    assert!(read(no, &[0xA2]).is_some());
+    assert!(read(refused, &INPUT).is_some());
+    assert!(read(refused, &[0xA2]).is_some());
+}
+
+/// Marks that wait at the end, which a character behind them would take.
+#[test]
+fn marks_that_are_forgotten() {
+    let clean = |bytes: &[u8], options: &_| (CALLS.clean)(&[bytes, &[0xA2]].concat(), options);
+    let calls = Calls { clean, ..CALLS };
+    assert_eq!(read(calls, &[0xA2]), None);
+    assert!(read(calls, &[0xA2, 0x21, 0x2D]).is_some());
+}
+
 type Encode = fn(&str, &EncodeOptions) -> Result<AribString, EncodeError>;
 
 #[test]
@@ -127,5 +147,6 @@ fn faults_in_what_is_too_long() {
     assert!(!too_long(CALLS));
     assert!(too_long(Calls { try_decode: |_, _| Ok(Decoded::default()), ..CALLS }));
     assert!(too_long(Calls { key: |_, _| Err(Refused { number: 8, place: 0 }), ..CALLS }));
+    assert!(too_long(Calls { clean: |_, _| Ok(true), ..CALLS }));
     assert!(too_long(Calls { encode: |_, _| Ok(AribString::default()), ..CALLS }));
 }

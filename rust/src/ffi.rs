@@ -57,6 +57,8 @@ calls! {
     encode = arib_encode(store: u32, coding: u8);
     /// Counts: place, bytes of the key, charge.
     key = arib_key(key: u8);
+    /// Counts: place, 1 for a clean title and 0 for another.
+    clean = arib_clean();
 }
 
 unsafe extern "C" {

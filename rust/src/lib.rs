@@ -21,11 +21,13 @@
 //! ```
 //!
 //! Beside what isdb-text has: [`code_with`] gives the gap, a bound on how much shorter any other
-//! coding of the text could be; [`key_with`] gives the key of a title; [`try_decode_with`] says
-//! which question an input fails instead of panicking.
+//! coding of the text could be; [`key_with`] gives the key of a title; [`clean_with`] says whether
+//! a title reads without issue, and stops at the first; [`try_decode_with`] says which question an
+//! input fails instead of panicking.
 
 mod buffers;
 mod cells;
+pub mod clean;
 pub mod decode;
 pub mod encode;
 #[doc(hidden)]
@@ -33,6 +35,7 @@ pub mod ffi;
 pub mod key;
 pub mod sets;
 
+pub use clean::clean_with;
 pub use decode::{
     DecodeOptions, Decoded, Issue, IssueKind, Refused, WidthMode, decode_with, try_decode_with,
 };

@@ -13,6 +13,8 @@ pub enum Work {
     Decode(Rooms),
     /// With room for so many bytes of the text before removal.
     Key(usize),
+    /// Whether there is an issue. It is lent nothing.
+    Clean,
     /// In one store and one buffer that serve all texts of the case.
     Code,
 }
@@ -42,11 +44,12 @@ impl Case {
 }
 
 impl Ready {
-    /// The lengths of what is lent: text and issues, the key alone, or store and coding.
+    /// The lengths of what is lent: text and issues, the key alone, nothing, or store and coding.
     pub fn rooms(&self) -> [usize; 2] {
         match self.work {
             Work::Decode(Rooms { text, issues }) => [text, issues],
             Work::Key(text) => [text, 0],
+            Work::Clean => [0, 0],
             Work::Code => {
                 let CodingRooms { store, coding } = self.greatest();
                 [store, coding]
@@ -74,19 +77,35 @@ const MACROS: Rooms = Rooms { text: 3 * (65 * LONGEST + 4_096), issues: 4_096 };
 
 const TITLES: Case =
     Case { name: "titles", work: Work::Decode(TITLE), initial: 0, inputs: titles::all, passes: 50 };
+const KANJI: Case = large("kanji", || vec![kanji()], PLAIN, 5);
+const KANA: Case = large("kana", || vec![kana()], PLAIN, 5);
 const MIXED: Case = large("mixed", || vec![mixed()], PLAIN, 5);
+const MACRO_KANA: Case = large("macro-kana", || vec![macro_kana()], MACROS, 1);
+const MACRO_ONE_BYTE: Case =
+    large("macro-one-byte", || vec![bombs::chain(&[&[0xA2], &[0x21; 32]], LONGEST)], MACROS, 1);
+const MACRO_EMPTY: Case =
+    large("macro-empty", || vec![bombs::chain(&[&[], &[0x21; 64]], LONGEST)], MACROS, 1);
 
-/// All cases: of decoding, of keys, of coding.
-pub const CASES: [Case; 14] = [
+/// All cases: of decoding, of keys, of clean titles, of coding.
+pub const CASES: [Case; 23] = [
     TITLES,
-    large("kanji", || vec![kanji()], PLAIN, 5),
-    large("kana", || vec![kana()], PLAIN, 5),
+    KANJI,
+    KANA,
     MIXED,
-    large("macro-kana", || vec![bombs::called(&[0xA2; 65], LONGEST)], MACROS, 1),
-    large("macro-one-byte", || vec![bombs::chain(&[&[0xA2], &[0x21; 32]], LONGEST)], MACROS, 1),
-    large("macro-empty", || vec![bombs::chain(&[&[], &[0x21; 64]], LONGEST)], MACROS, 1),
+    MACRO_KANA,
+    MACRO_ONE_BYTE,
+    MACRO_EMPTY,
     Case { name: "key-titles", work: Work::Key(TITLE.text), ..TITLES },
     Case { name: "key-mixed", work: Work::Key(PLAIN.text), ..MIXED },
+    clean("clean-titles", TITLES),
+    clean("clean-kanji", KANJI),
+    clean("clean-kana", KANA),
+    clean("clean-mixed", MIXED),
+    clean("clean-macro-kana", MACRO_KANA),
+    clean("clean-macro-one-byte", MACRO_ONE_BYTE),
+    clean("clean-macro-empty", MACRO_EMPTY),
+    clean("clean-first-long", Case { inputs: || vec![behind_issue(kana())], ..KANA }),
+    clean("clean-first-macro", Case { inputs: || vec![behind_issue(macro_kana())], ..MACRO_KANA }),
     coded("code-titles", 0, || titles::texts().into_iter().map(Vec::from).collect(), 1),
     coded("code-lines", 1, || vec![long::caption(700).into()], 1),
     coded("code-caption", 1, || vec![long::caption(7_000).into()], 0),
@@ -102,6 +121,11 @@ const fn large(
     passes: u32,
 ) -> Case {
     Case { name, work: Work::Decode(rooms), initial: 1, inputs, passes }
+}
+
+/// The same inputs, asked for issues.
+const fn clean(name: &'static str, of: Case) -> Case {
+    Case { name, work: Work::Clean, ..of }
 }
 
 /// Texts to code.
@@ -124,6 +148,18 @@ fn kanji() -> Vec<u8> {
 /// Hiragana in GR, over and over.
 fn kana() -> Vec<u8> {
     (0xA1..=0xF3).cycle().take(LONGEST).collect()
+}
+
+/// A body of 65 kana, called until the budget is spent.
+fn macro_kana() -> Vec<u8> {
+    bombs::called(&[0xA2; 65], LONGEST)
+}
+
+/// An undefined control, and all of an input but its last byte.
+fn behind_issue(mut input: Vec<u8>) -> Vec<u8> {
+    input.rotate_right(1);
+    input[0] = 0xA0;
+    input
 }
 
 /// Lines as a caption has them: colours, sizes, kanji, kana, katakana by designation, letters by

@@ -12,7 +12,8 @@ use crate::subject::{CodingLent, Lent, Subject};
 /// Who does the work of a case.
 #[derive(Clone, Copy, PartialEq, Eq)]
 pub enum Side {
-    /// isdb-text. It has no call for keys: it decodes, and the key is made of its text.
+    /// isdb-text. It has no call for keys or for clean titles: it decodes, and the key is made of
+    /// its text, or its list of issues is empty or not.
     Rust,
     /// The subject, question 1 included.
     Subject,
@@ -54,6 +55,9 @@ fn rust(case: &Ready) -> Runner<'_> {
         Work::Key(_) => each(&case.inputs, move |input| {
             drop(black_box(key(&decode_with(input, &decoding).text)));
         }),
+        Work::Clean => each(&case.inputs, move |input| {
+            black_box(decode_with(input, &decoding).issues.is_empty());
+        }),
         Work::Code => {
             let text = |input| str::from_utf8(input).expect("a text");
             let texts: Vec<&str> = case.inputs.iter().map(|input| text(input)).collect();
@@ -80,6 +84,9 @@ fn own<'a>(subject: &'a dyn Subject, case: &'a Ready) -> Runner<'a> {
                 assert_eq!(subject.key(Call { input, ..call }, &mut buffer, &mut [0; 3]), 0);
             })
         }
+        Work::Clean => each(&case.inputs, move |input| {
+            assert_eq!(subject.clean(Call { input, ..call }, &mut [0; 2]), 0);
+        }),
         Work::Code => {
             let (mut store, mut coding) = (vec![0; first], vec![0; second]);
             each(&case.inputs, move |input| {

@@ -23,7 +23,7 @@ pub fn print(subject: &dyn Subject) {
     coding.into_iter().for_each(|case| measured(subject, case, 0.0));
 }
 
-/// Question 1 alone. It is taken off the rows of decoding and of keys.
+/// Question 1 alone. It is taken off the rows of decoding, of keys and of clean titles.
 fn question(subject: &dyn Subject) -> f64 {
     let ready = CASES[0].ready();
     let [question] = times([Side::Question.runner(subject, &ready)], ready.inputs.len());
@@ -51,7 +51,7 @@ fn row(name: &str, sizes: [usize; 4], rust: f64, own: f64) {
 
 fn line([name, words @ ..]: [&str; 8]) {
     let words = words.map(|word| format!("{word:>12}"));
-    println!("{name:<14}{}", words.concat());
+    println!("{name:<20}{}", words.concat());
 }
 
 /// The median nanoseconds a call of the sides, taken in turn.

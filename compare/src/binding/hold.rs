@@ -42,13 +42,15 @@ impl Holder {
         self.reading(call).map(drop)
     }
 
-    /// Text, issues with all their fields, and the key.
+    /// Text, issues with all their fields, the key, and whether there is no issue.
     fn reading(&mut self, call: Call) -> Result<Decoded, Difference> {
         let (calls, own) = (self.calls, decode_options(&call));
         let reading = decoded(decode_with(call.input, &call.options().into()));
         same("reading", &call, &reading, || (calls.decode)(call.input, &own))?;
         let key = if reading.issues.is_empty() { Ok(key(&reading.text)) } else { refused(10) };
         same("key", &call, &key, || (calls.key)(call.input, &own))?;
+        let clean = Ok(reading.issues.is_empty());
+        same("clean", &call, &clean, || (calls.clean)(call.input, &own))?;
         self.tally.readings += 1;
         self.tally.issues += reading.issues.len() as u64;
         self.tally.keys += u64::from(key.is_ok());
@@ -82,6 +84,7 @@ impl Holder {
         let (calls, own) = (self.calls, decode_options(&call));
         same("reading", &call, &refused(3), || (calls.try_decode)(call.input, &own))?;
         same("key", &call, &refused(3), || (calls.key)(call.input, &own))?;
+        same("clean", &call, &refused(3), || (calls.clean)(call.input, &own))?;
         let (call, own) = (Call { input: text.as_bytes(), ..call }, encode_options(&call));
         same("coding", &call, &Err(EncodeError::TooLong), || (calls.encode)(text, &own))?;
         same("coding with its gap", &call, &Err(EncodeError::TooLong), || (calls.code)(text, &own))

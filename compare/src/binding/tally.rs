@@ -6,9 +6,9 @@ use crate::tally::tally;
 
 tally! {
     pub struct Tally {
-        /// Inputs decoded and keyed, once for each pair of options.
+        /// Inputs decoded, keyed and asked for issues, once for each pair of options.
         pub readings: u64,
-        /// Their issues, and how many have a key.
+        /// Their issues, and how many have a key: those that are clean.
         pub issues: u64,
         pub keys: u64,
         /// Texts coded or refused, likewise; how many were decoded again, how many have a gap.

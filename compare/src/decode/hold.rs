@@ -1,6 +1,7 @@
 //! One call held: the model against the Rust, then the subject against the model, so that the
 //! subject is held against both.
 
+mod clean;
 mod key;
 mod rust;
 
@@ -13,6 +14,8 @@ use crate::difference::{Held, digits, held};
 use crate::model::Reading;
 use crate::runs::Worker;
 use crate::subject::Subject;
+
+pub use clean::{AMPLE, COUNTS};
 
 /// What a thread keeps from call to call.
 pub struct Holder<'a> {
@@ -54,7 +57,8 @@ impl Holder<'_> {
     }
 
     /// Reads with the model and with the Rust: text, issues with their fields, and the bytes of
-    /// unknown escapes as the subject hands them back. The table is the Rust's.
+    /// unknown escapes as the subject hands them back. Then `arib_clean`, by the Rust's issues.
+    /// The table is the Rust's.
     pub fn read_both(&mut self, call: Call) -> Held {
         self.read(call);
         self.tally.rust += 1;
@@ -64,7 +68,8 @@ impl Holder<'_> {
             .or_else(|| self.part_fault(&rust, call.input));
         held(fault, &call, |difference| {
             difference.line("rust", rust::words(&rust)).line("model", words(&self.reading))
-        })
+        })?;
+        self.clean_answer(call, AMPLE, Ok(rust.issues.is_empty()))
     }
 
     /// `arib_decode` with these rooms, after a reading.
@@ -72,12 +77,13 @@ impl Holder<'_> {
         self.decode(call, rooms, rooms.questions(&self.reading))
     }
 
-    /// `arib_decode` and `arib_key` on a call that one of questions 1 to 3 refuses with this
-    /// number.
+    /// `arib_decode`, `arib_key` and `arib_clean` on a call that one of questions 1 to 3 refuses
+    /// with this number.
     pub fn refused(&mut self, call: Call, rooms: Rooms, number: u32) -> Held {
         assert_eq!(call.questions(), number, "the model's own answer");
         self.decode(call, rooms, number)?;
-        self.key_answer(call, rooms.text, number)
+        self.key_answer(call, rooms.text, number)?;
+        COUNTS.into_iter().try_for_each(|room| self.clean_answer(call, room, Err(number)))
     }
 
     /// `arib_unknown_escape`: the part of the input, or the empty part at its beginning.

@@ -25,6 +25,12 @@ impl Buffers {
         }
     }
 
+    /// So many counts, and no buffers.
+    pub fn lend_counts(&mut self, room: usize) -> &mut [usize] {
+        self.counts = [usize::MAX; 4];
+        &mut self.counts[..room]
+    }
+
     /// The first thing in which the buffers are not as the answer says, if any.
     pub fn fault(&self, given: u32, answer: Answer<Reading>) -> Option<String> {
         let nothing = Reading::default();
@@ -39,6 +45,19 @@ impl Buffers {
     pub fn key_fault(&self, numbers: (u32, u32), key: &[u8], charge: usize) -> Option<String> {
         answer_fault(numbers, &self.counts, &[0, key.len(), charge, usize::MAX])
             .or_else(|| self.text.fault("text byte", key))
+    }
+
+    /// The same of a call that was lent so many counts and leaves two: those that do not fit are
+    /// not written, and the others stay.
+    pub fn counts_fault(
+        &self,
+        numbers: (u32, u32),
+        room: usize,
+        counts: [usize; 2],
+    ) -> Option<String> {
+        let mut expected = [usize::MAX; 4];
+        expected[..room].iter_mut().zip(counts).for_each(|(count, n)| *count = n);
+        answer_fault(numbers, &self.counts, &expected)
     }
 
     /// What the call left, in words.

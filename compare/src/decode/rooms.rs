@@ -1,6 +1,7 @@
 //! Rooms for the last reading.
 
 use super::Holder;
+use super::hold::COUNTS;
 use crate::call::{Call, Rooms};
 use crate::difference::Held;
 use crate::random::Random;
@@ -12,7 +13,7 @@ pub fn ample(holder: &Holder, random: &mut Random) -> Rooms {
 }
 
 /// `arib_decode` in exact rooms; with remainders of the issue buffer; with one byte, one number
-/// and one issue less. Then `arib_key`.
+/// and one issue less. Then `arib_key` and `arib_clean`.
 pub fn all_rooms(holder: &mut Holder, call: Call) -> Held {
     let Rooms { text, issues } = Rooms::exact(holder.reading());
     let rooms = |text, issues| Rooms { text, issues };
@@ -30,7 +31,8 @@ pub fn all_rooms(holder: &mut Holder, call: Call) -> Held {
     if text > 0 && issues > 0 {
         holder.run(call, rooms(text - 1, issues - 1))?;
     }
-    key_rooms(holder, call)
+    key_rooms(holder, call)?;
+    clean_rooms(holder, call)
 }
 
 /// `arib_key` in a buffer for the text before removal: one byte less, exactly full, with more.
@@ -38,4 +40,9 @@ pub fn key_rooms(holder: &mut Holder, call: Call) -> Held {
     let text = holder.reading().text.len();
     let less = text.checked_sub(1).into_iter();
     less.chain([text, text + 5]).try_for_each(|room| holder.key(call, room))
+}
+
+/// `arib_clean` with each number of counts.
+pub fn clean_rooms(holder: &mut Holder, call: Call) -> Held {
+    COUNTS.into_iter().try_for_each(|room| holder.clean(call, room))
 }

@@ -1,6 +1,6 @@
 //! Other cell tables that question 1 lets through, against the model.
 
-use super::rooms::{all_rooms, key_rooms};
+use super::rooms::{all_rooms, clean_rooms, key_rooms};
 use super::{Found, Holder, Runs};
 use crate::call::{Call, OPTIONS, Rooms};
 use crate::difference::Held;
@@ -37,6 +37,7 @@ fn every_cell(holder: &mut Holder, cells: &[u16]) -> Held {
         holder.read(call);
         holder.run(call, Rooms::exact(holder.reading()))?;
         key_rooms(holder, call)?;
+        clean_rooms(holder, call)?;
     }
     Ok(())
 }

@@ -20,6 +20,9 @@ tally! {
         pub answers: [u64; 11],
         /// Calls of `arib_key` by refusal number, likewise.
         pub keys: [u64; 11],
+        /// Calls of `arib_clean`, likewise, and how many of them on inputs without issue.
+        pub asked: [u64; 4],
+        pub clean: u64,
         /// Bytes of the longest text, and the greatest charge.
         pub longest: Greatest,
         pub charge: Greatest,
@@ -38,6 +41,13 @@ impl Display for Tally {
         write!(f, "  calls by number:{}", by_number(&self.answers))?;
         let keys = self.keys.iter().sum::<u64>();
         write!(f, "\n  {keys} calls for keys, by number:{}", by_number(&self.keys))?;
+        let Tally { asked, clean, .. } = self;
+        let calls = asked.iter().sum::<u64>();
+        write!(
+            f,
+            "\n  {calls} calls of clean, {clean} without issue, by number:{}",
+            by_number(asked)
+        )?;
         write!(f, "\n  issues by kind:{}", by_number(&self.kinds))
     }
 }

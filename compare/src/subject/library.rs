@@ -24,6 +24,10 @@ impl Subject for Library {
     fn key(&self, call: Call, key: &mut [u8], counts: &mut [usize]) -> u32 {
         ffi::key(given(call), key, counts)
     }
+
+    fn clean(&self, call: Call, counts: &mut [usize]) -> u32 {
+        ffi::clean(given(call), counts)
+    }
 }
 
 fn given(Call { cells, initial, width, input }: Call) -> ffi::Call {

@@ -8,10 +8,18 @@ pub struct Faulty {
     /// Of decoding, and of keys, which have no issues.
     pub reading: fn(&mut Lent, &mut u32),
     pub coding: fn(&mut CodingLent, &mut u32),
+    /// The whole of `arib_clean`.
+    pub clean: Clean,
 }
 
+pub type Clean = fn(Call, &mut [usize]) -> u32;
+
 /// The model but for the parts.
-pub const SOUND: Faulty = Faulty { reading: |_, _| {}, coding: |_, _| {} };
+pub const SOUND: Faulty = Faulty {
+    reading: |_, _| {},
+    coding: |_, _| {},
+    clean: |call, counts| model().clean(call, counts),
+};
 
 impl Subject for Faulty {
     fn decode(&self, call: Call, mut lent: Lent) -> u32 {
@@ -37,5 +45,9 @@ impl Subject for Faulty {
         let counts = counts.try_into().unwrap();
         (self.reading)(&mut Lent { text: key, issues: &mut [], counts }, &mut refusal);
         refusal
+    }
+
+    fn clean(&self, call: Call, counts: &mut [usize]) -> u32 {
+        (self.clean)(call, counts)
     }
 }

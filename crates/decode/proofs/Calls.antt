@@ -1,12 +1,12 @@
 -- The decoding call: from what was written to the answer, and the refusals.
 use Prim.Native.Nat.{ℕ, zero, suc, _*_, _≤_, _<_}
 use mathlib.Core.Path.{_≡_, refl, sym, ap, _∙_, subst}
-use mathlib.Core.Bool.{Bool, false, cond}
-use mathlib.Core.List.{List, [], _∷_, _++_, append-nil}
+use mathlib.Core.List.{List, [], _++_, append-nil}
+use mathlib.Core.Logic.{inl, inr}
 use native.Mathlib.Omega.{arith}
 use borrow.Author.Tests.{le-leb, lt-leb}
 use lib.Dec.{eqb}
-use lib.ListN.{length, replicate}
+use lib.ListN.{length}
 use lib.Seq.{sets, length-sets}
 use Rattle.utf8.specs.Utf8.{utf8s}
 use Rattle.questions.specs.Questions.{firstRefusal, decodeLimit}
@@ -14,23 +14,20 @@ use Rattle.questions.specs.Buffer.{padded, cleared}
 use Rattle.questions.proofs.Buffers.{clear-past}
 use Rattle.issues.specs.Issue.{issuesNumbers}
 use Rattle.decode_output.specs.declared.Out.{Out}
-use Rattle.decode_output.specs.Output.{Output, nothing, release}
+use Rattle.decode_output.specs.Output.{Output, release}
 use Rattle.decode_output.specs.Contracts as output
-use Rattle.decode_output.proofs.Callers.{holds-nothing}
 use Rattle.decode_output.proofs.Counts.{length-numbers}
 use Rattle.reading.specs.State.{Given, State, start, writes}
-use Rattle.reading.specs.Macros.{limit}
 use Rattle.reading.specs.Steps.{decode, run}
 use Rattle.reading.specs.Call.{Lent, Outcome, reading, textBytes, issueList, fits, refusal, outcomeOf, outcome}
 use Rattle.decode_state.specs.declared.Core.{Core}
 use Rattle.decode_state.specs.declared.Decoder.{Decoder}
-use Rattle.decode_state.specs.Contracts.{whole, Holds}
+use Rattle.decode_state.specs.Contracts.{startOf, undefined, whole, Holds, HoldsOrCut}
+use Rattle.decode_state.proofs.Begun.{holds-start}
 use Rattle.decode.specs.declared.call.Answer.{Answer}
 use Rattle.decode.specs.declared.call.Answer.the-variants.{Decoded}
 use Rattle.decode_output.proofs.Held.{release-marks}
-use Rattle.decode_bodies.specs.Contracts.{Grown}
-use Rattle.decode_outer.specs.Contracts.{Outside, TopRan}
-use Rattle.decode_outer.proofs.Defining.{inside-start}
+use Rattle.decode_outer.specs.Contracts.{TopRan}
 use Rattle.decode.specs.Answers.{fitsIn, numberOf, placeOf, textOf, issuesOf, chargedOf, lent, Refuses, Answers, Answered}
 
 -- ---- the answer, from what was written
@@ -167,54 +164,24 @@ refused c (suc q) r ti ii t i z k a b v =
       listed = v .issues ∙ ap (λ (n : ℕ). padded n []) b ∙ sym (ap (λ (y : Outcome). y .issueBuffer) x);
     }
 
--- ---- the start
-
-abbrev startCore : ℕ → Bool → Core
-startCore g3 annex = record { sets = 0 ∷ 1 ∷ 2 ∷ g3 ∷ []; gl = 0; gr = 2; narrow = false; annex = annex; charged = 0; out = output.outOf nothing }
-
-abbrev pub startOf : ℕ → Bool → Decoder
-startOf g3 annex = whole (startCore g3 annex) (replicate 128 0) (replicate 128 0)
-
-holds-start : (g : Given) (initial : ℕ) (t i : List ℕ) → Holds g t i (start initial) (startOf (cond (eqb initial 0) 3 15) (g .annexE)) t i
-unfolding start
-holds-start g initial t i = record { state = refl; out = holds-nothing t i }
-
--- no macro is defined yet, and there is room for all steps
-pub outside-start : (input : List ℕ) (g3 : ℕ) (annex : Bool) → length input ≤ 65535 → Outside input (length input) (startOf g3 annex)
-unfolding limit nothing utf8s
-outside-start input g3 annex h = record {
-  short = h;
-  inside = inside-start input;
-  ready = record {
-    gl = omega arith;
-    gr = omega arith;
-    within = omega arith;
-    room = record { ordered = omega arith; repeat = omega arith; text = omega arith; issues = omega arith };
-  };
-}
-
--- after all steps there is room for the release of the marks
-pub room-end : {cells input : List ℕ} {d : Decoder} {t i : List ℕ} {r : Decoder} {t′ i′ : List ℕ} (g3 : ℕ) (annex : Bool) → length input ≤ 65535 → d ≡ startOf g3 annex
-    → TopRan cells input d t i r t′ i′ → output.Room 0 1 (r .core .out)
-unfolding limit nothing utf8s
-room-end {input = input} {r = r} g3 annex h e v =
-    let w : Grown (limit input) (length input) (startCore g3 annex) (r .core) =
-    subst (λ (z : Decoder). Grown (limit input) (length input) (z .core) (r .core)) e (v .grown) in
-    record { ordered = w .ordered; repeat = w .repeat; text = omega (arith, w .text); issues = omega (arith, w .issues) }
-
 -- from the start, by all steps and the release of the marks, to the answer
-module _ (cells : List ℕ) (initial width : ℕ) (input t i : List ℕ) (d r : Decoder) (t₁ i₁ : List ℕ) (o : Out) (i₂ : List ℕ) (a : Answer) (t₃ i₃ : List ℕ) where
-  pub checked : firstRefusal cells initial width decodeLimit (length input) ≡ 0 → d ≡ startOf (cond (eqb initial 0) 3 15) (eqb width 1)
-      → TopRan cells input d t i r t₁ i₁ → output.Wrote 0 1 release (r .core .out) t₁ i₁ o t₁ i₂
-      → ((t₀ i₀ : List ℕ) (x : Output) → x .marks ≡ [] → output.Holds t₀ i₀ x o t₁ i₂ → Answers x (r .core .charged) (length t₀) (length i₀) a t₃ i₃)
+module _ (cells : List ℕ) (initial width : ℕ) (input t i : List ℕ) (d r : Core) (t₁ i₁ : List ℕ) (o : Out) (i₂ : List ℕ) (a : Answer) (t₃ i₃ : List ℕ) where
+  pub checked : firstRefusal cells initial width decodeLimit (length input) ≡ 0 → d ≡ startOf initial width 0xFFFFFFFF → r .enough ≡ 0xFFFFFFFF
+      → r .out .issues ≤ 4263871 → TopRan cells input d t i r t₁ i₁ → output.Wrote 0 1 release (r .out) t₁ i₁ o t₁ i₂
+      → ((t₀ i₀ : List ℕ) (x : Output) → x .marks ≡ [] → output.Holds t₀ i₀ x o t₁ i₂ → Answers x (r .charged) (length t₀) (length i₀) a t₃ i₃)
       → Answered (lent cells initial width input t i) a t₃ i₃
   unfolding reading decode writes
-  checked z e top flush finish =
+  checked z e p m top flush finish =
       let g : Given = record { cells = cells; annexE = eqb width 1; input = input } in
       let s : State = run g 4 input 0 0 (start initial) in
-      let begun : Holds g t i (start initial) d t i = subst (λ (x : Decoder). Holds g t i (start initial) x t i) (sym e) (holds-start g initial t i) in
-      let h : Holds g t i s r t₁ i₁ = top .does g refl refl t i (start initial) begun in
+      let begun : Holds g t i (start initial) (undefined d) t i = subst (λ (x : Core). Holds g t i (start initial) (undefined x) t i) (sym e) (holds-start cells input initial width 0xFFFFFFFF t i) in
+      let h : Holds g t i s (whole r (top .starts) (top .lens)) t₁ i₁ = uncut g s (top .ran .does g refl refl t i (start initial) begun) in
       let k : output.Holds t i (release (s .out)) o t₁ i₂ = flush .does t i (s .out) (h .out) in
-      let v : Answers (release (s .out)) (r .core .charged) (length t) (length i) a t₃ i₃ = finish t i (release (s .out)) (release-marks (s .out)) k in
-      let charge : r .core .charged ≡ s .charged = ap (λ (x : Decoder). x .core .charged) (h .state) in
+      let v : Answers (release (s .out)) (r .charged) (length t) (length i) a t₃ i₃ = finish t i (release (s .out)) (release-marks (s .out)) k in
+      let charge : r .charged ≡ s .charged = ap (λ (x : Decoder). x .core .charged) (h .state) in
       answered (lent cells initial width input t i) a t₃ i₃ z (subst (λ (n : ℕ). Answers (release (s .out)) n (length t) (length i) a t₃ i₃) charge v)
+    where
+      -- it is not cut, since there are not enough issues
+      uncut : (g : Given) (s : State) → HoldsOrCut g t i s (whole r (top .starts) (top .lens)) t₁ i₁ → Holds g t i s (whole r (top .starts) (top .lens)) t₁ i₁
+      uncut g s (inl h) = h
+      uncut g s (inr q) = absurd (omega (arith, p, m, q .ends))

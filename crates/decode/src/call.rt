@@ -1,16 +1,11 @@
 // The decoding call: the questions in order, and every byte of both buffers.
 use decode_output::Out;
-use decode_state::Core;
-use decode_state::Decoder;
 ghost use mathlib.Core.Path.{_≡_};
-ghost use mathlib.Core.Bool.{false, cond};
-ghost use mathlib.Core.List.{List, [], _∷_};
+ghost use mathlib.Core.List.{List, []};
 ghost use Prim.Native.Nat.{ℕ, _≤_};
-ghost use lib.Dec.{eqb};
-ghost use lib.ListN.{length, replicate};
-ghost use Rattle.decode_output.specs.Output.{Output, nothing};
-ghost use Rattle.decode_output.specs.Contracts.{outOf, Holds};
-ghost use Rattle.decode_state.specs.Contracts.{whole};
+ghost use lib.ListN.{length};
+ghost use Rattle.decode_output.specs.Output.{Output};
+ghost use Rattle.decode_output.specs.Contracts.{Holds};
 ghost use Rattle.questions.specs.Questions.{firstRefusal};
 ghost use Rattle.reading.specs.Call.{escapePart};
 ghost use Rattle.decode.specs.Answers.{lent, Refuses, Answers, Answered};
@@ -36,34 +31,6 @@ fn refuse(number: u32, text: &mut [u8], issues: &mut [u32]) -> Answer
     questions::clear(text, 0);
     questions::clear32(issues, 0);
     Answer::Refused { number, place: 0 }
-}
-
-/// The state before the first byte.
-fn start(g3: u8, annex: bool) -> Decoder
-    ensures { λ r. ⌜ r ≡ whole (record { sets = 0 ∷ 1 ∷ 2 ∷ g3 ∷ []; gl = 0; gr = 2; narrow = false; annex = annex; charged = 0; out = outOf nothing }) (replicate 128 0)
-        (replicate 128 0) ⌝ }
-{
-    let core = Core {
-        sets: [0, 1, 2, g3],
-        gl: 0,
-        gr: 2,
-        narrow: false,
-        annex,
-        charged: 0,
-        out: decode_output::start(),
-    };
-    Decoder {
-        core,
-        starts: [0; 128],
-        lens: [0; 128],
-    }
-}
-
-/// The set that G3 starts with. Part 3, Table 8-2; Katakana in SI.
-fn initial_g3(initial: u32) -> u8
-    ensures { λ r. ⌜ r ≡ cond (eqb initial 0) 3 15 ⌝ }
-{
-    if initial == 0 { 3 } else { 15 }
 }
 
 /// What was written, as the answer: too little room is refused with 8 or 9, else what is left of the
@@ -103,17 +70,11 @@ pub fn decode_checked(
     requires { ⌜ firstRefusal (now cells) initial width 65535 (length (now input)) ≡ 0 ⌝ }
     ensures { λ r. ⌜ Answered (lent (now (cells .entry)) initial width (now (input .entry)) (now (text .entry)) (now (issues .entry))) r (now (text .exit)) (now (issues .exit)) ⌝ }
 {
-    let d = decode_outer::top(
-        cells,
-        input,
-        start(initial_g3(initial), width == 1),
-        text,
-        issues,
-    );
-    let core = d.core;
+    let start = decode_state::start(initial, width, decode_state::UNBOUNDED);
+    let core = decode_outer::top(cells, input, start, text, issues);
     let out = core.out;
     let flushed = decode_output::flush_dangling(out, issues);
-    finish(flushed, core.charged, text, issues)
+    finish(flushed, core.charged as usize, text, issues)
 }
 
 /// Decodes a string of the eight-unit code: `decode_with`.

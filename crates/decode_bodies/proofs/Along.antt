@@ -1,18 +1,23 @@
 -- The loops of `run` and of the steps outside every body: the steps from the start, and what each turn adds.
 use Prim.Native.Nat.{ℕ, zero, suc, _+_, _-_, _≤_, _<_}
 use mathlib.Core.Path.{_≡_, refl, sym, ap, _∙_, subst}
-use mathlib.Core.List.{List}
+use mathlib.Core.List.{List, [], append-nil}
+use mathlib.Core.Logic.{inl, inr}
 use native.Mathlib.Nat.{zero-add}
 use native.Mathlib.Numerals.{add-one}
 use native.Mathlib.Omega.{arith}
-use lib.ListN.{length, drop, getD}
+use lib.ListN.{length, drop, getD, length-append}
 use Rattle.reading.specs.State.{Given, State, Step}
 use Rattle.reading.specs.Macros.{limit}
 use Rattle.reading.specs.Steps.{step, steps, run, offset}
+use Rattle.laws_reading.specs.Reading.{Grows}
+use Rattle.laws_reading.specs.Reading as laws
+use Rattle.laws_reading.proofs.Reading.{issues-only-grow}
+use Rattle.decode_output.specs.declared.Out.{Out}
 use Rattle.decode_state.specs.declared.Core.{Core}
 use Rattle.decode_state.specs.declared.Decoder.{Decoder}
-use Rattle.decode_state.specs.Contracts.{whole, Holds, Goes, Stretch}
-use Rattle.decode_state.proofs.Steps.{goes-none, goes-on, goes-end, steps-one}
+use Rattle.decode_state.specs.Contracts.{whole, Holds, Goes, Stretch, Ends, TakenOrCut}
+use Rattle.decode_state.proofs.Steps.{drop-one, goes-none, goes-on, goes-end, steps-one}
 use Rattle.decode_bodies.specs.declared.Place.{Place}
 use Rattle.decode_bodies.specs.Contracts.{below, stepIn, Ready, Grown, Ran, RanStep}
 use Rattle.decode_bodies.proofs.Room.{grown-same, kept-grown, grown-on, grown-more}
@@ -27,6 +32,30 @@ run-steps : (g : Given) (left : ℕ) (b : List ℕ) (base origin : ℕ) (s : Sta
 unfolding below run
 run-steps g zero b base origin s = refl
 run-steps g (suc left) b base origin s = refl
+
+-- ---- issues are only appended to
+
+-- where there are n issues, there are as many later
+has-later : {s t : State} {n : ℕ} → laws.Grown s t → n ≤ length (s .out .issues) → n ≤ length (t .out .issues)
+has-later {s = s} w h = omega (arith, ap length (w .reported), length-append (s .out .issues) (w .issues))
+
+-- as many as the struct counts
+has-counted : {g : Given} {t₀ i₀ : List ℕ} {s : State} {d : Decoder} {t i : List ℕ} {n : ℕ} → Holds g t₀ i₀ s d t i → n ≤ d .core .out .issues → n ≤ length (s .out .issues)
+has-counted h k = omega (arith, k, ap (λ (o : Out). o .issues) (h .out .state))
+
+below-grows : (g : Given) (left : ℕ) → Grows (below g left)
+unfolding below
+below-grows g zero = λ b base origin s. record { text = []; written = sym (append-nil _); issues = []; reported = sym (append-nil _) }
+below-grows g (suc left) = issues-only-grow .run g left
+
+-- steps that have n issues behind the first one have as many
+has-behind : {n : ℕ} (g : Given) (left base origin : ℕ) (b : List ℕ) (j : ℕ) (s : State) → j < length b
+    → n ≤ length (step g left (below g left) (getD b j 0) (drop (j + 1) b) (base + j) (offset origin j) s .to .out .issues)
+    → n ≤ length (steps g left (below g left) base origin (drop j b) j 0 s .out .issues)
+unfolding steps
+has-behind g left base origin b j s h k = rw (drop-one b j h) (has-later (issues-only-grow .steps g left (below g left) (below-grows g left) base origin (drop (j + 1) b) (j + 1) _ _) k)
+
+-- ---- a loop along a body
 
 -- the step at the byte j of b, as `steps` takes it
 abbrev pub stepFrom : ℕ → ℕ → ℕ → List ℕ → ℕ → Given → State → Step
@@ -67,28 +96,51 @@ module _ {cells input : List ℕ} {left base origin : ℕ} {b : List ℕ} {d : D
           as-many = m ∙ w .as-many;
         }
 
-    -- the step at which they stopped
-    pub along-step : {u : ℕ} {d₂ : Decoder} {t₂ i₂ : List ℕ} → Along cells input left base origin b d t i j₁ d₁ t₁ i₁ → j₁ < length b
-        → RanStep cells input b j₁ (stepFrom left base origin b j₁) d₁ t₁ i₁ u d₂ t₂ i₂ → length t₂ ≡ length t₁ → length i₂ ≡ length i₁
-        → Along cells input left base origin b d t i (j₁ + u) d₂ t₂ i₂
-    along-step {u = u} {d₂ = d₂} {t₂ = t₂} {i₂ = i₂} w h v l m = record {
-      within = v .most;
-      grown = grown-more (j₁ + u) (omega (arith, v .some)) (grown-on (w .grown) (v .grown));
-      goes = λ g x y.
-          goes-on g left (below g left) base origin b 0 d t i j₁ d₁ t₁ i₁ (j₁ + u) d₂ t₂ i₂ (w .goes g x y)
-          (λ t₀ i₀ s k. (
-            stepFrom left base origin b j₁ g s .to,
-            (v .does g x y t₀ i₀ s k, sym (steps-one g left (below g left) base origin b j₁ s u h (v .some) (v .used g x y t₀ i₀ s k))),
-          ));
-      as-long = l ∙ w .as-long;
-      as-many = m ∙ w .as-many;
-    }
+    module _ {u : ℕ} {d₂ : Decoder} {t₂ i₂ : List ℕ} (w : Along cells input left base origin b d t i j₁ d₁ t₁ i₁) (h : j₁ < length b)
+        (v : RanStep cells input b j₁ (stepFrom left base origin b j₁) d₁ t₁ i₁ u d₂ t₂ i₂) where
+      -- the step at which they stopped, where the reading goes on
+      pub along-step : (Ends (d₂ .core .enough) (d₂ .core .out .issues) → ⊥) → length t₂ ≡ length t₁ → length i₂ ≡ length i₁
+          → Along cells input left base origin b d t i (j₁ + u) d₂ t₂ i₂
+      along-step n l m =
+          record {
+            within = v .most;
+            grown = grown-more (j₁ + u) (omega (arith, v .some)) (grown-on (w .grown) (v .grown));
+            goes = λ g x y.
+                goes-on g left (below g left) base origin b 0 d t i j₁ d₁ t₁ i₁ (j₁ + u) d₂ t₂ i₂ (w .goes g x y)
+                (λ t₀ i₀ s k. taken g t₀ i₀ s (v .does g x y t₀ i₀ s k));
+            as-long = l ∙ w .as-long;
+            as-many = m ∙ w .as-many;
+          }
+        where
+          taken : (g : Given) (t₀ i₀ : List ℕ) (s : State) → TakenOrCut g t₀ i₀ (stepFrom left base origin b j₁ g s) u d₂ t₂ i₂
+              → (s′ : State) × (Holds g t₀ i₀ s′ d₂ t₂ i₂ × (steps g left (below g left) base origin (drop (j₁ + u) b) (j₁ + u) 0 s′ ≡ steps g left (below g left) base origin (drop j₁ b) j₁ 0 s))
+          taken g t₀ i₀ s (inl q) = (stepFrom left base origin b j₁ g s .to, (q .0, sym (steps-one g left (below g left) base origin b j₁ s u h (v .some) (q .1))))
+          taken g t₀ i₀ s (inr q) = absurd (n (q .ends))
+
+      -- the same, where it ends: the whole run as defined has as many issues
+      pub along-cut : Ends (d₂ .core .enough) (d₂ .core .out .issues) → Ran cells input (length b) (λ g. run g left b base origin) d t i d₂ t₂ i₂
+      along-cut e =
+          record {
+            does = λ g x y t₀ i₀ s k.
+                let p = w .goes g x y t₀ i₀ s k in
+                let c = has-behind g left base origin b j₁ (p .0) h (has g t₀ i₀ (p .0) (v .does g x y t₀ i₀ (p .0) (p .1 .0))) in
+                inr (record {
+                  ends = e;
+                  has = subst (λ (z : State). d₂ .core .enough ≤ length (z .out .issues)) (p .1 .1 ∙ sym (run-steps g left b base origin s)) c;
+                });
+            grown = grown-more (length b) (omega (arith, v .some, v .most)) (grown-on (w .grown) (v .grown));
+          }
+        where
+          has : (g : Given) (t₀ i₀ : List ℕ) (s : State) → TakenOrCut g t₀ i₀ (stepFrom left base origin b j₁ g s) u d₂ t₂ i₂
+              → d₂ .core .enough ≤ length (stepFrom left base origin b j₁ g s .to .out .issues)
+          has g t₀ i₀ s (inl q) = has-counted (q .0) e
+          has g t₀ i₀ s (inr q) = q .has
 
     pub along-end : Along cells input left base origin b d t i j₁ d₁ t₁ i₁ → length b ≤ j₁ → Ran cells input (length b) (λ g. run g left b base origin) d t i d₁ t₁ i₁
     along-end w h = record {
       does = λ g x y t₀ i₀ s k.
-          subst (λ (z : State). Holds g t₀ i₀ z d₁ t₁ i₁) (sym (run-steps g left b base origin s))
-          (goes-end g left (below g left) base origin b 0 d t i j₁ d₁ t₁ i₁ h (w .goes g x y) t₀ i₀ s k);
+          inl (subst (λ (z : State). Holds g t₀ i₀ z d₁ t₁ i₁) (sym (run-steps g left b base origin s))
+          (goes-end g left (below g left) base origin b 0 d t i j₁ d₁ t₁ i₁ h (w .goes g x y) t₀ i₀ s k));
       grown = grown-more (length b) (w .within) (w .grown);
     }
 
@@ -111,3 +163,15 @@ pub outside-step : {cells input : List ℕ} {d : Decoder} {t i : List ℕ} {u : 
 unfolding offset
 outside-step {input = input} left j v =
     step-as (λ g s h. ap (λ (place : ℕ). step g left (below g left) (getD input j 0) (drop (j + 1) input) place j s) (zero-add j)) v
+
+-- ---- no step behind an issue that ends the reading: the one that there would be leaves as many
+
+pub ended-step : {cells input b : List ℕ} {d : Decoder} {t i : List ℕ} (left x : ℕ) (rest : List ℕ) (place at j : ℕ) → Ready (limit input) 1 (d .core) → j < length b
+    → Ends (d .core .enough) (d .core .out .issues) → RanStep cells input b j (λ g. step g left (below g left) x rest place at) d t i 1 d t i
+ended-step left x rest place at j r h e = record {
+  does = λ g c y t₀ i₀ s k.
+      inr (record { ends = e; has = has-later (issues-only-grow .step g left (below g left) (below-grows g left) x rest place at s) (has-counted k e) });
+  some = omega arith;
+  most = omega (arith, h);
+  grown = grown-same r 1;
+}

@@ -16,7 +16,7 @@ use Rattle.reading.specs.Characters.{char1, graphic, graphicOf}
 use Rattle.reading.specs.Macros.{Run, runMacro, runBody, builtin, limit}
 use Rattle.reading.specs.Steps.{run}
 use Rattle.decode_state.specs.declared.Decoder.{Decoder}
-use Rattle.decode_state.specs.Contracts.{whole, Holds}
+use Rattle.decode_state.specs.Contracts.{whole, HoldsOrCut}
 use Rattle.decode_state.proofs.Lift.{holds-charged, withCharged}
 use Rattle.decode_macros.specs.Contracts.{Built}
 use Rattle.decode_macros.proofs.Laws.{builtin-bare}
@@ -70,7 +70,7 @@ module _ (cells input body : List ℕ) (p : Place) (d : Decoder) (t i : List ℕ
         let m : s .charged + length body ≤ limit (g .input) = rw (alike q .charged, y) k in
         let e : runBody g (p .left) (below g (p .left)) body (p .base) (p .at) s ≡ run g (p .left - 1) body (p .base) (p .at + 1) (charge (length body) s) =
         body-runs g (p .left) (below g (p .left)) body (p .base) (p .at) s h m ∙ rw (below-run g (p .left) h, add-one (p .at)) in
-        subst (λ (z : State). Holds g t₀ i₀ z d′ t′ i′) (sym e)
+        subst (λ (z : State). HoldsOrCut g t₀ i₀ z d′ t′ i′) (sym e)
         (v .does g x y t₀ i₀ (charge (length body) s) (holds-charged g (d .starts) (d .lens) t₀ i₀ s (d .core) t i q (length body)));
     grown = grown-body k (v .grown);
   }

@@ -1,6 +1,6 @@
 -- The room that is left as bytes are taken and bodies are charged.
 use Prim.Native.Nat.{ℕ, suc, _+_, _-_, _*_, _≤_, _<_}
-use mathlib.Core.Path.{_≡_}
+use mathlib.Core.Path.{_≡_, refl, _∙_}
 use mathlib.Core.List.{List}
 use native.Mathlib.Omega.{arith}
 use lib.ListN.{length}
@@ -60,6 +60,7 @@ pub grown-same : {n e : ℕ} {c : Core} → Ready n e c → (k : ℕ) → Grown 
 grown-same h k = record {
   gl = h .gl;
   gr = h .gr;
+  enough = refl;
   within = h .within;
   ordered = h .room .ordered;
   repeat = h .room .repeat;
@@ -72,6 +73,7 @@ pub kept-grown : {n e : ℕ} {c r : Core} → c .charged ≤ n → Kept e c r �
 kept-grown h w = record {
   gl = w .gl;
   gr = w .gr;
+  enough = w .enough;
   within = omega (arith, h, w .charged);
   ordered = w .grew .ordered;
   repeat = w .grew .repeat;
@@ -83,6 +85,7 @@ pub grown-on : {n e k : ℕ} {c r q : Core} → Grown n e c r → Grown n k r q 
 grown-on v w = record {
   gl = w .gl;
   gr = w .gr;
+  enough = w .enough ∙ v .enough;
   within = w .within;
   ordered = w .ordered;
   repeat = w .repeat;
@@ -94,6 +97,7 @@ pub grown-more : {n e : ℕ} {c r : Core} (k : ℕ) → e ≤ k → Grown n e c 
 grown-more k h w = record {
   gl = w .gl;
   gr = w .gr;
+  enough = w .enough;
   within = w .within;
   ordered = w .ordered;
   repeat = w .repeat;
@@ -106,6 +110,7 @@ pub grown-body : {n m : ℕ} {c r : Core} → c .charged + m ≤ n → Grown n m
 grown-body k w = record {
   gl = w .gl;
   gr = w .gr;
+  enough = w .enough;
   within = w .within;
   ordered = w .ordered;
   repeat = w .repeat;

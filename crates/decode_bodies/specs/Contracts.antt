@@ -9,7 +9,7 @@ use Rattle.reading.specs.Macros.{Run, endOf, limit}
 use Rattle.reading.specs.Steps.{step, run}
 use Rattle.decode_state.specs.declared.Core.{Core}
 use Rattle.decode_state.specs.declared.Decoder.{Decoder}
-use Rattle.decode_state.specs.Contracts.{Holds, Does}
+use Rattle.decode_state.specs.Contracts.{Holds, DoesOrCut, TakenOrCut}
 use Rattle.decode_bodies.specs.declared.Place.{Place}
 
 -- to run a body one deeper, where `left` more may be opened
@@ -62,21 +62,21 @@ pub record Opens (input starts lens : List ℕ) (p : Place) (e : ℕ) (c : Core)
 pub record Grown (n e : ℕ) (c r : Core) : Type 0 where
   pub gl : r .gl < 4
   pub gr : r .gr < 4
+  pub enough : r .enough ≡ c .enough
   pub within : r .charged ≤ n
   pub ordered : r .out .len ≤ r .out .end
   pub repeat : r .out .repeat ≤ 63
   pub text : r .out .end + 256 * (n - r .charged) ≤ c .out .end + 256 * (n - c .charged + e)
   pub issues : r .out .issues + (n - r .charged) ≤ c .out .issues + (n - c .charged + e)
 
--- from d, t, i to d′, t′, i′ as f goes, e bytes on
+-- from d, t, i to d′, t′, i′ as f goes, e bytes on, or to an issue that ends the reading, where f has as many
 pub record Ran (cells input : List ℕ) (e : ℕ) (f : Given → State → State) (d : Decoder) (t i : List ℕ) (d′ : Decoder) (t′ i′ : List ℕ) : Type 0 where
-  pub does : (g : Given) → g .cells ≡ cells → g .input ≡ input → Does g (f g) d t i d′ t′ i′
+  pub does : (g : Given) → g .cells ≡ cells → g .input ≡ input → DoesOrCut g (f g) d t i d′ t′ i′
   pub grown : Grown (limit input) e (d .core) (d′ .core)
 
 -- the same of a step that takes u bytes, at the byte j of b
 pub record RanStep (cells input b : List ℕ) (j : ℕ) (f : Given → State → Step) (d : Decoder) (t i : List ℕ) (u : ℕ) (d′ : Decoder) (t′ i′ : List ℕ) : Type 0 where
-  pub does : (g : Given) → g .cells ≡ cells → g .input ≡ input → Does g (λ s. f g s .to) d t i d′ t′ i′
-  pub used : (g : Given) → g .cells ≡ cells → g .input ≡ input → (t₀ i₀ : List ℕ) (s : State) → Holds g t₀ i₀ s d t i → u ≡ f g s .used
+  pub does : (g : Given) → g .cells ≡ cells → g .input ≡ input → (t₀ i₀ : List ℕ) (s : State) → Holds g t₀ i₀ s d t i → TakenOrCut g t₀ i₀ (f g s) u d′ t′ i′
   pub some : 1 ≤ u
   pub most : j + u ≤ length b
   pub grown : Grown (limit input) 1 (d .core) (d′ .core)

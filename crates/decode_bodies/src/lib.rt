@@ -51,7 +51,7 @@ fn run_body<'a>(
     if p.left == 0 {
         return decode_characters::report(p.at, IssueKind::MacroLimit, s, issues);
     }
-    let after = s.charged + body.len();
+    let after = s.charged as usize + body.len();
     if after > input.len() * 64 + 4096 {
         return decode_characters::report(p.at, IssueKind::MacroLimit, s, issues);
     }
@@ -59,7 +59,7 @@ fn run_body<'a>(
         return s;
     }
     let mut t = s;
-    t.charged = after;
+    t.charged = after as u32;
     let deeper = Place {
         base: p.base,
         at: p.at,
@@ -189,7 +189,7 @@ fn macro_cmd(b: &[u8], i: usize, at: u32, s: Core, issues: &mut [u32]) -> Steppe
     }
 }
 
-/// The step at which plain steps stopped, at the byte i of a body.
+/// The step at which plain steps stopped, at the byte i of a body; none behind an issue that ends the reading.
 fn turn<'a>(
     cells: &[u16],
     input: &[u8],
@@ -221,11 +221,12 @@ fn turn<'a>(
             }
         }
         Stop::Macro => macro_cmd(b, i, p.at, s, issues),
+        Stop::Issue => Stepped { used: 1, core: s },
         Stop::End => Stepped { used: 1, core: s },
     }
 }
 
-/// All steps of a body.
+/// All steps of a body, up to an issue that ends the reading.
 fn run<'a>(
     cells: &[u16],
     input: &[u8],
@@ -259,7 +260,11 @@ fn run<'a>(
         }
         let stop = f.stop;
         let r = turn(cells, input, b, i, stop, p, s, starts, lens, text, issues);
+        let reached = r.core;
+        if decode_state::ended(reached.enough, reached.out.issues) {
+            return reached;
+        }
         i += r.used;
-        s = r.core;
+        s = reached;
     }
 }

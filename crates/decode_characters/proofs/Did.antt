@@ -22,7 +22,7 @@ did-writes {f = f} {s} {t} {i} {o} {t′} {i′} cells a b h w =
     let p = w .grew in
     record {
       does = λ g e starts lens t₀ i₀ x k. holds-writes g starts lens t₀ i₀ x s t i k f o t′ i′ (w .does t₀ i₀ (x .out) (k .out));
-      kept = record { gl = h .gl; gr = h .gr; charged = refl; grew = record { ordered = p .ordered; repeat = p .repeat; text = omega arith; issues = omega arith } };
+      kept = record { gl = h .gl; gr = h .gr; enough = refl; charged = refl; grew = record { ordered = p .ordered; repeat = p .repeat; text = omega arith; issues = omega arith } };
     }
 
 -- the same change in other words, over a state that the struct holds

@@ -237,7 +237,7 @@ module _ (cells b : List ℕ) (j : ℕ) (v : Invoked) where
 
 -- ---- a character, and its room
 
-three-most : (c : ℕ) → c < 0x10000 → length (utf8 c) ≤ 3 * 1
+pub three-most : (c : ℕ) → c < 0x10000 → length (utf8 c) ≤ 3 * 1
 three-most c h = go (ltb c 0x800) refl
   where
     go : (u : Bool) → ltb c 0x800 ≡ u → length (utf8 c) ≤ 3 * 1

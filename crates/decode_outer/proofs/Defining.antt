@@ -3,6 +3,7 @@ use Prim.Native.Nat.{ℕ, zero, suc, _+_, _≤_, _<_}
 use mathlib.Core.Path.{_≡_, refl, sym, ap, _∙_, subst}
 use mathlib.Core.Bool.{Bool, true, false, cond, true≢false, false≢true}
 use mathlib.Core.List.{List, [], _∷_}
+use mathlib.Core.Logic.{inl, inr, ⊎-elim}
 use native.Mathlib.Decide.{ℕ-discrete}
 use native.Mathlib.Omega.{arith}
 use lib.ListN.{length, drop, getD, set, replicate, length-set}
@@ -123,8 +124,8 @@ module _ (cells input : List ℕ) (j : ℕ) (d : Decoder) (t i : List ℕ) where
       λ g s. m g 4 (below g 4) j j s ∙ ap (λ (z : Command). commanded z n g 4 (below g 4) j j s) q in
       record {
         ran = record {
-          does = λ g x y t₀ i₀ s p. subst (λ (z : Step). Holds g t₀ i₀ (z .to) d t i) (sym (same g s)) p;
-          used = λ g x y t₀ i₀ s p. sym (ap (λ (z : Step). z .used) (same g s));
+          does = λ g x y t₀ i₀ s p.
+              inl (subst (λ (z : Step). Holds g t₀ i₀ (z .to) d t i) (sym (same g s)) p, sym (ap (λ (z : Step). z .used) (same g s)));
           some = omega arith;
           most = h;
           grown = grown-same (o .ready) 1;
@@ -140,8 +141,7 @@ module _ (cells input : List ℕ) (j : ℕ) (d : Decoder) (t i : List ℕ) where
     outer-defines true q = absurd (true≢false q)
     outer-defines false q = record {
       ran = record {
-        does = λ g x y. does-define g d t i code (j + 3) len;
-        used = λ g x y t₀ i₀ s p. refl;
+        does = λ g x y t₀ i₀ s p. inl (does-define g d t i code (j + 3) len t₀ i₀ s p, refl);
         some = omega arith;
         most = omega (arith, h .ended);
         grown = grown-same (o .ready) 1;
@@ -156,8 +156,8 @@ module _ (cells input : List ℕ) (j : ℕ) (d : Decoder) (t i : List ℕ) where
     outer-runs false q v = absurd (false≢true q)
     outer-runs true q v = record {
       ran = record {
-        does = λ g x y t₀ i₀ s p. v .ran .does g x y t₀ i₀ (define code (j + 3) len s) (does-define g d t i code (j + 3) len t₀ i₀ s p);
-        used = λ g x y t₀ i₀ s p. refl;
+        does = λ g x y t₀ i₀ s p.
+            ⊎-elim (λ q. inl (q, refl)) (λ q. inr q) (v .ran .does g x y t₀ i₀ (define code (j + 3) len s) (does-define g d t i code (j + 3) len t₀ i₀ s p));
         some = omega arith;
         most = omega (arith, h .ended);
         grown = v .ran .grown;

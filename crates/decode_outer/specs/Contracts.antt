@@ -6,7 +6,9 @@ use lib.ListN.{length, drop, getD}
 use Rattle.reading.specs.State.{Given, State, Step}
 use Rattle.reading.specs.Macros.{limit}
 use Rattle.reading.specs.Steps.{step, run}
+use Rattle.decode_state.specs.declared.Core.{Core}
 use Rattle.decode_state.specs.declared.Decoder.{Decoder}
+use Rattle.decode_state.specs.Contracts.{whole, undefined}
 use Rattle.decode_bodies.specs.Contracts.{below, Inside, Ready, Ran, RanStep}
 use Rattle.decode_outer.specs.declared.Outer.{Outer}
 
@@ -31,6 +33,8 @@ pub record Executed (cells input : List ℕ) (f : Given → State → State) (d 
   pub lens : r .lens ≡ d .lens
   pub ran : Ran cells input 1 f d t i r t′ i′
 
--- all steps of the input
-abbrev pub TopRan : List ℕ → List ℕ → Decoder → List ℕ → List ℕ → Decoder → List ℕ → List ℕ → Type 0
-TopRan cells input d t i r t′ i′ = Ran cells input (length input) (λ g. run g 4 input 0 0) d t i r t′ i′
+-- all steps of the input, from where no macro is defined
+pub record TopRan (cells input : List ℕ) (c : Core) (t i : List ℕ) (r : Core) (t′ i′ : List ℕ) : Type 0 where
+  pub starts : List ℕ
+  pub lens : List ℕ
+  pub ran : Ran cells input (length input) (λ g. run g 4 input 0 0) (undefined c) t i (whole r starts lens) t′ i′

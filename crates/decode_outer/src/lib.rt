@@ -9,15 +9,15 @@ use decode_steps::Source;
 use decode_steps::Stop;
 use issues::IssueKind;
 ghost use mathlib.Core.Path.{_≡_};
-ghost use Prim.Native.Nat.{ℕ, _+_, _<_};
+ghost use Prim.Native.Nat.{ℕ, _+_, _≤_, _<_};
 ghost use lib.ListN.{length, drop, getD, set};
 ghost use mathlib.Core.Bool.{cond};
 ghost use Rattle.reading.specs.Characters.{graphic};
-ghost use Rattle.reading.specs.Macros.{runMacro, defined, macroCmd};
+ghost use Rattle.reading.specs.Macros.{limit, runMacro, defined, macroCmd};
 ghost use Rattle.decode_state.specs.Contracts.{whole};
 ghost use Rattle.decode_macros.specs.Contracts.{Defined};
 ghost use Rattle.decode_steps.specs.Contracts.{StopAt};
-ghost use Rattle.decode_bodies.specs.Contracts.{below};
+ghost use Rattle.decode_bodies.specs.Contracts.{below, Ready};
 ghost use Rattle.decode_outer.specs.Contracts.{Outside, Executed, OuterStep, stepAt, TopRan};
 
 /// After a step outside every body, where macros are defined.
@@ -202,7 +202,7 @@ fn macro_cmd(
     }
 }
 
-/// The step at which plain steps stopped.
+/// The step at which plain steps stopped; none behind an issue that ends the reading.
 fn step(
     cells: &[u16],
     input: &[u8],
@@ -229,6 +229,10 @@ fn step(
                 decoder: next,
             }
         }
+        Stop::Issue => Outer {
+            used: 1,
+            decoder: d,
+        },
         Stop::End => Outer {
             used: 1,
             decoder: d,
@@ -236,18 +240,17 @@ fn step(
     }
 }
 
-/// All steps of the input.
-pub fn top(
-    cells: &[u16],
-    input: &[u8],
-    decoder: Decoder,
-    text: &mut [u8],
-    issues: &mut [u32],
-) -> Decoder
-    requires { ⌜ Outside (now input) (length (now input)) decoder ⌝ }
-    ensures { λ r. ⌜ TopRan (now (cells .entry)) (now (input .entry)) decoder (now (text .entry)) (now (issues .entry)) r (now (text .exit)) (now (issues .exit)) ⌝ }
+/// All steps of the input, up to an issue that ends the reading.
+pub fn top(cells: &[u16], input: &[u8], start: Core, text: &mut [u8], issues: &mut [u32]) -> Core
+    requires { ⌜ length (now input) ≤ 65535 ⌝ }
+    requires { ⌜ Ready (limit (now input)) (length (now input)) start ⌝ }
+    ensures { λ r. ⌜ TopRan (now (cells .entry)) (now (input .entry)) start (now (text .entry)) (now (issues .entry)) r (now (text .exit)) (now (issues .exit)) ⌝ }
 {
-    let mut d = decoder;
+    let mut d = Decoder {
+        core: start,
+        starts: [0; 128],
+        lens: [0; 128],
+    };
     let mut i: usize = 0;
     loop {
         let core = d.core;
@@ -257,12 +260,16 @@ pub fn top(
         d.core = after;
         i = f.at;
         if i >= input.len() {
-            return d;
+            return after;
         }
         let stop = f.stop;
         let r = step(cells, input, i, stop, d, text, issues);
         let next = r.decoder;
-        d = next;
+        let reached = next.core;
+        if decode_state::ended(reached.enough, reached.out.issues) {
+            return reached;
+        }
         i += r.used;
+        d = next;
     }
 }

@@ -41,6 +41,7 @@ reported c at kind o t i i′ k w =
           record {
             gl = k .gl;
             gr = k .gr;
+            enough = refl;
             charged = refl;
             grew =
                 record { ordered = w .grew .ordered; repeat = w .grew .repeat; text = omega (arith, w .grew .text); issues = w .grew .issues };
@@ -58,7 +59,7 @@ module _ (c : Core) (t i : List ℕ) (k : MayTake 1 c) where
       record {
         moves = λ g. record { does = λ starts lens t₀ i₀ s h. h; used = λ starts lens t₀ i₀ s h. refl };
         used = refl;
-        kept = record { gl = k .gl; gr = k .gr; charged = refl; grew = grew-none (c .out) (k .room) };
+        kept = record { gl = k .gl; gr = k .gr; enough = refl; charged = refl; grew = grew-none (c .out) (k .room) };
       }
 
   pub moved-narrow : (n : ℕ) (b : Bool) → Moved n (λ s. took n (resize b s)) c t i (stepped n (withNarrow c b)) t i
@@ -66,7 +67,7 @@ module _ (c : Core) (t i : List ℕ) (k : MayTake 1 c) where
       record {
         moves = λ g. record { does = λ starts lens t₀ i₀ s h. holds-narrow g starts lens t₀ i₀ s c t i h b; used = λ starts lens t₀ i₀ s h. refl };
         used = refl;
-        kept = record { gl = k .gl; gr = k .gr; charged = refl; grew = grew-none (c .out) (k .room) };
+        kept = record { gl = k .gl; gr = k .gr; enough = refl; charged = refl; grew = grew-none (c .out) (k .room) };
       }
 
   pub moved-gl : (n e : ℕ) → e < 4 → Moved n (λ s. took n (invokeGL e s)) c t i (stepped n (withGL c e)) t i
@@ -74,7 +75,7 @@ module _ (c : Core) (t i : List ℕ) (k : MayTake 1 c) where
       record {
         moves = λ g. record { does = λ starts lens t₀ i₀ s h. holds-gl g starts lens t₀ i₀ s c t i h e; used = λ starts lens t₀ i₀ s h. refl };
         used = refl;
-        kept = record { gl = p; gr = k .gr; charged = refl; grew = grew-none (c .out) (k .room) };
+        kept = record { gl = p; gr = k .gr; enough = refl; charged = refl; grew = grew-none (c .out) (k .room) };
       }
 
   pub moved-gr : (n e : ℕ) → e < 4 → Moved n (λ s. took n (invokeGR e s)) c t i (stepped n (withGR c e)) t i
@@ -82,7 +83,7 @@ module _ (c : Core) (t i : List ℕ) (k : MayTake 1 c) where
       record {
         moves = λ g. record { does = λ starts lens t₀ i₀ s h. holds-gr g starts lens t₀ i₀ s c t i h e; used = λ starts lens t₀ i₀ s h. refl };
         used = refl;
-        kept = record { gl = k .gl; gr = p; charged = refl; grew = grew-none (c .out) (k .room) };
+        kept = record { gl = k .gl; gr = p; enough = refl; charged = refl; grew = grew-none (c .out) (k .room) };
       }
 
   pub moved-sets : (n e x : ℕ) → Moved n (λ s. took n (designate e x s)) c t i (stepped n (withSets c (set (c .sets) e x))) t i
@@ -90,7 +91,7 @@ module _ (c : Core) (t i : List ℕ) (k : MayTake 1 c) where
       record {
         moves = λ g. record { does = λ starts lens t₀ i₀ s h. holds-sets g starts lens t₀ i₀ s c t i h e x; used = λ starts lens t₀ i₀ s h. refl };
         used = refl;
-        kept = record { gl = k .gl; gr = k .gr; charged = refl; grew = grew-none (c .out) (k .room) };
+        kept = record { gl = k .gl; gr = k .gr; enough = refl; charged = refl; grew = grew-none (c .out) (k .room) };
       }
 
   pub moved-wait : (u n : ℕ) → n ≤ 63 → Moved u (λ s. took u (writes (setRepeat n) s)) c t i (stepped u (withRepeat c n)) t i
@@ -104,7 +105,7 @@ module _ (c : Core) (t i : List ℕ) (k : MayTake 1 c) where
               used = λ starts lens t₀ i₀ s h. refl;
             };
         used = refl;
-        kept = record { gl = k .gl; gr = k .gr; charged = refl; grew = record { ordered = v .ordered; repeat = p; text = omega (arith, v .text); issues = omega (arith, v .issues) } };
+        kept = record { gl = k .gl; gr = k .gr; enough = refl; charged = refl; grew = record { ordered = v .ordered; repeat = p; text = omega (arith, v .text); issues = omega (arith, v .issues) } };
       }
 
 -- a step that is another at every state
@@ -156,5 +157,5 @@ moved-line {at} {c} {t} {i} {r} {i′} u k w =
         used = λ starts lens t₀ i₀ s h. refl;
       };
       used = refl;
-      kept = record { gl = w .kept .gl; gr = w .kept .gr; charged = w .kept .charged; grew = record { ordered = v .ordered; repeat = omega arith; text = v .text; issues = v .issues } };
+      kept = record { gl = w .kept .gl; gr = w .kept .gr; enough = w .kept .enough; charged = w .kept .charged; grew = record { ordered = v .ordered; repeat = omega arith; text = v .text; issues = v .issues } };
     }

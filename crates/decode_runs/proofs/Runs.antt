@@ -1,5 +1,5 @@
 -- Runs of characters and controls, one after the other. Assumes nothing.
-use Prim.Native.Nat.{ℕ, _+_, _-_, _*_, _≤_}
+use Prim.Native.Nat.{ℕ, _+_, _-_, _*_, _^_, _≤_, _<_}
 use mathlib.Core.Path.{_≡_, refl, sym, ap, subst, _∙_}
 use mathlib.Core.Bool.{Bool, true, false, _||_}
 use lib.Dec.{eqb}
@@ -7,6 +7,7 @@ use mathlib.Core.List.{List, [], _∷_}
 use native.Mathlib.Omega.{arith}
 use lib.ListN.{length, take, drop, getD}
 use lib.Seq.{sets, length-sets, getD-take}
+use Rattle.lent.proofs.Stores.{sets-out}
 use Rattle.utf8.specs.Utf8.{utf8}
 use Rattle.decode_output.specs.Output.{emit}
 use Rattle.decode_output.specs.declared.Out.{Out}
@@ -21,7 +22,7 @@ use Rattle.decode_settings.specs.Contracts.{withSettings, Settings, Controls}
 use Rattle.decode_settings.proofs.Turning.{seven}
 use Rattle.decode_letters.specs.declared.Invoked.{Invoked}
 use Rattle.decode_letters.specs.Contracts.{Sees, Spells}
-use Rattle.decode_runs.specs.Contracts.{withText, Plain, Letters, coreAt, RunsTo, Begins}
+use Rattle.decode_runs.specs.Contracts.{Space, withText, Plain, Letters, Counted, coreAt, RunsTo, Begins}
 
 sees : {v : Invoked} {n m : ℕ} {g : Given} {c : Core} {starts lens t₀ i₀ t i : List ℕ} {s : State} → Plain v n c
     → Holds g t₀ i₀ s (whole (withText c m) starts lens) t i → Sees v g s
@@ -42,60 +43,83 @@ pub record Spelt (cells b : List ℕ) (j to : ℕ) (v : Invoked) (n : ℕ) (t : 
   pub as-long : length t₁ ≡ length t
   pub room : n₁ + 3 * (to - j₁) ≤ length t
 
+-- the space that is left when more is written, in a text that is as long as it was
+pub space-on : {fits : Bool} {n m k n₁ m₁ k₁ : ℕ} → n ≤ n₁ → n₁ + 3 * m₁ ≤ n + 3 * m → k₁ ≡ k → Space fits n m k → Space fits n₁ m₁ k₁
+space-on a b e h = record { inside = λ q. omega (arith, h .inside q, b, e); behind = λ q. omega (arith, h .behind q, a, e); small = λ q. omega (arith, h .small q, b) }
+
+-- as a number of 64 bits
+pub space-sum : {fits : Bool} {n m k : ℕ} → Space fits n m k → k < 2 ^ 63 → n + 3 * m < 2 ^ 63
+space-sum {fits = true} h l = omega (arith, h .inside refl, l)
+space-sum {fits = false} h l = omega (arith, h .small refl)
+
+module _ {cells b : List ℕ} {j : ℕ} {v : Invoked} {n : ℕ} {t : List ℕ} where
+  pub letters-none : j ≤ length b → Letters cells b j v n t j n t
+  letters-none h =
+      record {
+        past = omega arith;
+        within = h;
+        most = omega arith;
+        goes = λ g e left R base origin i starts lens c p.
+            subst (λ (z : Core). Goes g left R base origin b j (whole c starts lens) t i j (whole z starts lens) t i) (p .text)
+            (goes-none g left R base origin b j (whole c starts lens) t i);
+      }
+
+  -- a character more
+  pub letters-more : {j₁ n₁ : ℕ} {t₁ : List ℕ} (u l : ℕ) {t₂ : List ℕ} {w : ℕ} → Letters cells b j v n t j₁ n₁ t₁ → 1 ≤ u → j₁ + u ≤ length b
+      → Spells cells b j₁ v u l → w ≡ length (utf8 l) → w ≤ 3 * u → t₂ ≡ sets t₁ n₁ (utf8 l) → Letters cells b j v n t (j₁ + u) (n₁ + w) t₂
+  letters-more {j₁} {n₁} {t₁} u l {t₂} {w} p a v k e m d =
+      let past = p .past in
+      let most = p .most in
+      record {
+        past = omega arith;
+        within = v;
+        most = omega arith;
+        goes = λ g ce left R base origin i starts lens c f.
+            goes-on g left R base origin b j (whole c starts lens) t i j₁ (whole (withText c n₁) starts lens) t₁ i (j₁ + u) (whole (withText c (n₁ + w)) starts lens) t₂ i
+            (p .goes g ce left R base origin i starts lens c f)
+            (goes-step g left R base origin b j₁ (withText c n₁) t₁ i u (withText c (n₁ + w)) t₂ i starts lens (omega arith) a
+            record {
+              does = λ starts lens t₀ i₀ x h.
+                  subst
+                  (λ (y : Step). Holds g t₀ i₀ (y .to) (whole (withText c (n₁ + w)) starts lens) t₂ i)
+                  (k g ce left R (base + j₁) (offset origin j₁) x (sees f h))
+                  (subst
+                  (λ (y : List ℕ). Holds g t₀ i₀ (writes (emit l) x) (whole (withText c (n₁ + w)) starts lens) y i)
+                  (sym d)
+                  (subst
+                  (λ (y : ℕ). Holds g t₀ i₀ (writes (emit l) x) (whole (withText c (n₁ + y)) starts lens) (sets t₁ n₁ (utf8 l)) i)
+                  (sym e)
+                  (holds-writes g starts lens t₀ i₀ x (withText c n₁) t₁ i h (emit l) _ _ i (holds-plain (h .out) l refl refl))));
+              used = λ starts lens t₀ i₀ x h. ap (λ (y : Step). y .used) (k g ce left R (base + j₁) (offset origin j₁) x (sees f h));
+            });
+      }
+
 module _ {cells b : List ℕ} {j to : ℕ} {v : Invoked} {n : ℕ} {t : List ℕ} where
   pub spelt-start : j ≤ length b → n + 3 * (to - j) ≤ length t → Spelt cells b j to v n t j n t
-  spelt-start h r =
-      record {
-        letters =
-            record {
-              past = omega arith;
-              within = h;
-              most = omega arith;
-              goes = λ g e left R base origin i starts lens c p.
-                  subst (λ (z : Core). Goes g left R base origin b j (whole c starts lens) t i j (whole z starts lens) t i) (p .text)
-                  (goes-none g left R base origin b j (whole c starts lens) t i);
-            };
-        as-long = refl;
-        room = r;
-      }
+  spelt-start h r = record { letters = letters-none h; as-long = refl; room = r }
 
   -- a character more
   pub spelt-more : {j₁ n₁ : ℕ} {t₁ : List ℕ} (u l : ℕ) {t₂ : List ℕ} {w : ℕ} → Spelt cells b j to v n t j₁ n₁ t₁ → 1 ≤ u → j₁ + u ≤ length b
       → Spells cells b j₁ v u l → w ≡ length (utf8 l) → w ≤ 3 * u → w + 3 * (to - (j₁ + u)) ≤ 3 * (to - j₁) → t₂ ≡ sets t₁ n₁ (utf8 l)
       → Spelt cells b j to v n t (j₁ + u) (n₁ + w) t₂
-  spelt-more {j₁} {n₁} {t₁} u l {t₂} {w} s a v k e m q d =
-      let p = s .letters in
-      let past = p .past in
-      let most = p .most in
-      let room = s .room in
-      record {
-        letters =
-            record {
-              past = omega arith;
-              within = v;
-              most = omega arith;
-              goes = λ g ce left R base origin i starts lens c f.
-                  goes-on g left R base origin b j (whole c starts lens) t i j₁ (whole (withText c n₁) starts lens) t₁ i (j₁ + u) (whole (withText c (n₁ + w)) starts lens) t₂ i
-                  (p .goes g ce left R base origin i starts lens c f)
-                  (goes-step g left R base origin b j₁ (withText c n₁) t₁ i u (withText c (n₁ + w)) t₂ i starts lens (omega arith) a
-                  record {
-                    does = λ starts lens t₀ i₀ x h.
-                        subst
-                        (λ (y : Step). Holds g t₀ i₀ (y .to) (whole (withText c (n₁ + w)) starts lens) t₂ i)
-                        (k g ce left R (base + j₁) (offset origin j₁) x (sees f h))
-                        (subst
-                        (λ (y : List ℕ). Holds g t₀ i₀ (writes (emit l) x) (whole (withText c (n₁ + w)) starts lens) y i)
-                        (sym d)
-                        (subst
-                        (λ (y : ℕ). Holds g t₀ i₀ (writes (emit l) x) (whole (withText c (n₁ + y)) starts lens) (sets t₁ n₁ (utf8 l)) i)
-                        (sym e)
-                        (holds-writes g starts lens t₀ i₀ x (withText c n₁) t₁ i h (emit l) _ _ i (holds-plain (h .out) l refl refl))));
-                    used = λ starts lens t₀ i₀ x h. ap (λ (y : Step). y .used) (k g ce left R (base + j₁) (offset origin j₁) x (sees f h));
-                  });
-            };
-        as-long = ap length d ∙ length-sets t₁ n₁ (utf8 l) ∙ s .as-long;
-        room = omega arith;
-      }
+  spelt-more {j₁} {n₁} {t₁} u l s a v k e m q d = record {
+    letters = letters-more u l (s .letters) a v k e m d;
+    as-long = ap length d ∙ length-sets t₁ n₁ (utf8 l) ∙ s .as-long;
+    room = omega (arith, s .room, q);
+  }
+
+-- the loop that counts
+module _ {cells b : List ℕ} {j to : ℕ} {v : Invoked} {n : ℕ} where
+  pub counted-start : j ≤ length b → Counted cells b j to v n j n
+  counted-start h = record { letters = λ t f. letters-none h; more = omega arith; room = omega arith }
+
+  pub counted-more : {j₁ n₁ : ℕ} (u l : ℕ) {w : ℕ} → Counted cells b j to v n j₁ n₁ → 1 ≤ u → j₁ + u ≤ length b
+      → Spells cells b j₁ v u l → w ≡ length (utf8 l) → w ≤ 3 * u → w + 3 * (to - (j₁ + u)) ≤ 3 * (to - j₁) → Counted cells b j to v n (j₁ + u) (n₁ + w)
+  counted-more {j₁} {n₁} u l s a v k e m q = record {
+    letters = λ t f. letters-more u l (s .letters t f) a v k e m (sym (sets-out (utf8 l) t n₁ (omega (arith, f, s .more))));
+    more = omega (arith, s .more);
+    room = omega (arith, s .room, q);
+  }
 
 -- no step
 pub stretch-none : {cells b : List ℕ} {j : ℕ} {c : Core} {t i : List ℕ} (base origin : ℕ) → j ≤ length b → MayTake (length b - j) c → Stretch cells base origin b j c t i j c t i
@@ -104,7 +128,7 @@ stretch-none {b = b} {j} {c} {t} {i} base origin h p =
     record {
       past = omega arith;
       within = h;
-      kept = record { gl = p .gl; gr = p .gr; charged = refl; grew = record { ordered = r .ordered; repeat = r .repeat; text = omega arith; issues = omega arith } };
+      kept = record { gl = p .gl; gr = p .gr; enough = refl; charged = refl; grew = record { ordered = r .ordered; repeat = r .repeat; text = omega arith; issues = omega arith } };
       goes = λ g e left R starts lens. goes-none g left R base origin b j (whole c starts lens) t i;
     }
 
@@ -175,6 +199,7 @@ module _ {cells b : List ℕ} {j : ℕ} {annex : Bool} {l : List ℕ} {n : ℕ} 
                         gr = getD l₂ 5 0;
                         narrow = eqb (getD l₂ 6 0) 1;
                         annex = h .state k .core .annex;
+                        enough = c .enough;
                         charged = h .state k .core .charged;
                         out = record { len = n₁; end = n₁; first = 0; repeat = 0; issues = c .out .issues };
                       };
@@ -188,21 +213,21 @@ module _ {cells b : List ℕ} {j : ℕ} {annex : Bool} {l : List ℕ} {n : ℕ} 
               ));
         }
 
--- the loop over them: what was run up to the byte j₁, the text as long as it was, and room for three bytes a byte before `to`
-pub record Running (cells b : List ℕ) (j to : ℕ) (annex : Bool) (l : List ℕ) (n : ℕ) (t : List ℕ) (j₁ : ℕ) (l₁ : List ℕ) (n₁ : ℕ) (t₁ : List ℕ) : Type 0 where
+-- the loop over them: what was run up to the byte j₁, the text as long as it was, and room for three bytes a byte before `to`, or none at all
+pub record Running (cells b : List ℕ) (j to : ℕ) (fits annex : Bool) (l : List ℕ) (n : ℕ) (t : List ℕ) (j₁ : ℕ) (l₁ : List ℕ) (n₁ : ℕ) (t₁ : List ℕ) : Type 0 where
   pub runs : RunsTo cells b j annex l n t j₁ l₁ n₁ t₁
   pub as-long : length t₁ ≡ length t
-  pub room : n₁ + 3 * (to - j₁) ≤ length t
+  pub room : Space fits n₁ (to - j₁) (length t)
 
-module _ {cells b : List ℕ} {j to : ℕ} {annex : Bool} {l : List ℕ} {n : ℕ} {t : List ℕ} where
-  pub running-start : j ≤ length b → n + 3 * (to - j) ≤ length t → Settings l → Running cells b j to annex l n t j l n t
+module _ {cells b : List ℕ} {j to : ℕ} {fits annex : Bool} {l : List ℕ} {n : ℕ} {t : List ℕ} where
+  pub running-start : j ≤ length b → Space fits n (to - j) (length t) → Settings l → Running cells b j to fits annex l n t j l n t
   running-start h r f = record { runs = runs-none h f; as-long = refl; room = r }
 
   -- characters, a character, and controls more
   pub running-more : {j₁ : ℕ} {l₁ : List ℕ} {n₁ : ℕ} {t₁ : List ℕ} {v : Invoked} {j₂ n₂ : ℕ} {t₂ : List ℕ} {j₃ n₃ : ℕ} {t₃ : List ℕ} {j₄ : ℕ} {l₄ : List ℕ}
-      → Running cells b j to annex l n t j₁ l₁ n₁ t₁ → v .gl ≡ getD l₁ (getD l₁ 4 0) 0 → v .gr ≡ getD l₁ (getD l₁ 5 0) 0 → v .narrow ≡ (annex || eqb (getD l₁ 6 0) 1)
+      → Running cells b j to fits annex l n t j₁ l₁ n₁ t₁ → v .gl ≡ getD l₁ (getD l₁ 4 0) 0 → v .gr ≡ getD l₁ (getD l₁ 5 0) 0 → v .narrow ≡ (annex || eqb (getD l₁ 6 0) 1)
       → Letters cells b j₁ v n₁ t₁ j₂ n₂ t₂ → Letters cells b j₂ v n₂ t₂ j₃ n₃ t₃ → Controls b j₃ l₁ j₄ l₄
-      → length t₂ ≡ length t₁ → length t₃ ≡ length t₂ → n₃ + 3 * (to - j₃) ≤ length t₃ → Running cells b j to annex l n t j₄ l₄ n₃ t₃
+      → length t₂ ≡ length t₁ → length t₃ ≡ length t₂ → Space fits n₃ (to - j₃) (length t₃) → Running cells b j to fits annex l n t j₄ l₄ n₃ t₃
   running-more {l₁ = l₁} r x y z u v w p q h =
       let f = r .runs .settings in
       let a = x ∙ sym (getD-take 4 l₁ _ 0 (f .gl)) in
@@ -210,7 +235,7 @@ module _ {cells b : List ℕ} {j to : ℕ} {annex : Bool} {l : List ℕ} {n : �
       record {
         runs = runs-controls (runs-letters (runs-letters (r .runs) a c z u) a c z v) w;
         as-long = q ∙ p ∙ r .as-long;
-        room = omega (arith, h, w .past, p, q, r .as-long);
+        room = space-on (omega arith) (omega (arith, w .past)) (sym (q ∙ p ∙ r .as-long)) h;
       }
 
 -- the whole run
@@ -224,7 +249,7 @@ stretch-runs {cells} {b} {j} {l} {n} {c} {t} {j₁} {l₁} {n₁} {t₁} i base 
     (record {
       past = w .past;
       within = w .within;
-      kept = record { gl = w .settings .gl; gr = w .settings .gr; charged = refl; grew = record { ordered = omega arith; repeat = omega arith; text = omega arith; issues = omega arith } };
+      kept = record { gl = w .settings .gl; gr = w .settings .gr; enough = refl; charged = refl; grew = record { ordered = omega arith; repeat = omega arith; text = omega arith; issues = omega arith } };
       goes = λ g q left R starts lens.
           subst (λ (z : Core). Goes g left R base origin b j (whole z starts lens) t i j₁ (whole (coreAt l₁ n₁ c) starts lens) t₁ i) (sym e)
           (w .goes g q left R base origin i starts lens c refl);
@@ -253,6 +278,7 @@ settings-of c x h q n =
       gr = c .gr;
       narrow = sym q k;
       annex = c .annex;
+      enough = c .enough;
       charged = c .charged;
       out = record { len = n; end = n; first = 0; repeat = 0; issues = c .out .issues };
     }
@@ -264,6 +290,7 @@ pub core-of : (l : List ℕ) (n : ℕ) (c : Core) → length l ≡ 7
       gr = getD l 5 0;
       narrow = eqb (getD l 6 0) 1;
       annex = c .annex;
+      enough = c .enough;
       charged = c .charged;
       out = record { len = n; end = n; first = 0; repeat = 0; issues = c .out .issues };
     }
@@ -278,12 +305,13 @@ core-of l n c h =
       gr = getD l 5 0;
       narrow = eqb (getD l 6 0) 1;
       annex = c .annex;
+      enough = c .enough;
       charged = c .charged;
       out = record { len = n; end = n; first = 0; repeat = 0; issues = c .out .issues };
     }
 
 -- where a run may begin, nothing waits
-pub plain-text : (c : Core) {cells text : ℕ} → Begins (c .out) cells text → c ≡ withText c (c .out .len)
+pub plain-text : (c : Core) {cells : ℕ} → Begins (c .out) cells → c ≡ withText c (c .out .len)
 plain-text c w =
     λ k.
     record {
@@ -292,6 +320,7 @@ plain-text c w =
       gr = c .gr;
       narrow = c .narrow;
       annex = c .annex;
+      enough = c .enough;
       charged = c .charged;
       out = record { len = c .out .len; end = sym (w .end) k; first = w .first k; repeat = w .repeat k; issues = c .out .issues };
     }

@@ -1,7 +1,7 @@
 -- What is promised of runs of characters and controls that are read as they stand.
 use Prim.Native.Nat.{ℕ, _+_, _-_, _*_, _≤_}
 use mathlib.Core.Path.{_≡_}
-use mathlib.Core.Bool.{Bool, _||_}
+use mathlib.Core.Bool.{Bool, true, false, _||_}
 use mathlib.Core.List.{List}
 use lib.Dec.{eqb}
 use lib.ListN.{length, take, getD}
@@ -15,6 +15,12 @@ use Rattle.decode_settings.specs.Contracts.{Settings}
 
 -- ---- runs of characters
 
+-- where n bytes are written, three for each of m bytes more fit a text that has room for so many; or they begin behind its end, and can be counted
+pub record Space (fits : Bool) (n m room : ℕ) : Type 0 where
+  pub inside : fits ≡ true → n + 3 * m ≤ room
+  pub behind : fits ≡ false → room ≤ n
+  pub small : fits ≡ false → n + 3 * m ≤ 0x10000000000
+
 -- the struct where n bytes are written and nothing waits
 abbrev pub withText : Core → ℕ → Core
 withText c n =
@@ -24,6 +30,7 @@ withText c n =
       gr = c .gr;
       narrow = c .narrow;
       annex = c .annex;
+      enough = c .enough;
       charged = c .charged;
       out = record { len = n; end = n; first = 0; repeat = 0; issues = c .out .issues };
     }
@@ -43,6 +50,12 @@ pub record Letters (cells b : List ℕ) (j : ℕ) (v : Invoked) (n : ℕ) (t : L
   pub goes : (g : Given) → g .cells ≡ cells → (left : ℕ) (R : Run) (base origin : ℕ) (i starts lens : List ℕ) (c : Core) → Plain v n c
       → Goes g left R base origin b j (whole c starts lens) t i j′ (whole (withText c n′) starts lens) t′ i
 
+-- the same run in every text that ends before it, whose bytes stay
+pub record Counted (cells b : List ℕ) (j to : ℕ) (v : Invoked) (n j′ n′ : ℕ) : Type 0 where
+  pub letters : (t : List ℕ) → length t ≤ n → Letters cells b j v n t j′ n′ t
+  pub more : n ≤ n′
+  pub room : n′ + 3 * (to - j′) ≤ n + 3 * (to - j)
+
 -- ---- runs of characters and controls
 
 -- the struct with these settings, where n bytes are written and nothing waits
@@ -54,6 +67,7 @@ coreAt l n c =
       gr = getD l 5 0;
       narrow = eqb (getD l 6 0) 1;
       annex = c .annex;
+      enough = c .enough;
       charged = c .charged;
       out = record { len = n; end = n; first = 0; repeat = 0; issues = c .out .issues };
     }
@@ -67,10 +81,9 @@ pub record RunsTo (cells b : List ℕ) (j : ℕ) (annex : Bool) (l : List ℕ) (
   pub goes : (g : Given) → g .cells ≡ cells → (left : ℕ) (R : Run) (base origin : ℕ) (i starts lens : List ℕ) (c : Core) → c .annex ≡ annex
       → Goes g left R base origin b j (whole (coreAt l n c) starts lens) t i j′ (whole (coreAt l′ n′ c) starts lens) t′ i
 
--- where a run may begin: nothing waits, a table has its 8,836 cells, and what is written is within the text
-pub record Begins (o : Out) (cells text : ℕ) : Type 0 where
+-- where a run may begin: nothing waits, and a table has its 8,836 cells
+pub record Begins (o : Out) (cells : ℕ) : Type 0 where
   pub repeat : o .repeat ≡ 0
   pub end : o .len ≡ o .end
   pub first : o .first ≡ 0
   pub table : 8836 ≤ cells
-  pub within : o .len ≤ text

@@ -15,13 +15,23 @@ ghost use mathlib.Core.List.{List};
 ghost use lib.ListN.{length};
 ghost use Rattle.decode_state.specs.Contracts.{MayTake, Stretch};
 ghost use Rattle.decode_settings.specs.Contracts.{Settings};
-ghost use Rattle.decode_runs.specs.Contracts.{withText, Letters, coreAt, RunsTo, Begins};
+ghost use Rattle.decode_runs.specs.Contracts.{Space, withText, Letters, Counted, coreAt, RunsTo, Begins};
 
 /// A place in the input, and the bytes of text that there are then.
 struct Reached {
     at: usize,
     len: usize,
 }
+
+/// How far a run goes: before the byte `to`, and whether what it writes fits. Where the text is at its end nothing does,
+/// and a run is counted and not written.
+struct Limit {
+    to: usize,
+    fits: bool,
+}
+
+/// The bytes of a character of the Kanji set.
+const KANJI: usize = 2;
 
 /// A run of ideographs, kana and ASCII before the byte `to`.
 fn letters_from(
@@ -54,7 +64,7 @@ fn letters_from(
             }
             decode_letters::put3(text, m, c);
             m += 3;
-            i += 2;
+            i += KANJI;
             continue;
         }
         let c = decode_letters::initial_at(narrow, set, x % 128);
@@ -76,21 +86,76 @@ fn letters_from(
     }
 }
 
+/// The same run behind the end of the text: it is counted and not written.
+fn count_from(cells: &[u16], b: &[u8], from: Reached, to: usize, sets: Invoked) -> Reached
+    requires { ⌜ (from .at ≤ length (now b)) × (to ≤ length (now b)) × (8836 ≤ length (now cells)) × (from .len + 3 * (to - from .at) ≤ 0x10000000000) ⌝ }
+    ensures { λ r. ⌜ Counted (now (cells .entry)) (now (b .entry)) (from .at) to sets (from .len) (r .at) (r .len) ⌝ }
+{
+    let gl = sets.gl;
+    let gr = sets.gr;
+    let narrow = sets.narrow;
+    let mut i = from.at;
+    let mut m = from.len;
+    loop {
+        if i >= to {
+            return Reached { at: i, len: m };
+        }
+        let x = b[i];
+        let set = decode_letters::set_of(x, gl, gr);
+        if set == 0 {
+            if decode_letters::kanji_at(cells, b, i) == 0 {
+                return Reached { at: i, len: m };
+            }
+            m += 3;
+            i += KANJI;
+            continue;
+        }
+        let c = decode_letters::initial_at(narrow, set, x % 128);
+        if c == 0 {
+            return Reached { at: i, len: m };
+        }
+        m += utf8::width(c);
+        i += 1;
+    }
+}
+
+/// Such a run, written or counted.
+fn run_from(
+    cells: &[u16],
+    b: &[u8],
+    from: Reached,
+    limit: Limit,
+    sets: Invoked,
+    text: &mut [u8],
+) -> Reached
+    requires { ⌜ (from .at ≤ length (now b)) × (limit .to ≤ length (now b)) × (8836 ≤ length (now cells)) ⌝ }
+    requires { ⌜ Space (limit .fits) (from .len) (limit .to - from .at) (length (now text)) ⌝ }
+    ensures run { λ r. ⌜ Letters (now (cells .entry)) (now (b .entry)) (from .at) sets (from .len) (now (text .entry)) (r .at) (r .len) (now (text .exit)) ⌝ }
+    ensures room { λ r. ⌜ Space (limit .fits) (r .len) (limit .to - r .at) (length (now (text .exit))) ⌝ }
+{
+    if limit.fits {
+        return letters_from(cells, b, from, limit.to, sets, text);
+    }
+    count_from(cells, b, from, limit.to, sets)
+}
+
 /// A character that `letters_from` leaves, if there is one.
 fn other(
     cells: &[u16],
     b: &[u8],
     from: Reached,
-    to: usize,
+    limit: Limit,
     sets: Invoked,
     text: &mut [u8],
 ) -> Reached
-    requires { ⌜ (from .at ≤ length (now b)) × (to ≤ length (now b)) × (from .len + 3 * (to - from .at) ≤ length (now text)) ⌝ }
+    requires { ⌜ (from .at ≤ length (now b)) × (limit .to ≤ length (now b)) ⌝ }
+    requires { ⌜ Space (limit .fits) (from .len) (limit .to - from .at) (length (now text)) ⌝ }
     ensures run { λ r. ⌜ Letters (now (cells .entry)) (now (b .entry)) (from .at) sets (from .len) (now (text .entry)) (r .at) (r .len) (now (text .exit)) ⌝ }
-    ensures room { λ r. ⌜ r .len + 3 * (to - r .at) ≤ length (now (text .exit)) ⌝ }
+    ensures room { λ r. ⌜ Space (limit .fits) (r .len) (limit .to - r .at) (length (now (text .exit))) ⌝ }
 {
     let i = from.at;
     let n = from.len;
+    let to = limit.to;
     if i >= to {
         return from;
     }
@@ -116,7 +181,24 @@ fn fitting(room: usize, left: usize) -> usize
     left
 }
 
-/// Characters and controls, with characters as far as they surely fit.
+/// The limit of a run from there to the byte `end`, in a text with room for so many bytes.
+fn limit_of(from: Reached, end: usize, room: usize) -> Limit
+    requires { ⌜ (from .at ≤ end) × (from .len + 3 * (end - from .at) ≤ 0x10000000000) ⌝ }
+    ensures { λ r. ⌜ (from .at ≤ r .to) × (r .to ≤ end) × Space (r .fits) (from .len) (r .to - from .at) room ⌝ }
+{
+    let n = from.len;
+    if n < room {
+        let i = from.at;
+        let to = i + fitting(room - n, end - i);
+        return Limit { to, fits: true };
+    }
+    Limit {
+        to: end,
+        fits: false,
+    }
+}
+
+/// Characters and controls, with characters as far as they surely fit, or surely do not.
 fn runs_from(
     cells: &[u16],
     b: &[u8],
@@ -125,13 +207,13 @@ fn runs_from(
     settings: &mut [u8],
     text: &mut [u8],
 ) -> Reached
-    requires { ⌜ (from .at ≤ length (now b)) × (8836 ≤ length (now cells)) × (from .len ≤ length (now text)) × Settings (now settings) ⌝ }
+    requires { ⌜ (from .at ≤ length (now b)) × (8836 ≤ length (now cells)) × (from .len + 3 * (length (now b) - from .at) ≤ 0x10000000000) × Settings (now settings) ⌝ }
     ensures { λ r. ⌜ RunsTo (now (cells .entry)) (now (b .entry)) (from .at) annex (now (settings .entry)) (from .len) (now (text .entry)) (r .at) (now (settings .exit))
         (r .len) (now (text .exit)) ⌝ }
 {
     let mut i = from.at;
     let mut m = from.len;
-    let to = i + fitting(text.len() - m, b.len() - i);
+    let limit = limit_of(from, b.len(), text.len());
     loop {
         let left = settings[GL] as usize;
         let right = settings[GR] as usize;
@@ -139,9 +221,9 @@ fn runs_from(
         let gr = settings[right];
         let narrow = decode_codes::is_narrow(annex, settings[NARROW] == 1);
         let sets = Invoked { gl, gr, narrow };
-        let w = letters_from(cells, b, Reached { at: i, len: m }, to, sets, text);
+        let w = run_from(cells, b, Reached { at: i, len: m }, limit, sets, text);
         let stop = w.at;
-        let o = other(cells, b, w, to, sets, text);
+        let o = other(cells, b, w, limit, sets, text);
         m = o.len;
         i = decode_settings::controls(b, o.at, settings);
         if i == stop {
@@ -150,9 +232,9 @@ fn runs_from(
     }
 }
 
-/// Whether a run may begin: nothing waits, the table has its cells and what is written is within the text.
-fn may_begin(out: Out, cells: usize, text: usize) -> bool
-    ensures { λ r. ⌜ (r ≡ true → Begins out cells text) ⌝ }
+/// Whether a run may begin: nothing waits, and the table has its cells.
+fn may_begin(out: Out, cells: usize) -> bool
+    ensures { λ r. ⌜ (r ≡ true → Begins out cells) ⌝ }
 {
     let waits = out.repeat as u64 + out.first as u64;
     if waits != 0 {
@@ -162,9 +244,6 @@ fn may_begin(out: Out, cells: usize, text: usize) -> bool
         return false;
     }
     if cells < 8836 {
-        return false;
-    }
-    if text < out.len {
         return false;
     }
     true
@@ -206,6 +285,7 @@ fn with_settings(s: Core, settings: [u8; 7], len: usize) -> Core
         gr: settings[GR],
         narrow: settings[NARROW] == 1,
         annex: s.annex,
+        enough: s.enough,
         charged: s.charged,
         out,
     }
@@ -218,7 +298,7 @@ pub fn letters(cells: &[u16], b: &[u8], from: usize, s: Core, text: &mut [u8]) -
     ensures { λ r. ⌜ ((base origin : ℕ) (i : List ℕ) → Stretch (now (cells .entry)) base origin (now (b .entry)) from s (now (text .entry)) i (r .at) (r .core) (now (text .exit)) i) ⌝ }
 {
     let out = s.out;
-    if may_begin(out, cells.len(), text.len()) {
+    if may_begin(out, cells.len()) {
         let start = Reached {
             at: from,
             len: out.len,

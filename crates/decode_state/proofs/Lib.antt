@@ -1,2 +1,3 @@
 pub mod Lift
 pub mod Steps
+pub mod Begun

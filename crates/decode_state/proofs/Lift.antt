@@ -12,22 +12,22 @@ use Rattle.decode_state.specs.Contracts.{whole, Holds}
 
 -- the struct with one field anew
 abbrev pub withSets : Core → List ℕ → Core
-withSets c x = record { sets = x; gl = c .gl; gr = c .gr; narrow = c .narrow; annex = c .annex; charged = c .charged; out = c .out }
+withSets c x = record { sets = x; gl = c .gl; gr = c .gr; narrow = c .narrow; annex = c .annex; enough = c .enough; charged = c .charged; out = c .out }
 
 abbrev pub withGL : Core → ℕ → Core
-withGL c x = record { sets = c .sets; gl = x; gr = c .gr; narrow = c .narrow; annex = c .annex; charged = c .charged; out = c .out }
+withGL c x = record { sets = c .sets; gl = x; gr = c .gr; narrow = c .narrow; annex = c .annex; enough = c .enough; charged = c .charged; out = c .out }
 
 abbrev pub withGR : Core → ℕ → Core
-withGR c x = record { sets = c .sets; gl = c .gl; gr = x; narrow = c .narrow; annex = c .annex; charged = c .charged; out = c .out }
+withGR c x = record { sets = c .sets; gl = c .gl; gr = x; narrow = c .narrow; annex = c .annex; enough = c .enough; charged = c .charged; out = c .out }
 
 abbrev pub withNarrow : Core → Bool → Core
-withNarrow c x = record { sets = c .sets; gl = c .gl; gr = c .gr; narrow = x; annex = c .annex; charged = c .charged; out = c .out }
+withNarrow c x = record { sets = c .sets; gl = c .gl; gr = c .gr; narrow = x; annex = c .annex; enough = c .enough; charged = c .charged; out = c .out }
 
 abbrev pub withCharged : Core → ℕ → Core
-withCharged c x = record { sets = c .sets; gl = c .gl; gr = c .gr; narrow = c .narrow; annex = c .annex; charged = x; out = c .out }
+withCharged c x = record { sets = c .sets; gl = c .gl; gr = c .gr; narrow = c .narrow; annex = c .annex; enough = c .enough; charged = x; out = c .out }
 
 abbrev pub withOut : Core → Out → Core
-withOut c x = record { sets = c .sets; gl = c .gl; gr = c .gr; narrow = c .narrow; annex = c .annex; charged = c .charged; out = x }
+withOut c x = record { sets = c .sets; gl = c .gl; gr = c .gr; narrow = c .narrow; annex = c .annex; enough = c .enough; charged = c .charged; out = x }
 
 -- Whatever the macros: d holds s, so d with a field anew holds s with it anew.
 module _ (g : Given) (starts lens t₀ i₀ : List ℕ) (s : State) (c : Core) (t i : List ℕ) (h : Holds g t₀ i₀ s (whole c starts lens) t i) where
@@ -42,6 +42,7 @@ module _ (g : Given) (starts lens t₀ i₀ : List ℕ) (s : State) (c : Core) (
             gr = h .state j .core .gr;
             narrow = h .state j .core .narrow;
             annex = h .state j .core .annex;
+            enough = c .enough;
             charged = h .state j .core .charged;
             out = o;
           };
@@ -62,6 +63,7 @@ module _ (g : Given) (starts lens t₀ i₀ : List ℕ) (s : State) (c : Core) (
             gr = h .state j .core .gr;
             narrow = h .state j .core .narrow;
             annex = h .state j .core .annex;
+            enough = c .enough;
             charged = h .state j .core .charged;
             out = c .out;
           };
@@ -82,6 +84,7 @@ module _ (g : Given) (starts lens t₀ i₀ : List ℕ) (s : State) (c : Core) (
             gr = e;
             narrow = h .state j .core .narrow;
             annex = h .state j .core .annex;
+            enough = c .enough;
             charged = h .state j .core .charged;
             out = c .out;
           };
@@ -102,6 +105,7 @@ module _ (g : Given) (starts lens t₀ i₀ : List ℕ) (s : State) (c : Core) (
             gr = h .state j .core .gr;
             narrow = b;
             annex = h .state j .core .annex;
+            enough = c .enough;
             charged = h .state j .core .charged;
             out = c .out;
           };
@@ -122,6 +126,7 @@ module _ (g : Given) (starts lens t₀ i₀ : List ℕ) (s : State) (c : Core) (
             gr = h .state j .core .gr;
             narrow = h .state j .core .narrow;
             annex = h .state j .core .annex;
+            enough = c .enough;
             charged = h .state j .core .charged;
             out = c .out;
           };
@@ -142,6 +147,7 @@ module _ (g : Given) (starts lens t₀ i₀ : List ℕ) (s : State) (c : Core) (
             gr = h .state j .core .gr;
             narrow = h .state j .core .narrow;
             annex = h .state j .core .annex;
+            enough = c .enough;
             charged = h .state j .core .charged + n;
             out = c .out;
           };

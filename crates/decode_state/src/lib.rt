@@ -1,6 +1,10 @@
 // The decoder's state: `Decoder` of decode.rs, by value. The specs say how it and the two lent
 // buffers hold a state of the definition, and what a function that takes steps promises.
 use decode_output::Out;
+ghost use mathlib.Core.Path.{_≡_};
+ghost use mathlib.Core.Bool.{true, false, cond};
+ghost use lib.Dec.{eqb};
+ghost use Rattle.decode_state.specs.Contracts.{startOf, Ends};
 
 /// What every step can change.
 pub struct Core {
@@ -13,8 +17,10 @@ pub struct Core {
     pub narrow: bool,
     /// Whether the width option is AnnexE.
     pub annex: bool,
+    /// As many issues end the reading.
+    pub enough: u32,
     /// The sum of the lengths of the bodies that ran.
-    pub charged: usize,
+    pub charged: u32,
     /// What was written and waits.
     pub out: Out,
 }
@@ -36,4 +42,40 @@ pub struct Stepped {
 pub struct Far {
     pub at: usize,
     pub core: Core,
+}
+
+/// The set that G3 starts with. Part 3, Table 8-2; Katakana in SI.
+fn initial_g3(initial: u32) -> u8
+    ensures { λ r. ⌜ r ≡ cond (eqb initial 0) 3 15 ⌝ }
+{
+    if initial == 0 { 3 } else { 15 }
+}
+
+/// More issues than an input can have: the reading goes to the end of its bytes.
+pub const UNBOUNDED: u32 = 0xFFFFFFFF;
+
+/// The state before the first byte, of a reading that so many issues end.
+pub fn start(initial: u32, width: u32, enough: u32) -> Core
+    ensures { λ r. ⌜ r ≡ startOf initial width enough ⌝ }
+{
+    Core {
+        sets: [0, 1, 2, initial_g3(initial)],
+        gl: 0,
+        gr: 2,
+        narrow: false,
+        annex: width == 1,
+        enough,
+        charged: 0,
+        out: decode_output::start(),
+    }
+}
+
+/// Whether a reading is over before the end of its bytes: it has enough issues.
+pub fn ended(enough: u32, issues: usize) -> bool
+    ensures { λ r. ⌜ (r ≡ true → Ends enough issues) × (r ≡ false → Ends enough issues → ⊥) ⌝ }
+{
+    if issues >= enough as usize {
+        return true;
+    }
+    false
 }

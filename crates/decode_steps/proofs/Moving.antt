@@ -51,5 +51,5 @@ took-writes {f = f} {c} {t} {i} {o} {t′} {i′} b j p q l h w =
           };
       some = omega arith;
       within = omega arith;
-      kept = record { gl = h .gl; gr = h .gr; charged = refl; grew = record { ordered = v .ordered; repeat = v .repeat; text = omega arith; issues = omega arith } };
+      kept = record { gl = h .gl; gr = h .gr; enough = refl; charged = refl; grew = record { ordered = v .ordered; repeat = v .repeat; text = omega arith; issues = omega arith } };
     }

@@ -27,6 +27,7 @@ kept-on : {e k : ℕ} {c r q : Core} → Kept e c r → Kept k r q → Kept (e +
 kept-on v w = record {
   gl = w .gl;
   gr = w .gr;
+  enough = w .enough ∙ v .enough;
   charged = w .charged ∙ v .charged;
   grew = record {
     ordered = w .grew .ordered;
@@ -41,7 +42,7 @@ module _ (cells : List ℕ) (base origin : ℕ) (b : List ℕ) where
   stretch-start j c t i h k = record {
     past = omega arith;
     within = h;
-    kept = record { gl = k .gl; gr = k .gr; charged = refl; grew = record { ordered = k .room .ordered; repeat = k .room .repeat; text = omega arith; issues = omega arith } };
+    kept = record { gl = k .gl; gr = k .gr; enough = refl; charged = refl; grew = record { ordered = k .room .ordered; repeat = k .room .repeat; text = omega arith; issues = omega arith } };
     goes = λ g e left R starts lens. goes-none g left R base origin b j (whole c starts lens) t i;
   }
 
@@ -74,6 +75,7 @@ module _ (cells : List ℕ) (base origin : ℕ) (b : List ℕ) where
       wider u k w = record {
         gl = w .gl;
         gr = w .gr;
+        enough = w .enough;
         charged = w .charged;
         grew = record { ordered = w .grew .ordered; repeat = w .grew .repeat; text = omega (arith, w .grew .text); issues = omega (arith, w .grew .issues) };
       }

@@ -9,7 +9,7 @@ use Rattle.reading.specs.Steps.{step, offset}
 use Rattle.decode_state.specs.declared.Core.{Core}
 use Rattle.decode_state.specs.declared.Stepped.{Stepped}
 use Rattle.decode_steps.specs.declared.Stop.{Stop}
-use Rattle.decode_steps.specs.declared.Stop.the-variants.{End, Macro, Char, Shifted}
+use Rattle.decode_steps.specs.declared.Stop.the-variants.{End, Macro, Char, Shifted, Issue}
 use Rattle.decode_state.specs.Contracts.{MayTake, TookOver, Stretch}
 use Rattle.decode_steps.specs.Contracts.{Verdict, StopAt}
 use Rattle.decode_steps.proofs.Stretches.{good-after, stretch-start, stretch-on, stretch-step}
@@ -58,3 +58,4 @@ stop-at End b i c h v = absurd (h refl)
 stop-at Macro b i c h v = v
 stop-at (Char e) b i c h v = v
 stop-at (Shifted e) b i c h v = v
+stop-at Issue b i c h v = v

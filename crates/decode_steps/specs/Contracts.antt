@@ -1,4 +1,4 @@
--- Where plain steps stop: at MACRO, and at characters of the macro set.
+-- Where plain steps stop: at MACRO, at characters of the macro set, and behind an issue that ends the reading.
 use Prim.Native.Nat.{ℕ, _+_, _≤_, _<_}
 use mathlib.Core.Path.{_≡_}
 use mathlib.Core.Bool.{true, false}
@@ -9,9 +9,9 @@ use Rattle.control.specs.Codes.{SS2, SS3, MACRO}
 use Rattle.reading.specs.Characters.{isGL, isGR, isGraphic}
 use Rattle.decode_state.specs.declared.Core.{Core}
 use Rattle.decode_steps.specs.declared.Stop.{Stop}
-use Rattle.decode_steps.specs.declared.Stop.the-variants.{End, Macro, Char, Shifted}
+use Rattle.decode_steps.specs.declared.Stop.the-variants.{End, Macro, Char, Shifted, Issue}
 use Rattle.decode_steps.specs.declared.Stretched.{Stretched}
-use Rattle.decode_state.specs.Contracts.{Stretch}
+use Rattle.decode_state.specs.Contracts.{Ends, Stretch}
 
 -- the byte x begins a character of the code element e
 pub record CharOf (x e : ℕ) (c : Core) : Type 0 where
@@ -35,12 +35,13 @@ pub record ShiftedAt (e : ℕ) (b : List ℕ) (i : ℕ) (c : Core) : Type 0 wher
   pub behind : isGraphic (getD b (i + 1) 0) ≡ true
   pub macros : getD (c .sets) e 0 ≡ 15
 
--- why steps stop at the byte i of b: the end, MACRO, or a character of the macro set
+-- why steps stop at the byte i of b: the end, MACRO, a character of the macro set, or an issue before it
 abbrev pub StopAt : Stop → List ℕ → ℕ → Core → Type 0
 StopAt End b i c = length b ≤ i
 StopAt Macro b i c = (i < length b) × (getD b i 0 ≡ MACRO)
 StopAt (Char e) b i c = CharAt e b i c
 StopAt (Shifted e) b i c = ShiftedAt e b i c
+StopAt Issue b i c = Ends (c .enough) (c .out .issues)
 
 -- the step at the byte i of b concerns no macro
 pub record Passes (b : List ℕ) (i : ℕ) (c : Core) : Type 0 where
@@ -55,6 +56,7 @@ Verdict End b i c = Passes b i c
 Verdict Macro b i c = StopAt Macro b i c
 Verdict (Char e) b i c = StopAt (Char e) b i c
 Verdict (Shifted e) b i c = StopAt (Shifted e) b i c
+Verdict Issue b i c = StopAt Issue b i c
 
 -- a stretch of plain steps, and where it stops
 pub record Plain (cells : List ℕ) (base origin : ℕ) (b : List ℕ) (j : ℕ) (c : Core) (t i : List ℕ) (r : Stretched) (t′ i′ : List ℕ) : Type 0 where

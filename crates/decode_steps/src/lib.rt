@@ -32,6 +32,8 @@ pub enum Stop {
     Char(usize),
     /// At a single shift with a character of the macro set behind it, in this code element.
     Shifted(usize),
+    /// Behind an issue that ends the reading.
+    Issue,
 }
 
 /// After such a run.
@@ -225,6 +227,13 @@ pub fn steps(
         let r = simple(cells, b, At { i, at }, o.base + i as u32, s, text, issues);
         s = r.core;
         i += r.used;
+        if decode_state::ended(s.enough, s.out.issues) {
+            return Stretched {
+                at: i,
+                stop: Stop::Issue,
+                core: s,
+            };
+        }
     }
 }
 

@@ -1,5 +1,6 @@
 // `decode.bin` against `decode_with`: the number, the place, the counts, and every element of both
-// buffers, which hold a pattern before the call.
+// buffers, which hold a pattern before the call. `clean` is held to the same answer.
+use crate::cleaning;
 use crate::decoding_case::DecodingCase;
 use crate::decoding_case::case_at;
 use decode::call::Answer;
@@ -38,7 +39,7 @@ fn same_answer(answer: Answer, case: DecodingCase) -> bool {
     }
 }
 
-/// One call, in the buffers that are lent.
+/// One call, in the buffers that are lent, and whether it is clean.
 fn same(
     case: DecodingCase,
     cells: &[u16],
@@ -49,7 +50,10 @@ fn same(
     numbers: &mut [u32],
 ) -> bool {
     let answer = decode::call::decode_with(cells, case.initial, case.width, input, bytes, numbers);
-    same_answer(answer, case) & same_bytes(bytes, text) & same_numbers(numbers, issues)
+    same_answer(answer, case)
+        & same_bytes(bytes, text)
+        & same_numbers(numbers, issues)
+        & cleaning::same(case, cells, input)
 }
 
 /// One call, in buffers of the stated lengths.

@@ -1,5 +1,6 @@
-// Holds `decode_with` to calls whose answers are known: `decode.bin` has the calls with their answers, `jis.tab` the cell
-// table (compare/README.md has the layout). A line says how many answers were compared and how many differ.
+// Holds `decode_with` and `clean` to calls whose answers are known: `decode.bin` has the calls with their answers,
+// `jis.tab` the cell table (compare/README.md has the layout). A line says how many calls were compared and how many differ.
+mod cleaning;
 mod decoding;
 mod decoding_case;
 
@@ -15,5 +16,5 @@ fn main() {
     }
     let mut file = [0u8; 0x80000];
     let n = read(b"decode.bin", &mut file);
-    line(b"decode", decoding::replay(&file[..n], &t));
+    line(b"decode and clean", decoding::replay(&file[..n], &t));
 }

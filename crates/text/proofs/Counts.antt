@@ -14,11 +14,14 @@ use Rattle.decode.specs.Answers as decoded
 use Rattle.coding.specs.Call as coding
 use Rattle.encode.specs.Answers as codes
 use Rattle.encode.specs.declared.call.Answer as encoded
+use Rattle.clean.specs.Clean as clean
+use Rattle.clean.specs.Contracts as cleans
+use Rattle.clean.specs.declared.CleanAnswer.{CleanAnswer}
 use Rattle.key.specs.Key as key
 use Rattle.key.specs.Contracts as keys
 use Rattle.key.specs.declared.KeyAnswer.{KeyAnswer}
 use Rattle.text_counts.specs.Counts.{fronted, escapeStart}
-use Rattle.text.specs.Calls.{counts, Decodes, Escapes, keyCounts, Keys, codingCounts, Codes}
+use Rattle.text.specs.Calls.{counts, Decodes, Escapes, cleanCounts, Cleans, keyCounts, Keys, codingCounts, Codes}
 
 -- an answer whose numbers were reported
 pub decodes : {c : Lent} {a : Answer} {before after t i : List ℕ} {n p x y z : ℕ} → decoded.Answered c a t i
@@ -31,6 +34,11 @@ decodes v n p x y z e = record {
   written = v .written;
   listed = v .listed;
 }
+
+pub cleaned : {c : clean.Lent} {a : CleanAnswer} {before after : List ℕ} {n p x : ℕ} → cleans.Answered c a
+    → n ≡ cleans.numberOf a → p ≡ cleans.placeOf a → x ≡ cleans.cleanOf a → after ≡ fronted before (p ∷ x ∷ []) → Cleans c before n after
+unfolding cleanCounts
+cleaned v n p x e = record { number = n ∙ v .number; counted = e ∙ rw (p ∙ v .place, x ∙ v .said) refl }
 
 pub keyed : {c : key.Lent} {a : KeyAnswer} {before after b : List ℕ} {n p x y : ℕ} → keys.Answered c a b
     → n ≡ keys.numberOf a → p ≡ keys.placeOf a → x ≡ keys.lenOf a → y ≡ keys.chargedOf a

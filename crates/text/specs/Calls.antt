@@ -5,6 +5,7 @@ use mathlib.Core.List.{List, [], _∷_}
 use lib.ListN.{length, take, drop}
 use Rattle.reading.specs.Call.{Lent, Outcome, outcome, escapePart}
 use Rattle.coding.specs.Call as coding
+use Rattle.clean.specs.Clean as clean
 use Rattle.key.specs.Key as key
 use Rattle.text_counts.specs.Counts.{fronted, escapeStart}
 
@@ -25,6 +26,15 @@ pub record Escapes (input : List ℕ) (start len : ℕ) (before : List ℕ) (r :
   pub long : r ≡ length (escapePart input start len)
   pub counted : after ≡ fronted before (escapeStart (length input) start len ∷ r ∷ [])
   pub names : take r (drop (escapeStart (length input) start len) input) ≡ escapePart input start len
+
+-- The counts of a clean call: place, and 1 for yes or 0. It asks none of 4, 5 and 6.
+unfoldable pub cleanCounts : clean.Outcome → List ℕ
+cleanCounts o = 0 ∷ o .clean ∷ []
+
+-- the number of the refusal as the result (0: none), and the counts
+pub record Cleans (c : clean.Lent) (before : List ℕ) (r : ℕ) (after : List ℕ) : Type 0 where
+  pub number : r ≡ clean.outcome c .refused
+  pub counted : after ≡ fronted before (cleanCounts (clean.outcome c))
 
 -- The counts of a key: place, bytes of the key, charge. A key asks none of 4, 5 and 6.
 unfoldable pub keyCounts : key.Outcome → List ℕ

@@ -1,9 +1,10 @@
 // The calls that other programs link: lib.rs. Each is a function of the crates below, with plain C
 // names; a slice passes as a pointer and a length.
 ghost use Rattle.decode.specs.Answers.{lent};
+ghost use Rattle.clean.specs.Contracts as cleans;
 ghost use Rattle.key.specs.Contracts as keys;
 ghost use Rattle.encode.specs.Answers as codes;
-ghost use Rattle.text.specs.Calls.{Decodes, Escapes, Keys, Codes};
+ghost use Rattle.text.specs.Calls.{Decodes, Escapes, Cleans, Keys, Codes};
 
 /// `decode_with`: the counts are the place of a refusal, then the text's bytes, the issues and the
 /// charge. Answers the number of the refusal, 0 for none.
@@ -46,6 +47,24 @@ pub extern "C" fn arib_unknown_escape(
     let from = text_counts::escape_start(input.len(), start, len);
     text_counts::report(part, from, &[n]);
     n
+}
+
+/// Whether a string is read without an issue: the counts are the place of a refusal, then 1 for yes or 0. Answers the
+/// number of the refusal, 0 for none.
+#[no_mangle]
+pub extern "C" fn arib_clean(
+    cells: &[u16],
+    initial: u32,
+    width: u32,
+    input: &[u8],
+    counts: &mut [usize],
+) -> u32
+    ensures { λ r. ⌜ Cleans (cleans.lent (now (cells .entry)) initial width (now (input .entry))) (now (counts .entry)) r (now (counts .exit)) ⌝ }
+{
+    let answer = clean::clean(cells, initial, width, input);
+    let numbers = [clean::values::clean(answer)];
+    text_counts::report(counts, clean::values::place(answer), &numbers);
+    clean::values::number(answer)
 }
 
 /// The key of a title: the counts are the place of a refusal, then the key's bytes and the charge.

@@ -4,6 +4,7 @@ use native.Mathlib.Omega.{arith}
 use borrow.Author.Needs.{needs}
 use Rattle.decode_steps.proofs.Dispatch.{step-char, step-shift, step-macro}
 use Rattle.decode_bodies.proofs.Stops.{told, shift-char}
+use Rattle.decode_bodies.proofs.Along.{ended-step}
 use Rattle.decode_outer.proofs.Defining.{outer-as, shift-outer}
 use Rattle.decode_outer.proofs.step.Statement.{statement}
 use Rattle.decode_outer.proofs.step.Tie as tie
@@ -53,6 +54,9 @@ add-t20 c =
 enum-told-4 : tie.Need-enum-told-4
 enum-told-4 c = search needs
 
+enum-told-5 : tie.Need-enum-told-5
+enum-told-5 c = search needs
+
 same-length : tie.Need-same-length
 same-length c = search needs
 
@@ -101,12 +105,19 @@ returns-4 : tie.Need-returns-4
 returns-4 c =
     let at-slices = c .before .before in
     let entry = at-slices .before .before .before .before in
-    absurd (omega (arith, told _ _ _ (c .enum-told4 .given .1) (entry .pre .1 .1), entry .pre .1 .0))
+    let ends = told _ _ _ (c .enum-told4 .given .1) (entry .pre .1 .1) in
+    record { ran = ended-step _ _ _ _ _ _ (entry .pre .0 .ready) (entry .pre .1 .0) ends; inside = entry .pre .0 .inside }
+
+returns-5 : tie.Need-returns-5
+returns-5 c =
+    let at-slices = c .before .before in
+    let entry = at-slices .before .before .before .before in
+    absurd (omega (arith, told _ _ _ (c .enum-told5 .given .1) (entry .pre .1 .1), entry .pre .1 .0))
 
 pub step-spec : {M : Type 1} → statement M
 step-spec =
     tie.close
     (tie.spec
     enum-told macro-cmd-requires enum-told-2 cast-call call-requires enum-told-3 add-call cast-call-2
-    call-requires-2 add-t20 enum-told-4 same-length same-length-2 returns same-length-3 same-length-4
-    returns-2 same-length-5 same-length-6 returns-3 returns-4)
+    call-requires-2 add-t20 enum-told-4 enum-told-5 same-length same-length-2 returns same-length-3 same-length-4
+    returns-2 same-length-5 same-length-6 returns-3 returns-4 returns-5)

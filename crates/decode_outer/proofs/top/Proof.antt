@@ -1,5 +1,6 @@
 -- `top`: the loop goes along the input; its measure is what is left unread of it.
 use Prim.Native.Nat.{ℕ, _-_}
+use mathlib.Core.Path.{_∙_}
 use mathlib.Core.List.{List}
 use native.Mathlib.Omega.{arith}
 use lib.ListN.{length}
@@ -7,7 +8,8 @@ use borrow.Author.Needs.{needs}
 use Rattle.decode_state.specs.declared.Decoder.{Decoder}
 use Rattle.decode_bodies.specs.Contracts.{Inside}
 use Rattle.decode_bodies.proofs.Room.{ready-good, ready-left, ready-less}
-use Rattle.decode_bodies.proofs.Along.{Along, along-start, along-stretch, along-step, along-end, outside-step}
+use Rattle.decode_bodies.proofs.Along.{Along, along-start, along-stretch, along-step, along-cut, along-end, outside-step}
+use Rattle.decode_outer.proofs.Defining.{inside-start}
 use Rattle.decode_outer.proofs.top.Statement.{statement}
 use Rattle.decode_outer.proofs.top.Tie as tie
 
@@ -24,15 +26,15 @@ abbrev μ-loop : tie.MeasureT-loop
 
 loop-holds : tie.Need-loop-holds Inv-loop μ-loop
 loop-holds c =
-    let outside = c .before .before .before .before .pre in
-    record { along = along-start (outside .ready); inside = outside .inside }
+    let entry = c .before .before .before .before in
+    record { along = along-start (entry .pre .1); inside = inside-start (entry .args .input .now) }
 
 steps-requires : tie.Need-steps-requires Inv-loop μ-loop
 steps-requires c κs =
     let at-loop = c .before .before .before in
     let w = at-loop .loop .inv .along in
-    let outside = at-loop .before .before .before .before .before .pre in
-    ((w .within, outside .short, omega arith), ready-good (ready-left (outside .ready) (w .within) (w .grown)))
+    let pre = at-loop .before .before .before .before .before .pre in
+    ((w .within, pre .0, omega arith), ready-good (ready-left (pre .1) (w .within) (w .grown)))
 
 same-length : tie.Need-same-length Inv-loop μ-loop
 same-length c = search needs
@@ -46,7 +48,7 @@ returns c =
     let at-steps = after-steps .before .before .before .before in
     let at-loop = at-steps .before .before .before .before in
     let w = along-stretch (at-loop .loop .inv .along) (at-steps .steps .ensures .stretch) (at-steps .steps .kept .1 .1 .1 .1 .1 .0) (at-steps .steps .kept .1 .1 .1 .1 .1 .1 .0) in
-    along-end w (c .if1 .taken)
+    record { starts = at-loop .loop .d .starts; lens = at-loop .loop .d .lens; ran = along-end w (c .if1 .taken) }
 
 step-requires : tie.Need-step-requires Inv-loop μ-loop
 step-requires c κs =
@@ -54,24 +56,56 @@ step-requires c κs =
     let after-steps = at-test .before .before in
     let at-steps = after-steps .before .before .before .before in
     let at-loop = at-steps .before .before .before .before in
-    let outside = at-loop .before .before .before .before .before .pre in
+    let pre = at-loop .before .before .before .before .before .pre in
     let w = along-stretch (at-loop .loop .inv .along) (at-steps .steps .ensures .stretch) (at-steps .steps .kept .1 .1 .1 .1 .1 .0) (at-steps .steps .kept .1 .1 .1 .1 .1 .1 .0) in
-    let ready = ready-less {e = 1} (ready-left (outside .ready) (w .within) (w .grown)) (omega (arith, at-test .if1 .left)) in
-    (record { short = outside .short; inside = at-loop .loop .inv .inside; ready = ready }, (at-test .if1 .left, at-steps .steps .ensures .stop))
+    let ready = ready-less {e = 1} (ready-left (pre .1) (w .within) (w .grown)) (omega (arith, at-test .if1 .left)) in
+    (record { short = pre .0; inside = at-loop .loop .inv .inside; ready = ready }, (at-test .if1 .left, at-steps .steps .ensures .stop))
+
+ended-requires : tie.Need-ended-requires Inv-loop μ-loop
+ended-requires c κs = search needs
+
+same-length-3 : tie.Need-same-length-3 Inv-loop μ-loop
+same-length-3 c =
+    let at-ended = c .before in
+    let at-step = at-ended .before .before .before .before .before .before .before in
+    let at-steps = at-step .before .before .before .before .before .before .before .before .before in
+    let at-loop = at-steps .before .before .before .before in
+    at-step .step .kept .1 .1 .1 .1 .1 .0 ∙ at-steps .steps .kept .1 .1 .1 .1 .1 .0 ∙ at-loop .loop .inv .along .as-long
+
+same-length-4 : tie.Need-same-length-4 Inv-loop μ-loop
+same-length-4 c =
+    let at-ended = c .before in
+    let at-step = at-ended .before .before .before .before .before .before .before in
+    let at-steps = at-step .before .before .before .before .before .before .before .before .before in
+    let at-loop = at-steps .before .before .before .before in
+    at-step .step .kept .1 .1 .1 .1 .1 .1 .0 ∙ at-steps .steps .kept .1 .1 .1 .1 .1 .1 .0 ∙ at-loop .loop .inv .along .as-many
+
+returns-2 : tie.Need-returns-2 Inv-loop μ-loop
+returns-2 c =
+    let at-ended = c .before in
+    let at-step = at-ended .before .before .before .before .before .before .before in
+    let at-test = at-step .before .before .before in
+    let after-steps = at-test .before .before in
+    let at-steps = after-steps .before .before .before .before in
+    let at-loop = at-steps .before .before .before .before in
+    let w = along-stretch (at-loop .loop .inv .along) (at-steps .steps .ensures .stretch) (at-steps .steps .kept .1 .1 .1 .1 .1 .0) (at-steps .steps .kept .1 .1 .1 .1 .1 .1 .0) in
+    let next = at-step .step .result .decoder in
+    let cut = along-cut w (at-test .if1 .left) (outside-step 4 (at-steps .steps .result .at) (at-step .step .ensures .ran)) (at-ended .ended .ensures .0 (c .if2 .taken)) in
+    record { starts = next .starts; lens = next .lens; ran = cut }
 
 add-i : tie.Need-add-i Inv-loop μ-loop
 add-i c =
-    let after-step = c .before .before in
-    let at-step = after-step .before .before .before .before in
+    let at-ended = c .before .before in
+    let at-step = at-ended .before .before .before .before .before .before .before in
     let after-steps = at-step .before .before .before .before .before in
     let at-steps = after-steps .before .before .before .before in
     let at-loop = at-steps .before .before .before .before in
-    omega (arith, at-step .step .ensures .ran .most, at-loop .before .before .before .before .before .pre .short)
+    omega (arith, at-step .step .ensures .ran .most, at-loop .before .before .before .before .before .pre .0)
 
 loop-less : tie.Need-loop-less Inv-loop μ-loop
 loop-less c =
-    let after-step = c .before .before in
-    let at-step = after-step .before .before .before .before in
+    let at-ended = c .before .before in
+    let at-step = at-ended .before .before .before .before .before .before .before in
     let at-test = at-step .before .before .before in
     let after-steps = at-test .before .before in
     let at-steps = after-steps .before .before .before .before in
@@ -79,8 +113,8 @@ loop-less c =
 
 loop-again : tie.Need-loop-again Inv-loop μ-loop
 loop-again c =
-    let after-step = c .before .before in
-    let at-step = after-step .before .before .before .before in
+    let at-ended = c .before .before in
+    let at-step = at-ended .before .before .before .before .before .before .before in
     let at-test = at-step .before .before .before in
     let after-steps = at-test .before .before in
     let at-steps = after-steps .before .before .before .before in
@@ -89,7 +123,7 @@ loop-again c =
     let step = at-step .step .ensures in
     record {
       along =
-          along-step w (at-test .if1 .left) (outside-step 4 (at-steps .steps .result .at) (step .ran))
+          along-step w (at-test .if1 .left) (outside-step 4 (at-steps .steps .result .at) (step .ran)) (at-ended .ended .ensures .1 (c .before .if2 .left))
           (at-step .step .kept .1 .1 .1 .1 .1 .0) (at-step .step .kept .1 .1 .1 .1 .1 .1 .0);
       inside = step .inside;
     }
@@ -98,4 +132,4 @@ pub top-spec : {M : Type 1} → statement M
 top-spec =
     tie.close
     (tie.spec Inv-loop μ-loop
-    loop-holds steps-requires same-length same-length-2 returns step-requires add-i loop-less loop-again)
+    loop-holds steps-requires same-length same-length-2 returns step-requires ended-requires same-length-3 same-length-4 returns-2 add-i loop-less loop-again)

@@ -1,5 +1,6 @@
 -- `letters` meets its contract. Assumes nothing.
 use mathlib.Core.Path.{sym, _∙_}
+use native.Mathlib.Omega.{arith}
 use Rattle.decode_runs.proofs.Runs.{stretch-none, stretch-runs, plain-text}
 use borrow.Author.Needs.{needs}
 use Rattle.decode_runs.proofs.letters.Statement.{statement}
@@ -19,7 +20,7 @@ runs-from-requires c κs =
     let at-begin = c .before .before .before .before in
     let entry = at-begin .before .before .before .before .before in
     let begins = at-begin .may-begin .ensures (c .before .before .before .if1 .taken) in
-    (entry .pre .0 .0, begins .table, begins .within, c .before .before .settings-of .ensures .0)
+    (entry .pre .0 .0, begins .table, omega (arith, entry .pre .1 .room .ordered, entry .pre .1 .room .text), c .before .before .settings-of .ensures .0)
 
 with-settings-requires : tie.Need-with-settings-requires
 with-settings-requires c κs = search needs

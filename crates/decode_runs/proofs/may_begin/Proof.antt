@@ -23,10 +23,7 @@ returns-3 : tie.Need-returns-3
 returns-3 c = λ e. not-true e
 
 returns-4 : tie.Need-returns-4
-returns-4 c = λ e. not-true e
-
-returns-5 : tie.Need-returns-5
-returns-5 c = search needs
+returns-4 c = search needs
 
 pub may-begin-spec : {M : Type 1} → statement M
 may-begin-spec =
@@ -38,5 +35,4 @@ may-begin-spec =
     returns
     returns-2
     returns-3
-    returns-4
-    returns-5)
+    returns-4)

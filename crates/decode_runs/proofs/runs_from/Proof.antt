@@ -3,34 +3,24 @@ use Prim.Native.Nat.{_-_}
 use mathlib.Core.Path.{refl, sym, _∙_}
 use native.Mathlib.Omega.{arith}
 use lib.ListN.{length}
-use Rattle.decode_runs.proofs.Runs.{Running, running-start, running-more}
+use Rattle.decode_runs.proofs.Runs.{space-on, Running, running-start, running-more}
 use borrow.Author.Needs.{needs}
 use Rattle.decode_runs.proofs.runs_from.Statement.{statement}
 use Rattle.decode_runs.proofs.runs_from.Tie as tie
 
 abbrev Inv-loop : tie.InvT-loop
-Inv-loop cells b annex settings₀ text₀ i₀ m₀ to settings text i m = Running cells b i₀ to annex settings₀ m₀ text₀ i settings m text
+Inv-loop cells b annex settings₀ text₀ i₀ m₀ limit settings text i m = Running cells b i₀ (limit .to) (limit .fits) annex settings₀ m₀ text₀ i settings m text
 
 abbrev μ-loop : tie.MeasureT-loop
-μ-loop cells b annex settings₀ text₀ i₀ m₀ to settings text i m = length b - i
+μ-loop cells b annex settings₀ text₀ i₀ m₀ limit settings text i m = length b - i
 
-sub-fitting : tie.Need-sub-fitting Inv-loop μ-loop
-sub-fitting c = search needs
-
-sub-fitting-2 : tie.Need-sub-fitting-2 Inv-loop μ-loop
-sub-fitting-2 c = search needs
-
-fitting-requires : tie.Need-fitting-requires Inv-loop μ-loop
-fitting-requires c κs = search needs
-
-add-to : tie.Need-add-to Inv-loop μ-loop
-add-to c = search needs
+limit-of-requires : tie.Need-limit-of-requires Inv-loop μ-loop
+limit-of-requires c κs = search needs
 
 loop-holds : tie.Need-loop-holds Inv-loop μ-loop
 loop-holds c =
     let entry = c .before .before .before .before .before in
-    let fits = c .fitting .ensures in
-    running-start (entry .pre .0) (omega (arith, fits .0, entry .pre .2)) (entry .pre .3)
+    running-start (entry .pre .0) (c .limit-of .ensures .2) (entry .pre .3)
 
 slice-read-left : tie.Need-slice-read-left Inv-loop μ-loop
 slice-read-left c = search needs
@@ -56,8 +46,14 @@ slice-read-is-narrow c = search needs
 is-narrow-requires : tie.Need-is-narrow-requires Inv-loop μ-loop
 is-narrow-requires c κs = search needs
 
-letters-from-requires : tie.Need-letters-from-requires Inv-loop μ-loop
-letters-from-requires c κs = search needs
+run-from-requires : tie.Need-run-from-requires Inv-loop μ-loop
+run-from-requires c κs =
+    let at-slices = c .before .before in
+    let turn = at-slices .before .before .before .before .before in
+    let at-limit = turn .before in
+    let entry = at-limit .before .before .before .before .before in
+    let inv = turn .loop .inv in
+    ((inv .runs .within, at-limit .limit-of .ensures .1, entry .pre .1), space-on (omega arith) (omega arith) (inv .as-long) (inv .room))
 
 other-requires : tie.Need-other-requires Inv-loop μ-loop
 other-requires c κs = search needs
@@ -69,8 +65,8 @@ same-length : tie.Need-same-length Inv-loop μ-loop
 same-length c =
     let at-controls = c .before .before .before in
     let at-other = at-controls .before .before .before .before in
-    let at-letters-from = at-other .before .before .before .before in
-    let at-is-narrow = at-letters-from .before .before in
+    let at-run-from = at-other .before .before .before .before in
+    let at-is-narrow = at-run-from .before .before in
     let at-slices = at-is-narrow .before .before in
     let turn = at-slices .before .before .before .before in
     let entry-slices = turn .before .before in
@@ -84,31 +80,31 @@ returns : tie.Need-returns Inv-loop μ-loop
 returns c =
     let at-controls = c .before .before .before in
     let at-other = at-controls .before .before .before .before in
-    let at-letters-from = at-other .before .before .before .before in
-    let at-is-narrow = at-letters-from .before .before in
+    let at-run-from = at-other .before .before .before .before in
+    let at-is-narrow = at-run-from .before .before in
     let at-slices = at-is-narrow .before .before in
     let turn = at-slices .before .before .before .before in
-    running-more (turn .loop .inv) refl refl (at-is-narrow .is-narrow .ensures) (at-letters-from .letters-from .ensures .0) (at-other .other .ensures .0)
-    (at-controls .controls .ensures) (at-letters-from .letters-from .kept .1 .1 .1 .1 .1 .0) (at-other .other .kept .1 .1 .1 .1 .1 .0) (at-other .other .ensures .1) .runs
+    running-more (turn .loop .inv) refl refl (at-is-narrow .is-narrow .ensures) (at-run-from .run-from .ensures .0) (at-other .other .ensures .0)
+    (at-controls .controls .ensures) (at-run-from .run-from .kept .1 .1 .1 .1 .1 .0) (at-other .other .kept .1 .1 .1 .1 .1 .0) (at-other .other .ensures .1) .runs
 
 loop-less : tie.Need-loop-less Inv-loop μ-loop
 loop-less c =
     let at-controls = c .before .before .before in
     let at-other = at-controls .before .before .before .before in
-    let at-letters-from = at-other .before .before .before .before in
+    let at-run-from = at-other .before .before .before .before in
     let past = at-controls .controls .ensures in
-    omega (arith, c .if1 .left, at-letters-from .letters-from .ensures .0 .past, at-other .other .ensures .0 .past, past .past, past .within)
+    omega (arith, c .if1 .left, at-run-from .run-from .ensures .0 .past, at-other .other .ensures .0 .past, past .past, past .within)
 
 loop-again : tie.Need-loop-again Inv-loop μ-loop
 loop-again c =
     let at-controls = c .before .before .before in
     let at-other = at-controls .before .before .before .before in
-    let at-letters-from = at-other .before .before .before .before in
-    let at-is-narrow = at-letters-from .before .before in
+    let at-run-from = at-other .before .before .before .before in
+    let at-is-narrow = at-run-from .before .before in
     let at-slices = at-is-narrow .before .before in
     let turn = at-slices .before .before .before .before in
-    running-more (turn .loop .inv) refl refl (at-is-narrow .is-narrow .ensures) (at-letters-from .letters-from .ensures .0) (at-other .other .ensures .0)
-    (at-controls .controls .ensures) (at-letters-from .letters-from .kept .1 .1 .1 .1 .1 .0) (at-other .other .kept .1 .1 .1 .1 .1 .0) (at-other .other .ensures .1)
+    running-more (turn .loop .inv) refl refl (at-is-narrow .is-narrow .ensures) (at-run-from .run-from .ensures .0) (at-other .other .ensures .0)
+    (at-controls .controls .ensures) (at-run-from .run-from .kept .1 .1 .1 .1 .1 .0) (at-other .other .kept .1 .1 .1 .1 .1 .0) (at-other .other .ensures .1)
 
 pub runs-from-spec : {M : Type 1} → statement M
 runs-from-spec =
@@ -116,10 +112,7 @@ runs-from-spec =
     (tie.spec
     Inv-loop
     μ-loop
-    sub-fitting
-    sub-fitting-2
-    fitting-requires
-    add-to
+    limit-of-requires
     loop-holds
     slice-read-left
     cast-left
@@ -129,7 +122,7 @@ runs-from-spec =
     slice-read-gr
     slice-read-is-narrow
     is-narrow-requires
-    letters-from-requires
+    run-from-requires
     other-requires
     controls-requires
     same-length

@@ -28,7 +28,7 @@ returns-2 c =
     let a = entry .args in
     let at-stop = at-place in
     let n : at-stop .stop-at .result ≡ End → ⊥ =
-    λ e. ⊎-elim (λ z. omega (arith, z)) (⊎-elim (λ z. omega (arith, z)) (λ z. omega (arith, z))) (rw e at (c .match .keys2)) in
+    λ e. ⊎-elim (λ z. omega (arith, z)) (⊎-elim (λ z. omega (arith, z)) (⊎-elim (λ z. omega (arith, z)) (λ z. omega (arith, z)))) (rw e at (c .match .keys2)) in
     record {
       stretch = stretch-start _ _ _ _ _ _ _ _ (entry .pre .0 .0) (entry .pre .1);
       stop = stop-at (at-stop .stop-at .result) (a .b .now) (a .from) (a .core) n (at-stop .stop-at .ensures);

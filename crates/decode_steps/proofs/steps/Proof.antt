@@ -1,7 +1,7 @@
 -- `steps` meets its contract. The loop's invariant: the steps so far are a stretch from `from` to i, and the buffers are as long as they were.
 -- The measure is what is left of the body.
 use Prim.Native.Nat.{_-_}
-use mathlib.Core.Path.{_≡_, subst}
+use mathlib.Core.Path.{_≡_, _∙_, subst}
 use mathlib.Core.Logic.{⊎-elim}
 use native.Mathlib.Omega.{arith}
 use borrow.Author.Needs.{needs}
@@ -69,7 +69,7 @@ returns-2 c =
     let entry = at-loop .before .before .before .before .before in
     let w = way-on (at-loop .loop .inv) (at-letters .letters .ensures (entry .args .o .base) (entry .args .o .origin) (at-loop .loop .issues)) (at-letters .letters .kept .1 .1 .1 .1 .0) in
     let n : c .before .stop-at .result ≡ End → ⊥ =
-    λ e. ⊎-elim (λ z. omega (arith, z)) (⊎-elim (λ z. omega (arith, z)) (λ z. omega (arith, z))) (rw e at (c .match .keys2)) in
+    λ e. ⊎-elim (λ z. omega (arith, z)) (⊎-elim (λ z. omega (arith, z)) (⊎-elim (λ z. omega (arith, z)) (λ z. omega (arith, z)))) (rw e at (c .match .keys2)) in
     let stop = stop-at (c .before .stop-at .result) (entry .args .b .now) (at-letters .letters .result .at) (at-letters .letters .result .core) n (c .before .stop-at .ensures) in
     record { stretch = w .stretch; stop = stop }
 
@@ -121,9 +121,51 @@ add-i c =
     let entry = at-loop .before .before .before .before .before in
     omega (arith, at-simple .simple .ensures 0 (λ b₁ base₁ origin₁ s₁. s₁) .within, entry .pre .0 .1)
 
+ended-requires : tie.Need-ended-requires Inv-loop μ-loop
+ended-requires c κs = search needs
+
+same-length-5 : tie.Need-same-length-5 Inv-loop μ-loop
+same-length-5 c =
+    let at-ended = c .before in
+    let after-simple = at-ended .before .before .before in
+    let at-simple = after-simple .before .before .before .before in
+    let at-offset = at-simple .before .before .before .before in
+    let at-test = at-offset .before .before .before .before in
+    let at-letters = at-test .before .before .before .before in
+    let at-loop = at-letters .before .before in
+    at-simple .simple .kept .1 .1 .1 .1 .1 .0 ∙ at-letters .letters .kept .1 .1 .1 .1 .0 ∙ at-loop .loop .inv .text
+
+same-length-6 : tie.Need-same-length-6 Inv-loop μ-loop
+same-length-6 c =
+    let at-ended = c .before in
+    let after-simple = at-ended .before .before .before in
+    let at-simple = after-simple .before .before .before .before in
+    let at-offset = at-simple .before .before .before .before in
+    let at-test = at-offset .before .before .before .before in
+    let at-letters = at-test .before .before .before .before in
+    let at-loop = at-letters .before .before in
+    at-simple .simple .kept .1 .1 .1 .1 .1 .1 .0 ∙ at-loop .loop .inv .issues
+
+returns-3 : tie.Need-returns-3 Inv-loop μ-loop
+returns-3 c =
+    let at-ended = c .before in
+    let after-simple = at-ended .before .before .before in
+    let at-simple = after-simple .before .before .before .before in
+    let at-offset = at-simple .before .before .before .before in
+    let at-test = at-offset .before .before .before .before in
+    let at-letters = at-test .before .before .before .before in
+    let at-loop = at-letters .before .before in
+    let entry = at-loop .before .before .before .before .before in
+    let w = way-on (at-loop .loop .inv) (at-letters .letters .ensures (entry .args .o .base) (entry .args .o .origin) (at-loop .loop .issues)) (at-letters .letters .kept .1 .1 .1 .1 .0) in
+    let on =
+    way-step (at-simple .simple .result) (at-offset .offset .result) (at-offset .offset .ensures) (at-test .if1 .left) w (at-simple .simple .ensures)
+    (at-simple .simple .kept .1 .1 .1 .1 .1 .0) (at-simple .simple .kept .1 .1 .1 .1 .1 .1 .0) in
+    record { stretch = on .stretch; stop = at-ended .ended .ensures .0 (c .if2 .taken) }
+
 loop-less : tie.Need-loop-less Inv-loop μ-loop
 loop-less c =
-    let after-simple = c .before .before in
+    let at-ended = c .before in
+    let after-simple = at-ended .before .before .before in
     let at-simple = after-simple .before .before .before .before in
     let at-offset = at-simple .before .before .before .before in
     let at-test = at-offset .before .before .before .before in
@@ -135,7 +177,8 @@ loop-less c =
 
 loop-again : tie.Need-loop-again Inv-loop μ-loop
 loop-again c =
-    let after-simple = c .before .before in
+    let at-ended = c .before in
+    let after-simple = at-ended .before .before .before in
     let at-simple = after-simple .before .before .before .before in
     let at-offset = at-simple .before .before .before .before in
     let at-test = at-offset .before .before .before .before in
@@ -167,5 +210,9 @@ steps-spec =
     add-simple
     simple-requires
     add-i
+    ended-requires
+    same-length-5
+    same-length-6
+    returns-3
     loop-less
     loop-again)

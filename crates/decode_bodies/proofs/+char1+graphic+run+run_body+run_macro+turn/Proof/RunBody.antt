@@ -1,6 +1,7 @@
 -- `run_body`: MacroLimit, an empty body, or a body that runs one deeper.
 use Prim.Native.Nat.{ℕ, _+_, _≤_, _<_}
 use native.Mathlib.Omega.{arith}
+use borrow.Author.Needs.{needs}
 use lib.ListN.{length}
 use Rattle.reading.specs.Macros.{limit}
 use Rattle.decode_characters.proofs.report.Reads as report
@@ -33,6 +34,9 @@ module _ (t : ℕ) where
       let entry = at-slices .before .before .before .before .before in
       ran-as (λ g y s h. body-deep g _ _ _ _ _ s (at-test .if1 .taken))
       (did-ran (entry .pre .1 .0 .ready .within) (at-report .report .ensures (entry .args .cells .now) _))
+
+  cast-after : lts.Need-cast-after claims (run-body-at t) run-body.Post
+  cast-after c = search needs
 
   add-after : lts.Need-add-after claims (run-body-at t) run-body.Post
   add-after c =
@@ -82,6 +86,14 @@ module _ (t : ℕ) where
       let entry = at-slices .before .before .before .before .before in
       ran-empty _ _ _ (entry .args .p) _ _ _ (at-depth .if1 .left) (c .if3 .taken) (entry .pre .1 .0 .ready)
 
+  cast-t : lts.Need-cast-t claims (run-body-at t) run-body.Post
+  cast-t c =
+      let at-limit = c .before in
+      let at-depth = at-limit .before .before in
+      let at-slices = at-depth .before .before in
+      let entry = at-slices .before .before .before .before .before in
+      omega (arith, at-limit .if2 .left, entry .pre .1 .0 .input-short)
+
   sub-t18 : lts.Need-sub-t18 claims (run-body-at t) run-body.Post
   sub-t18 c =
       let at-depth = c .before .before .before .before in
@@ -119,5 +131,5 @@ module _ (t : ℕ) where
   pub meets : {M : Type 1} → lts.Closed claims (run-body-at t) run-body.Post M
   meets =
       lts.spec claims (run-body-at t) run-body.Post
-      report-requires same-length returns add-after mul-if2 add-if2 report-requires-2 same-length-2 returns-2 returns-3 sub-t18 run-requires
+      report-requires same-length returns cast-after add-after mul-if2 add-if2 report-requires-2 same-length-2 returns-2 returns-3 cast-t sub-t18 run-requires
       same-length-3 same-length-4 returns-4

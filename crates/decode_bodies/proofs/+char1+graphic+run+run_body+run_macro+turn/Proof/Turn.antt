@@ -11,6 +11,7 @@ use Rattle.decode_bodies.proofs.turn.Reads as turn
 use Rattle.decode_bodies.proofs.Room.{ready-good}
 use Rattle.decode_bodies.proofs.Steps.{step-as, shift-step, took-ran}
 use Rattle.decode_bodies.proofs.Stops.{told, shift-char}
+use Rattle.decode_bodies.proofs.Along.{ended-step}
 use Rattle.decode_bodies.proofs.+char1+graphic+run+run_body+run_macro+turn.Lts-turn as lts
 use Rattle.decode_bodies.proofs.+char1+graphic+run+run_body+run_macro+turn.Proof.Measure.{turn-at, graphic-below}
 
@@ -68,6 +69,9 @@ module _ (t : ℕ) where
   enum-told-4 : lts.Need-enum-told-4 claims (turn-at t) turn.Post
   enum-told-4 c = search needs
 
+  enum-told-5 : lts.Need-enum-told-5 claims (turn-at t) turn.Post
+  enum-told-5 c = search needs
+
   same-length : lts.Need-same-length claims (turn-at t) turn.Post
   same-length c = c .before .before .before .before .graphic .kept .1 .1 .1 .1 .1 .1 .1 .1 .0
 
@@ -123,10 +127,16 @@ module _ (t : ℕ) where
   returns-4 c =
       let at-slices = c .before .before in
       let entry = at-slices .before .before .before .before .before in
-      absurd (omega (arith, told _ _ _ (c .enum-told4 .given .1) (entry .pre .1 .1 .1 .1), entry .pre .1 .1 .1 .0))
+      ended-step _ _ _ _ _ _ (entry .pre .1 .0 .ready) (entry .pre .1 .1 .1 .0) (told _ _ _ (c .enum-told4 .given .1) (entry .pre .1 .1 .1 .1))
+
+  returns-5 : lts.Need-returns-5 claims (turn-at t) turn.Post
+  returns-5 c =
+      let at-slices = c .before .before in
+      let entry = at-slices .before .before .before .before .before in
+      absurd (omega (arith, told _ _ _ (c .enum-told5 .given .1) (entry .pre .1 .1 .1 .1), entry .pre .1 .1 .1 .0))
 
   pub meets : {M : Type 1} → lts.Closed claims (turn-at t) turn.Post M
   meets =
       lts.spec claims (turn-at t) turn.Post
-      enum-told graphic-requires enum-told-2 add-graphic graphic-requires-2 add-t19 enum-told-3 macro-cmd-requires enum-told-4 same-length
-      same-length-2 returns same-length-3 same-length-4 returns-2 same-length-5 returns-3 returns-4
+      enum-told graphic-requires enum-told-2 add-graphic graphic-requires-2 add-t19 enum-told-3 macro-cmd-requires enum-told-4 enum-told-5 same-length
+      same-length-2 returns same-length-3 same-length-4 returns-2 same-length-5 returns-3 returns-4 returns-5

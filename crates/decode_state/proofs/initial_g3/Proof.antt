@@ -1,7 +1,7 @@
 -- `initial_g3`, by the test.
 use borrow.Author.Tests.{eq-eqb, ne-eqb}
-use Rattle.decode.proofs.call.initial_g3.Statement.{statement}
-use Rattle.decode.proofs.call.initial_g3.Tie as tie
+use Rattle.decode_state.proofs.initial_g3.Statement.{statement}
+use Rattle.decode_state.proofs.initial_g3.Tie as tie
 
 returns : tie.Need-returns
 returns c = rw (eq-eqb _ _ (c .if1 .taken))

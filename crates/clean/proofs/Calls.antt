@@ -1,0 +1,122 @@
+-- The clean call, from what the decoder's steps leave. Assumes nothing.
+use Prim.Native.Nat.{ℕ, zero, suc, _≤_, _<_}
+use mathlib.Core.Path.{_≡_, refl, sym, ap, _∙_, subst}
+use mathlib.Core.Bool.{Bool, true, false, cond}
+use mathlib.Core.List.{List, [], _∷_}
+use mathlib.Core.Logic.{inl, inr}
+use native.Mathlib.Omega.{arith}
+use lib.Dec.{eqb}
+use lib.ListN.{length, length-append}
+use Rattle.issues.specs.Issue.{Issue}
+use Rattle.decode_output.specs.declared.Out.{Out}
+use Rattle.decode_output.specs.Output.{release}
+use Rattle.decode_output.specs.Contracts as output
+use Rattle.reading.specs.State.{Given, State, start, writes}
+use Rattle.reading.specs.Steps.{decode, run}
+use Rattle.reading.specs.Call as decoding
+use Rattle.laws_reading.proofs.Reading.{issues-only-grow}
+use Rattle.decode_state.specs.declared.Core.{Core}
+use Rattle.decode_state.specs.declared.Decoder.{Decoder}
+use Rattle.decode_state.specs.Contracts.{startOf, undefined, whole, Holds, HoldsOrCut}
+use Rattle.decode_state.proofs.Begun.{holds-start}
+use Rattle.decode_outer.specs.Contracts.{TopRan}
+use Rattle.clean.specs.Clean.{Lent, reading, isEmpty, clean, refusal, Outcome, outcomeOf, outcome}
+use Rattle.clean.specs.Contracts.{numberOf, placeOf, cleanOf, verdictOf, lent, Answered}
+use Rattle.clean.specs.declared.CleanAnswer.{CleanAnswer}
+use Rattle.clean.specs.declared.CleanAnswer.the-variants.{Yes, No, Refused}
+
+-- ---- the answer
+
+module _ (c : Lent) where
+  -- the reply by the issue list of the reading
+  pub clean-as : (l : List Issue) → reading c .out .issues ≡ l → clean c ≡ isEmpty l
+  unfolding clean
+  clean-as l q = ap isEmpty q
+
+  -- the outcome by the first question that fails
+  pub passed-as : refusal c ≡ 0 → outcome c ≡ record { refused = 0; clean = cond (clean c) 1 0 }
+  unfolding outcome outcomeOf
+  passed-as z = ap (λ (q : ℕ). outcomeOf q c) z
+
+  pub failed-as : (q : ℕ) → refusal c ≡ suc q → outcome c ≡ record { refused = suc q; clean = 0 }
+  unfolding outcome outcomeOf
+  failed-as q z = ap (λ (n : ℕ). outcomeOf n c) z
+
+  -- the answer by how many issues there are
+  pub answered : refusal c ≡ 0 → (n : ℕ) → n ≡ length (reading c .out .issues) → Answered c (verdictOf n)
+  unfolding isEmpty
+  answered z n e = go n (reading c .out .issues) refl e
+    where
+      o : outcome c ≡ record { refused = 0; clean = cond (clean c) 1 0 }
+      o = passed-as z
+
+      said : (b : Bool) → clean c ≡ b → outcome c .clean ≡ cond b 1 0
+      said b q = ap (λ (x : Outcome). x .clean) o ∙ ap (λ (b : Bool). cond b 1 0) q
+
+      go : (n : ℕ) (l : List Issue) → reading c .out .issues ≡ l → n ≡ length l → Answered c (verdictOf n)
+      go zero [] q h =
+          let w : clean c ≡ true = clean-as [] q in
+          record { number = sym (ap (λ (x : Outcome). x .refused) o); case = λ k. sym (ap (λ (b : Bool). cond b Yes No) w); place = refl; said = sym (said true w) }
+      go (suc n) (i ∷ l) q h =
+          let w : clean c ≡ false = clean-as (i ∷ l) q in
+          record { number = sym (ap (λ (x : Outcome). x .refused) o); case = λ k. sym (ap (λ (b : Bool). cond b Yes No) w); place = refl; said = sym (said false w) }
+      go zero (i ∷ l) q h = absurd (omega (arith, h))
+      go (suc n) [] q h = absurd (omega (arith, h))
+
+  -- one of questions 1 to 3 fails
+  pub refused : (q : ℕ) → refusal c ≡ q → 0 < q → Answered c (Refused q 0)
+  refused zero e h = absurd (omega arith)
+  refused (suc q) e h =
+      let o = failed-as q e in
+      record {
+        number = sym (ap (λ (x : Outcome). x .refused) o);
+        case = λ k. absurd (omega (arith, k));
+        place = refl;
+        said = sym (ap (λ (x : Outcome). x .clean) o);
+      }
+
+-- ---- from the start, by all steps and the release of the marks
+
+module _ (cells : List ℕ) (initial width : ℕ) (input t i : List ℕ) (d r : Core) (t₁ i₁ : List ℕ) (z : refusal (lent cells initial width input) ≡ 0)
+    (e : d ≡ startOf initial width 1) (p : r .enough ≡ 1) (top : TopRan cells input d t i r t₁ i₁) where
+  abbrev given : Given
+  given = record { cells = cells; annexE = eqb width 1; input = input }
+
+  abbrev ends : State
+  ends = run given 4 input 0 0 (start initial)
+
+  ran : HoldsOrCut given t i ends (whole r (top .starts) (top .lens)) t₁ i₁
+  ran = top .ran .does given refl refl t i (start initial) (subst (λ (x : Core). Holds given t i (start initial) (undefined x) t i) (sym e) (holds-start cells input initial width 1 t i))
+
+  -- the reading is the end of the steps, with the marks released
+  read : reading (lent cells initial width input) ≡ writes release ends
+  unfolding reading decode
+  read = refl
+
+  -- an issue before the end
+  pub answered-no : 0 < r .out .issues → Answered (lent cells initial width input) No
+  answered-no h = some (reading (lent cells initial width input) .out .issues) refl (later (has ran))
+    where
+      has : HoldsOrCut given t i ends (whole r (top .starts) (top .lens)) t₁ i₁ → 1 ≤ length (ends .out .issues)
+      has (inl k) = omega (arith, h, ap (λ (o : Out). o .issues) (k .out .state))
+      has (inr q) = omega (arith, p, q .has)
+
+      later : 1 ≤ length (ends .out .issues) → 1 ≤ length (reading (lent cells initial width input) .out .issues)
+      later k =
+          let w = issues-only-grow .released ends in
+          rw read (omega (arith, k, ap length (w .reported), length-append (ends .out .issues) (w .issues)))
+
+      some : (l : List Issue) → reading (lent cells initial width input) .out .issues ≡ l → 1 ≤ length (reading (lent cells initial width input) .out .issues)
+          → Answered (lent cells initial width input) No
+      some [] q k = absurd (omega (arith, k, ap length q))
+      some (x ∷ l) q k = answered (lent cells initial width input) z (suc (length l)) (sym (ap length q))
+
+  -- none before it: the marks that wait there bring one
+  pub answered-end : {o : Out} {i₂ : List ℕ} → r .out .issues ≤ 0 → output.Wrote 0 1 release (r .out) t₁ i₁ o t₁ i₂
+      → Answered (lent cells initial width input) (verdictOf (o .issues))
+  unfolding writes
+  answered-end {o = o} {i₂ = i₂} h flush = answered (lent cells initial width input) z (o .issues) (count ran)
+    where
+      count : HoldsOrCut given t i ends (whole r (top .starts) (top .lens)) t₁ i₁ → o .issues ≡ length (reading (lent cells initial width input) .out .issues)
+      count (inl k) = rw read (ap (λ (x : Out). x .issues) (flush .does t i (ends .out) (k .out) .state))
+      count (inr q) = absurd (omega (arith, h, p, q .ends))

@@ -1,0 +1,85 @@
+-- `clean_checked`: all steps up to the first issue, the release of the marks, and the answer.
+use mathlib.Core.Path.{_≡_, sym, subst}
+use borrow.Author.Needs.{needs}
+use lib.ListN.{length}
+use Rattle.questions.proofs.Refusals.{passed}
+use Rattle.decode_outer.proofs.Start.{ready-start, room-end, enough-end}
+use Rattle.clean.specs.Clean.{refusal}
+use Rattle.clean.specs.Contracts.{lent, Answered}
+use Rattle.clean.specs.declared.CleanAnswer.{CleanAnswer}
+use Rattle.clean.proofs.Calls.{answered-no, answered-end}
+use Rattle.clean.proofs.clean_checked.Statement.{statement}
+use Rattle.clean.proofs.clean_checked.Tie as tie
+
+start-requires : tie.Need-start-requires
+start-requires c κs = search needs
+
+slice-aggregate-top : tie.Need-slice-aggregate-top
+slice-aggregate-top c = search needs
+
+slice-aggregate-top-2 : tie.Need-slice-aggregate-top-2
+slice-aggregate-top-2 c = search needs
+
+top-requires : tie.Need-top-requires
+top-requires c κs =
+    let at-start = c .before .before in
+    let entry = at-start .before .before .before in
+    let short = passed _ _ _ _ _ (entry .pre) .within in
+    (short, ready-start (entry .args .input .now) (entry .args .initial) (entry .args .width) 1 short (at-start .start .ensures))
+
+returns : tie.Need-returns
+unfolding refusal
+returns c =
+    let after-top = c .before .before in
+    let at-top = after-top .before .before .before in
+    let at-start = at-top .before .before .before in
+    let entry = at-start .before .before .before in
+    let a = entry .args in
+    let short = passed (a .cells .now) (a .initial) (a .width) 65535 (length (a .input .now)) (entry .pre) .within in
+    let asked = enough-end (entry .args .input .now) (entry .args .initial) (entry .args .width) 1 short (at-start .start .ensures) (at-top .top .ensures) in
+    answered-no (a .cells .now) (a .initial) (a .width) (a .input .now) _ _ _ (at-top .top .result) _ _ (entry .pre) (at-start .start .ensures) asked (at-top .top .ensures) (c .if1 .taken)
+
+slice-aggregate-flush-dangling : tie.Need-slice-aggregate-flush-dangling
+slice-aggregate-flush-dangling c = search needs
+
+flush-dangling-requires : tie.Need-flush-dangling-requires
+flush-dangling-requires c κs =
+    let after-top = c .before .before .before in
+    let at-top = after-top .before .before .before in
+    let at-start = at-top .before .before .before in
+    let entry = at-start .before .before .before in
+    room-end (entry .args .input .now) (entry .args .initial) (entry .args .width) 1 (passed _ _ _ _ _ (entry .pre) .within) (at-start .start .ensures) (at-top .top .ensures)
+
+verdict-requires : tie.Need-verdict-requires
+verdict-requires c κs = search needs
+
+returns-2 : tie.Need-returns-2
+unfolding refusal
+returns-2 c =
+    let at-flush = c .before .before in
+    let at-test = at-flush .before .before in
+    let after-top = at-test .before .before in
+    let at-top = after-top .before .before .before in
+    let at-start = at-top .before .before .before in
+    let entry = at-start .before .before .before in
+    let a = entry .args in
+    let short = passed (a .cells .now) (a .initial) (a .width) 65535 (length (a .input .now)) (entry .pre) .within in
+    let asked = enough-end (entry .args .input .now) (entry .args .initial) (entry .args .width) 1 short (at-start .start .ensures) (at-top .top .ensures) in
+    let v =
+    answered-end (a .cells .now) (a .initial) (a .width) (a .input .now) _ _ _ (at-top .top .result) _ _ (entry .pre) (at-start .start .ensures) asked (at-top .top .ensures) (at-test .if1 .left)
+    (at-flush .flush-dangling .ensures _) in
+    subst (λ (r : CleanAnswer). Answered (lent (a .cells .now) (a .initial) (a .width) (a .input .now)) r) (sym (c .verdict .ensures)) v
+
+pub clean-checked-spec : {M : Type 1} → statement M
+clean-checked-spec =
+    tie.close
+    (tie.spec
+    start-requires
+    slice-aggregate-top
+    slice-aggregate-top-2
+    top-requires
+    returns
+    slice-aggregate-flush-dangling
+    flush-dangling-requires
+    verdict-requires
+    returns-2)

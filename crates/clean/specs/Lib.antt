@@ -1,0 +1,4 @@
+pub mod Clean
+pub mod Contracts
+pub mod Laws
+pub mod Examples
