@@ -109,7 +109,8 @@ uint32_t arib_key(const uint16_t *cells, size_t cells_len, uint32_t initial, uin
 /* Whether a title reads without issue, that is, whether arib_decode with room enough counts no
  * issue; marks that wait at the very end are one. counts: place, 1 if the title is clean and 0 if
  * it is not. Stops at the first issue, however deep in macro bodies, and needs no buffers, since
- * neither text nor issues are kept. Questions 1, 2, 3. */
+ * neither text nor issues are kept. Questions 1, 2, 3. Takes at most some 12,000 bytes of stack, as
+ * arib_decode does. */
 uint32_t arib_clean(const uint16_t *cells, size_t cells_len, uint32_t initial, uint32_t width,
                     const uint8_t *input, size_t input_len, size_t *counts, size_t counts_len);
 

@@ -13,16 +13,13 @@ use Rattle.decode_output.specs.Output.{release}
 use Rattle.decode_output.specs.Contracts as output
 use Rattle.reading.specs.State.{Given, State, start, writes}
 use Rattle.reading.specs.Steps.{decode, run}
-use Rattle.reading.specs.Call as decoding
 use Rattle.laws_reading.proofs.Reading.{issues-only-grow}
 use Rattle.decode_state.specs.declared.Core.{Core}
-use Rattle.decode_state.specs.declared.Decoder.{Decoder}
 use Rattle.decode_state.specs.Contracts.{startOf, undefined, whole, Holds, HoldsOrCut}
 use Rattle.decode_state.proofs.Begun.{holds-start}
 use Rattle.decode_outer.specs.Contracts.{TopRan}
 use Rattle.clean.specs.Clean.{Lent, reading, isEmpty, clean, refusal, Outcome, outcomeOf, outcome}
-use Rattle.clean.specs.Contracts.{numberOf, placeOf, cleanOf, verdictOf, lent, Answered}
-use Rattle.clean.specs.declared.CleanAnswer.{CleanAnswer}
+use Rattle.clean.specs.Contracts.{verdictOf, lent, Answered}
 use Rattle.clean.specs.declared.CleanAnswer.the-variants.{Yes, No, Refused}
 
 -- ---- the answer

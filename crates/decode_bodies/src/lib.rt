@@ -260,11 +260,10 @@ fn run<'a>(
         }
         let stop = f.stop;
         let r = turn(cells, input, b, i, stop, p, s, starts, lens, text, issues);
-        let reached = r.core;
-        if decode_state::ended(reached.enough, reached.out.issues) {
-            return reached;
+        if decode_state::ended(r.core.enough, r.core.out.issues) {
+            return r.core;
         }
         i += r.used;
-        s = reached;
+        s = r.core;
     }
 }

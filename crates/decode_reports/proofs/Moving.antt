@@ -157,5 +157,12 @@ moved-line {at} {c} {t} {i} {r} {i′} u k w =
         used = λ starts lens t₀ i₀ s h. refl;
       };
       used = refl;
-      kept = record { gl = w .kept .gl; gr = w .kept .gr; enough = w .kept .enough; charged = w .kept .charged; grew = record { ordered = v .ordered; repeat = omega arith; text = v .text; issues = v .issues } };
+      kept =
+          record {
+            gl = w .kept .gl;
+            gr = w .kept .gr;
+            enough = w .kept .enough;
+            charged = w .kept .charged;
+            grew = record { ordered = v .ordered; repeat = omega arith; text = v .text; issues = v .issues };
+          };
     }

@@ -249,7 +249,13 @@ stretch-runs {cells} {b} {j} {l} {n} {c} {t} {j₁} {l₁} {n₁} {t₁} i base 
     (record {
       past = w .past;
       within = w .within;
-      kept = record { gl = w .settings .gl; gr = w .settings .gr; enough = refl; charged = refl; grew = record { ordered = omega arith; repeat = omega arith; text = omega arith; issues = omega arith } };
+      kept = record {
+        gl = w .settings .gl;
+        gr = w .settings .gr;
+        enough = refl;
+        charged = refl;
+        grew = record { ordered = omega arith; repeat = omega arith; text = omega arith; issues = omega arith };
+      };
       goes = λ g q left R starts lens.
           subst (λ (z : Core). Goes g left R base origin b j (whole z starts lens) t i j₁ (whole (coreAt l₁ n₁ c) starts lens) t₁ i) (sym e)
           (w .goes g q left R base origin i starts lens c refl);

@@ -4,7 +4,7 @@ use mathlib.Core.Path.{refl}
 use mathlib.Core.List.{List}
 use lib.Dec.{eqb}
 use Rattle.decode_output.proofs.Callers.{holds-nothing}
-use Rattle.reading.specs.State.{Given, start}
+use Rattle.reading.specs.State.{start}
 use Rattle.decode_state.specs.Contracts.{startOf, undefined, Holds}
 
 pub holds-start : (cells input : List ℕ) (initial width : ℕ) (enough : ℕ) (t i : List ℕ)

@@ -1,5 +1,5 @@
 -- `clean_checked`: all steps up to the first issue, the release of the marks, and the answer.
-use mathlib.Core.Path.{_≡_, sym, subst}
+use mathlib.Core.Path.{sym, subst}
 use borrow.Author.Needs.{needs}
 use lib.ListN.{length}
 use Rattle.questions.proofs.Refusals.{passed}

@@ -1,5 +1,4 @@
 -- `limit_of` meets its contract: as far as three bytes a byte fit, or to the end where none does. Assumes nothing.
-use mathlib.Core.Path.{refl}
 use mathlib.Core.Bool.{true≢false, false≢true}
 use native.Mathlib.Omega.{arith}
 use borrow.Author.Needs.{needs}

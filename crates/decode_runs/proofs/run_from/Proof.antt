@@ -1,7 +1,6 @@
 -- `run_from` meets its contract: a run that fits is written, any other is counted. Assumes nothing.
-use mathlib.Core.Path.{_≡_, refl, sym, _∙_}
+use mathlib.Core.Path.{refl, sym, _∙_}
 use mathlib.Core.Bool.{true≢false}
-use native.Mathlib.Omega.{arith}
 use borrow.Author.Needs.{needs}
 use Rattle.decode_runs.proofs.Runs.{space-on}
 use Rattle.decode_runs.proofs.run_from.Statement.{statement}

@@ -95,8 +95,8 @@ module _ (t : ℕ) where
 
   returns-2 : lts.Need-returns-2 claims (run-at t) run.Post Inv μ
   returns-2 c =
-      let at-ended = c .before in
-      let at-turn = at-ended .before .before .before .before .before .before in
+      let at-ended = c .before .before in
+      let at-turn = at-ended .before .before .before .before .before in
       let at-test = at-turn .before .before .before in
       let after-plain = at-test .before .before in
       let at-plain = after-plain .before .before .before .before in
@@ -105,12 +105,12 @@ module _ (t : ℕ) where
       let entry = at-slices .before .before .before .before in
       let w =
       along-stretch (at-loop .loop .inv) (at-plain .plain .ensures .stretch) (at-plain .plain .kept .1 .1 .1 .1 .1 .0) (at-plain .plain .kept .1 .1 .1 .1 .1 .1 .0) in
-      along-cut w (at-test .if1 .left) (inside-step (entry .args .p) (at-plain .plain .result .at) (at-turn .turn .ensures)) (at-ended .ended .ensures .0 (c .if2 .taken))
+      along-cut w (at-test .if1 .left) (inside-step (entry .args .p) (at-plain .plain .result .at) (at-turn .turn .ensures)) (at-ended .ended .ensures .0 (c .before .if2 .taken))
 
   add-i : lts.Need-add-i claims (run-at t) run.Post Inv μ
   add-i c =
       let at-ended = c .before .before in
-      let at-turn = at-ended .before .before .before .before .before .before in
+      let at-turn = at-ended .before .before .before .before .before in
       let at-test = at-turn .before .before .before in
       let after-plain = at-test .before .before in
       let at-plain = after-plain .before .before .before .before in
@@ -121,8 +121,8 @@ module _ (t : ℕ) where
 
   loop-less : lts.Need-loop-less claims (run-at t) run.Post Inv μ
   loop-less c =
-      let at-ended = c .before .before in
-      let at-turn = at-ended .before .before .before .before .before .before in
+      let at-ended = c .before .before .before in
+      let at-turn = at-ended .before .before .before .before .before in
       let at-test = at-turn .before .before .before in
       let after-plain = at-test .before .before in
       let at-plain = after-plain .before .before .before .before in
@@ -130,8 +130,8 @@ module _ (t : ℕ) where
 
   loop-again : lts.Need-loop-again claims (run-at t) run.Post Inv μ
   loop-again c =
-      let at-ended = c .before .before in
-      let at-turn = at-ended .before .before .before .before .before .before in
+      let at-ended = c .before .before .before in
+      let at-turn = at-ended .before .before .before .before .before in
       let at-test = at-turn .before .before .before in
       let after-plain = at-test .before .before in
       let at-plain = after-plain .before .before .before .before in
@@ -140,7 +140,7 @@ module _ (t : ℕ) where
       let entry = at-slices .before .before .before .before in
       let w =
       along-stretch (at-loop .loop .inv) (at-plain .plain .ensures .stretch) (at-plain .plain .kept .1 .1 .1 .1 .1 .0) (at-plain .plain .kept .1 .1 .1 .1 .1 .1 .0) in
-      along-step w (at-test .if1 .left) (inside-step (entry .args .p) (at-plain .plain .result .at) (at-turn .turn .ensures)) (at-ended .ended .ensures .1 (c .before .if2 .left))
+      along-step w (at-test .if1 .left) (inside-step (entry .args .p) (at-plain .plain .result .at) (at-turn .turn .ensures)) (at-ended .ended .ensures .1 (c .before .before .if2 .left))
       (at-turn .turn .kept .1 .1 .1 .1 .1 .1 .1 .1 .1 .0) (at-turn .turn .kept .1 .1 .1 .1 .1 .1 .1 .1 .1 .1 .0)
 
   pub meets : {M : Type 1} → lts.Closed claims (run-at t) run.Post M
