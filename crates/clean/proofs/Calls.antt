@@ -6,14 +6,14 @@ use mathlib.Core.List.{List, [], _∷_}
 use mathlib.Core.Logic.{inl, inr}
 use native.Mathlib.Omega.{arith}
 use lib.Dec.{eqb}
-use lib.ListN.{length, length-append}
+use lib.ListN.{length}
 use Rattle.issues.specs.Issue.{Issue}
 use Rattle.decode_output.specs.declared.Out.{Out}
 use Rattle.decode_output.specs.Output.{release}
 use Rattle.decode_output.specs.Contracts as output
 use Rattle.reading.specs.State.{Given, State, start, writes}
 use Rattle.reading.specs.Steps.{decode, run}
-use Rattle.laws_reading.proofs.Reading.{issues-only-grow}
+use Rattle.laws_reading.proofs.Reading.{issues-only-grow, has-later}
 use Rattle.decode_state.specs.declared.Core.{Core}
 use Rattle.decode_state.specs.Contracts.{startOf, undefined, whole, Holds, HoldsOrCut}
 use Rattle.decode_state.proofs.Begun.{holds-start}
@@ -99,9 +99,7 @@ module _ (cells : List ℕ) (initial width : ℕ) (input t i : List ℕ) (d r : 
       has (inr q) = omega (arith, p, q .has)
 
       later : 1 ≤ length (ends .out .issues) → 1 ≤ length (reading (lent cells initial width input) .out .issues)
-      later k =
-          let w = issues-only-grow .released ends in
-          rw read (omega (arith, k, ap length (w .reported), length-append (ends .out .issues) (w .issues)))
+      later k = rw read (has-later (issues-only-grow .released ends) k)
 
       some : (l : List Issue) → reading (lent cells initial width input) .out .issues ≡ l → 1 ≤ length (reading (lent cells initial width input) .out .issues)
           → Answered (lent cells initial width input) No

@@ -1,18 +1,17 @@
 -- The loops of `run` and of the steps outside every body: the steps from the start, and what each turn adds.
 use Prim.Native.Nat.{ℕ, zero, suc, _+_, _-_, _≤_, _<_}
 use mathlib.Core.Path.{_≡_, refl, sym, ap, _∙_, subst}
-use mathlib.Core.List.{List, [], append-nil}
+use mathlib.Core.List.{List}
 use mathlib.Core.Logic.{inl, inr}
 use native.Mathlib.Nat.{zero-add}
 use native.Mathlib.Numerals.{add-one}
 use native.Mathlib.Omega.{arith}
-use lib.ListN.{length, drop, getD, length-append}
+use lib.ListN.{length, drop, getD}
 use Rattle.reading.specs.State.{Given, State, Step}
 use Rattle.reading.specs.Macros.{limit}
 use Rattle.reading.specs.Steps.{step, steps, run, offset}
 use Rattle.laws_reading.specs.Reading.{Grows}
-use Rattle.laws_reading.specs.Reading as laws
-use Rattle.laws_reading.proofs.Reading.{issues-only-grow}
+use Rattle.laws_reading.proofs.Reading.{same, issues-only-grow, has-later}
 use Rattle.decode_output.specs.declared.Out.{Out}
 use Rattle.decode_state.specs.declared.Core.{Core}
 use Rattle.decode_state.specs.declared.Decoder.{Decoder}
@@ -35,17 +34,13 @@ run-steps g (suc left) b base origin s = refl
 
 -- ---- issues are only appended to
 
--- where there are n issues, there are as many later
-has-later : {s t : State} {n : ℕ} → laws.Grown s t → n ≤ length (s .out .issues) → n ≤ length (t .out .issues)
-has-later {s = s} w h = omega (arith, ap length (w .reported), length-append (s .out .issues) (w .issues))
-
 -- as many as the struct counts
 has-counted : {g : Given} {t₀ i₀ : List ℕ} {s : State} {d : Decoder} {t i : List ℕ} {n : ℕ} → Holds g t₀ i₀ s d t i → n ≤ d .core .out .issues → n ≤ length (s .out .issues)
 has-counted h k = omega (arith, k, ap (λ (o : Out). o .issues) (h .out .state))
 
 below-grows : (g : Given) (left : ℕ) → Grows (below g left)
 unfolding below
-below-grows g zero = λ b base origin s. record { text = []; written = sym (append-nil _); issues = []; reported = sym (append-nil _) }
+below-grows g zero = λ b base origin s. same s
 below-grows g (suc left) = issues-only-grow .run g left
 
 -- steps that have n issues behind the first one have as many
@@ -53,7 +48,8 @@ has-behind : {n : ℕ} (g : Given) (left base origin : ℕ) (b : List ℕ) (j : 
     → n ≤ length (step g left (below g left) (getD b j 0) (drop (j + 1) b) (base + j) (offset origin j) s .to .out .issues)
     → n ≤ length (steps g left (below g left) base origin (drop j b) j 0 s .out .issues)
 unfolding steps
-has-behind g left base origin b j s h k = rw (drop-one b j h) (has-later (issues-only-grow .steps g left (below g left) (below-grows g left) base origin (drop (j + 1) b) (j + 1) _ _) k)
+has-behind g left base origin b j s h k =
+    rw (drop-one b j h) (has-later (issues-only-grow .steps g left (below g left) (below-grows g left) base origin (drop (j + 1) b) (j + 1) _ _) k)
 
 -- ---- a loop along a body
 
@@ -113,7 +109,8 @@ module _ {cells input : List ℕ} {left base origin : ℕ} {b : List ℕ} {d : D
           }
         where
           taken : (g : Given) (t₀ i₀ : List ℕ) (s : State) → TakenOrCut g t₀ i₀ (stepFrom left base origin b j₁ g s) u d₂ t₂ i₂
-              → (s′ : State) × (Holds g t₀ i₀ s′ d₂ t₂ i₂ × (steps g left (below g left) base origin (drop (j₁ + u) b) (j₁ + u) 0 s′ ≡ steps g left (below g left) base origin (drop j₁ b) j₁ 0 s))
+              → (s′ : State) × (Holds g t₀ i₀ s′ d₂ t₂ i₂
+              × (steps g left (below g left) base origin (drop (j₁ + u) b) (j₁ + u) 0 s′ ≡ steps g left (below g left) base origin (drop j₁ b) j₁ 0 s))
           taken g t₀ i₀ s (inl q) = (stepFrom left base origin b j₁ g s .to, (q .0, sym (steps-one g left (below g left) base origin b j₁ s u h (v .some) (q .1))))
           taken g t₀ i₀ s (inr q) = absurd (n (q .ends))
 

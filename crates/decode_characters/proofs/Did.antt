@@ -37,7 +37,8 @@ did-as {r = r} {t′} {i′} q d =
     }
 
 -- a step of u bytes that makes it
-pub took-did : {cells b : List ℕ} {j : ℕ} {f : Given → State → State} {s : Core} {t i : List ℕ} {r : Core} {t′ i′ : List ℕ} (h : Given → State → Step) (u : ℕ) → 1 ≤ u → j + u ≤ length b
+pub took-did : {cells b : List ℕ} {j : ℕ} {f : Given → State → State} {s : Core} {t i : List ℕ} {r : Core} {t′ i′ : List ℕ}
+    (h : Given → State → Step) (u : ℕ) → 1 ≤ u → j + u ≤ length b
     → ((g : Given) (x : State) → h g x ≡ took u (f g x)) → Did cells f s t i r t′ i′ → TookOver cells b j h s t i (record { used = u; core = r }) t′ i′
 took-did {r = r} {t′} {i′} h u a b q d =
     record {
@@ -79,7 +80,8 @@ took-shifted {s = s} {t} {i} {r} {t′} {i′} q d =
       moves = λ g e.
           record {
             does = λ starts lens t₀ i₀ x k.
-                subst (λ (y : Step). Holds g t₀ i₀ (y .to) (whole (r .core) starts lens) t′ i′) (sym (q g x (sets g starts lens t₀ i₀ x k))) (d .moves g e .does starts lens t₀ i₀ x k);
+                subst (λ (y : Step). Holds g t₀ i₀ (y .to) (whole (r .core) starts lens) t′ i′) (sym (q g x (sets g starts lens t₀ i₀ x k)))
+                (d .moves g e .does starts lens t₀ i₀ x k);
             used = λ starts lens t₀ i₀ x k.
                 ap (λ (n : ℕ). n + 1) (d .moves g e .used starts lens t₀ i₀ x k) ∙ ap (λ (y : Step). y .used) (sym (q g x (sets g starts lens t₀ i₀ x k)));
           };

@@ -225,7 +225,8 @@ module _ {cells b : List ℕ} {j to : ℕ} {fits annex : Bool} {l : List ℕ} {n
 
   -- characters, a character, and controls more
   pub running-more : {j₁ : ℕ} {l₁ : List ℕ} {n₁ : ℕ} {t₁ : List ℕ} {v : Invoked} {j₂ n₂ : ℕ} {t₂ : List ℕ} {j₃ n₃ : ℕ} {t₃ : List ℕ} {j₄ : ℕ} {l₄ : List ℕ}
-      → Running cells b j to fits annex l n t j₁ l₁ n₁ t₁ → v .gl ≡ getD l₁ (getD l₁ 4 0) 0 → v .gr ≡ getD l₁ (getD l₁ 5 0) 0 → v .narrow ≡ (annex || eqb (getD l₁ 6 0) 1)
+      → Running cells b j to fits annex l n t j₁ l₁ n₁ t₁
+      → v .gl ≡ getD l₁ (getD l₁ 4 0) 0 → v .gr ≡ getD l₁ (getD l₁ 5 0) 0 → v .narrow ≡ (annex || eqb (getD l₁ 6 0) 1)
       → Letters cells b j₁ v n₁ t₁ j₂ n₂ t₂ → Letters cells b j₂ v n₂ t₂ j₃ n₃ t₃ → Controls b j₃ l₁ j₄ l₄
       → length t₂ ≡ length t₁ → length t₃ ≡ length t₂ → Space fits n₃ (to - j₃) (length t₃) → Running cells b j to fits annex l n t j₄ l₄ n₃ t₃
   running-more {l₁ = l₁} r x y z u v w p q h =
@@ -239,7 +240,8 @@ module _ {cells b : List ℕ} {j to : ℕ} {fits annex : Bool} {l : List ℕ} {n
       }
 
 -- the whole run
-pub stretch-runs : {cells b : List ℕ} {j : ℕ} {l : List ℕ} {n : ℕ} {c : Core} {t : List ℕ} {j₁ : ℕ} {l₁ : List ℕ} {n₁ : ℕ} {t₁ : List ℕ} {r : Core} (i : List ℕ) (base origin : ℕ)
+pub stretch-runs : {cells b : List ℕ} {j : ℕ} {l : List ℕ} {n : ℕ} {c : Core} {t : List ℕ} {j₁ : ℕ} {l₁ : List ℕ} {n₁ : ℕ} {t₁ : List ℕ} {r : Core}
+    (i : List ℕ) (base origin : ℕ)
     → MayTake (length b - j) c → c ≡ coreAt l n c → r ≡ coreAt l₁ n₁ c → RunsTo cells b j (c .annex) l n t j₁ l₁ n₁ t₁ → Stretch cells base origin b j c t i j₁ r t₁ i
 stretch-runs {cells} {b} {j} {l} {n} {c} {t} {j₁} {l₁} {n₁} {t₁} i base origin p e d w =
     let past = w .past in

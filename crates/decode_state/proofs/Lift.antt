@@ -31,7 +31,8 @@ withOut c x = record { sets = c .sets; gl = c .gl; gr = c .gr; narrow = c .narro
 
 -- Whatever the macros: d holds s, so d with a field anew holds s with it anew.
 module _ (g : Given) (starts lens t₀ i₀ : List ℕ) (s : State) (c : Core) (t i : List ℕ) (h : Holds g t₀ i₀ s (whole c starts lens) t i) where
-  pub holds-writes : (f : Output → Output) (o : Out) (t′ i′ : List ℕ) → output.Holds t₀ i₀ (f (s .out)) o t′ i′ → Holds g t₀ i₀ (writes f s) (whole (withOut c o) starts lens) t′ i′
+  pub holds-writes : (f : Output → Output) (o : Out) (t′ i′ : List ℕ) → output.Holds t₀ i₀ (f (s .out)) o t′ i′
+      → Holds g t₀ i₀ (writes f s) (whole (withOut c o) starts lens) t′ i′
   unfolding writes
   holds-writes f o t′ i′ k =
       record {

@@ -36,7 +36,8 @@ module _ {cells : List ℕ} {base origin : ℕ} {b : List ℕ} {j : ℕ} {c : Co
   way-on w v e = record { stretch = stretch-on cells base origin b (w .stretch) v; text = e ∙ w .text; issues = w .issues }
 
   -- a step
-  pub way-step : {j₁ : ℕ} {c₁ : Core} {t₁ i₁ : List ℕ} (r : Stepped) {t₂ i₂ : List ℕ} (at : ℕ) → at ≡ offset origin j₁ → j₁ < length b → Way cells base origin b j c t i j₁ c₁ t₁ i₁
+  pub way-step : {j₁ : ℕ} {c₁ : Core} {t₁ i₁ : List ℕ} (r : Stepped) {t₂ i₂ : List ℕ} (at : ℕ) → at ≡ offset origin j₁ → j₁ < length b
+      → Way cells base origin b j c t i j₁ c₁ t₁ i₁
       → ((left : ℕ) (R : Run) → TookOver cells b j₁ (λ g. step g left R (getD b j₁ 0) (drop (j₁ + 1) b) (base + j₁) at) c₁ t₁ i₁ r t₂ i₂)
       → length t₂ ≡ length t₁ → length i₂ ≡ length i₁ → Way cells base origin b j c t i (j₁ + r .used) (r .core) t₂ i₂
   way-step {j₁} {c₁} {t₁} {i₁} r {t₂} {i₂} at p l w m e q =

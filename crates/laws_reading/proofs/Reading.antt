@@ -1,10 +1,10 @@
 -- The laws of reading, by name: specs/Reading.antt states them. Assumes nothing.
-use mathlib.Core.Path.{_≡_, refl, sym, subst}
+use mathlib.Core.Path.{_≡_, refl, sym, ap, subst}
 use mathlib.Core.List.{List, [], _∷_, append-nil}
-use Prim.Native.Nat.{ℕ, zero, suc, _-_, _*_, _<_}
+use Prim.Native.Nat.{ℕ, zero, suc, _-_, _*_, _≤_, _<_}
 use native.Mathlib.Omega.{arith}
 use borrow.Author.Tests.{le-leb, lt-leb}
-use lib.ListN.{length}
+use lib.ListN.{length, length-append}
 use Rattle.issues.specs.Issue.{Issue, issueNumbers, issuesNumbers}
 use Rattle.issues.specs.declared.IssueKind.the-variants.{UnknownEscape}
 use Rattle.decode_output.specs.Output.{nothing}
@@ -66,7 +66,8 @@ module _ (g : Given) (R : Run) (grows : Grows R) where
   steps-grow : (left base origin : ℕ) (b : List ℕ) (i k : ℕ) (s : State) → Grown s (steps g left R base origin b i k s)
   steps-grow left base origin b i k s = grown g _ s _ (steps-to ⊥ g left R deeper base origin b i k s (λ c. absurd c) (λ c. absurd c))
 
-same : (s : State) → Grown s s
+-- nothing is appended
+pub same : (s : State) → Grown s s
 same s = record { text = []; written = sym (append-nil _); issues = []; reported = sym (append-nil _) }
 
 run-grows : (g : Given) (left : ℕ) → Grows (run g left)
@@ -83,6 +84,10 @@ issues-only-grow =
       run = run-grows;
       released = λ s. let a = releases ⊥ [] (part s) in record { text = a .text; written = a .written; issues = a .issues; reported = a .reported };
     }
+
+-- where there are n issues, there are as many later
+pub has-later : {s t : State} {n : ℕ} → Grown s t → n ≤ length (s .out .issues) → n ≤ length (t .out .issues)
+has-later {s = s} w h = omega (arith, h, ap length (w .reported), length-append (s .out .issues) (w .issues))
 
 issues-four : (l : List Issue) → length (issuesNumbers l) ≡ 4 * length l
 unfolding issuesNumbers issueNumbers

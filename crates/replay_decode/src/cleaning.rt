@@ -2,8 +2,8 @@
 use crate::decoding_case::DecodingCase;
 use clean::CleanAnswer;
 
-/// Whether the answer is the decoding's. A text that does not fit, 8, says nothing of issues; the list has its input in
-/// greater rooms too.
+/// Whether the answer is the decoding's. A text that does not fit, 8, says nothing of issues; the corners among these
+/// stand in the list in greater rooms too.
 fn same_answer(answer: CleanAnswer, case: DecodingCase) -> bool {
     let accepted = case.number == 0;
     let short = case.number == 8;
