@@ -80,6 +80,7 @@ const TITLES: Case =
 const KANJI: Case = large("kanji", || vec![kanji()], PLAIN, 5);
 const KANA: Case = large("kana", || vec![kana()], PLAIN, 5);
 const MIXED: Case = large("mixed", || vec![mixed()], PLAIN, 5);
+const MARKS: Case = large("marks", || vec![marks()], PLAIN, 5);
 const MACRO_KANA: Case = large("macro-kana", || vec![macro_kana()], MACROS, 1);
 const MACRO_ONE_BYTE: Case =
     large("macro-one-byte", || vec![bombs::chain(&[&[0xA2], &[0x21; 32]], LONGEST)], MACROS, 1);
@@ -87,11 +88,12 @@ const MACRO_EMPTY: Case =
     large("macro-empty", || vec![bombs::chain(&[&[], &[0x21; 64]], LONGEST)], MACROS, 1);
 
 /// All cases: of decoding, of keys, of clean titles, of coding.
-pub const CASES: [Case; 23] = [
+pub const CASES: [Case; 25] = [
     TITLES,
     KANJI,
     KANA,
     MIXED,
+    MARKS,
     MACRO_KANA,
     MACRO_ONE_BYTE,
     MACRO_EMPTY,
@@ -110,6 +112,7 @@ pub const CASES: [Case; 23] = [
     coded("code-lines", 1, || vec![long::caption(700).into()], 1),
     coded("code-caption", 1, || vec![long::caption(7_000).into()], 0),
     coded("code-mixed", 0, || vec![long::mixed(400).into()], 1),
+    coded("code-marks", 1, || vec![long::marked(400).into()], 1),
     coded("code-newlines", 0, || vec![long::newlines(100).into()], 1),
 ];
 
@@ -176,5 +179,13 @@ fn mixed() -> Vec<u8> {
         &[0x20, 0x0D],
     ];
     let line = line.concat();
+    line.repeat(LONGEST / line.len())
+}
+
+/// Lines with marks: each of the seven in turn over a kanji, two kana before it.
+fn marks() -> Vec<u8> {
+    let kanji_set = [[0x21, 0x2D], [0x21, 0x2E], [0x21, 0x2F], [0x21, 0x30], [0x21, 0x31], [0x21, 0x32], [0x22, 0x7E]];
+    let words = kanji_set.iter().flat_map(|[row, cell]| [0xB3, 0xCE, *row, *cell, 0x36, 0x4A]);
+    let line: Vec<u8> = words.chain([0x0D]).collect();
     line.repeat(LONGEST / line.len())
 }

@@ -76,6 +76,11 @@ pub fn mixed(bytes: usize) -> String {
     cut(&"あアｱA㐂亜".repeat(bytes), bytes).into()
 }
 
+/// Lines as captions have them, with marks.
+pub fn marked(bytes: usize) -> String {
+    cut(&"この\u{301}曲\u{20DD}はA\u{308}から。\n".repeat(bytes), bytes).into()
+}
+
 /// After this 7,851 states are kept, the most that a search for such texts found.
 const WIDE: &str = "ンA年ンｱ㐂Ａ㐂ｱーンあＡＡ⛌ｱ\u{3000}ー";
 
