@@ -117,7 +117,7 @@ pub fn cell_or(
 {
     match cell {
         Cell::Char(c) => {
-            if tables::is_non_spacing(c) {
+            if tables::is_non_spacing(c).mark {
                 return wait(c, at, s, text);
             }
             show(c, s, text)

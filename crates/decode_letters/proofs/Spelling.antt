@@ -25,6 +25,7 @@ use Rattle.reading.specs.Steps.{step, control0, space}
 use Rattle.utf8.specs.Utf8.{utf8}
 use Rattle.utf8.proofs.Bytes.{row1, row2, row3, length-utf8}
 use Rattle.tables.proofs.KanjiLaws.{on-grid, rows-3-89}
+use Rattle.tables.proofs.MarkLaws.{no-mark}
 use Rattle.decode_codes.specs.Codes.{cellAt, issueOf}
 use Rattle.decode_codes.proofs.Laws.{in-area, emit-some, char2-as, char1-letter, graphic2-pair, graphic-two, graphic-one}
 use Rattle.decode_letters.specs.declared.Invoked.{Invoked}
@@ -269,19 +270,6 @@ module _ (cells b : List ℕ) (j to : ℕ) (v : Invoked) (inside : j < to) where
 
 -- ---- ideographs
 
-no-mark : (c : ℕ) → 0x3000 ≤ c → hasCharacter nonSpacing c ≡ false
-unfolding hasCharacter
-no-mark c h =
-    rw (
-      ne-eqb 0x301 c (λ q. omega arith),
-      ne-eqb 0x300 c (λ q. omega arith),
-      ne-eqb 0x308 c (λ q. omega arith),
-      ne-eqb 0x302 c (λ q. omega arith),
-      ne-eqb 0x305 c (λ q. omega arith),
-      ne-eqb 0x332 c (λ q. omega arith),
-      ne-eqb 0x20DD c (λ q. omega arith),
-    )
-
 -- the Kanji set's rows 3 to 84, and the place of a cell in the lent table
 module _ (cells b : List ℕ) (i : ℕ) (first : getD b i 0 < 256) (second : getD b (i + 1) 0 < 256) where
   pub ideograph : let x = getD b i 0 % 128 in let y = getD b (i + 1) 0 % 128 in let c = getD cells ((x - 0x21) * 94 + (y - 0x21)) 0 in i + 1 < length b
@@ -303,7 +291,7 @@ module _ (cells b : List ℕ) (i : ℕ) (first : getD b i 0 < 256) (second : get
                   ∙ on-grid cells (x - 0x20) (y - 0x20) (omega arith) (omega arith) (omega arith) (omega arith)
                   ∙ (λ k. getD cells (p k * 94 + q k) 0);
               some = λ z. omega arith;
-              spacing = no-mark _ low;
+              spacing = no-mark _ (λ _. omega arith);
             };
         low = low;
         high = high;

@@ -100,7 +100,7 @@ fn spacing(cell: Cell) -> u32
 {
     match cell {
         Cell::Char(c) => {
-            if tables::is_non_spacing(c) {
+            if tables::is_non_spacing(c).mark {
                 return 0;
             }
             c

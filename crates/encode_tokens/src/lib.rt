@@ -48,7 +48,7 @@ fn baseless(text: &[u8]) -> Bases
         };
         let place = at;
         at += size;
-        if tables::is_non_spacing(c) {
+        if tables::is_non_spacing(c).mark {
             if base {
                 continue;
             }
@@ -63,7 +63,7 @@ fn baseless(text: &[u8]) -> Bases
 fn order(base: u32, base_at: usize, c: u32, at: usize) -> Next
     ensures { λ r. ⌜ Orders «base_at» base at c r ⌝ }
 {
-    if tables::is_non_spacing(c) {
+    if tables::is_non_spacing(c).mark {
         return Next {
             char: c,
             place: at,

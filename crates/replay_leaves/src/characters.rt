@@ -59,5 +59,5 @@ pub fn fullwidth(i: usize) -> usize {
 
 /// U+0000 to U+2FFF.
 pub fn is_non_spacing(i: usize) -> usize {
-    yes(tables::is_non_spacing(scalar(i)))
+    yes(tables::is_non_spacing(scalar(i)).mark)
 }

@@ -12,7 +12,7 @@ use lib.ListN.{length, getD, drop, drop-of-length-le}
 use lib.Seq.{drop-cons}
 use borrow.Author.Tests.{eq-eqb, ne-eqb, lt-ltb, le-ltb, ltb-true, ltb-false}
 use Rattle.tables.specs.Kanji.{assigned, hasCharacter, cellWith}
-use Rattle.tables.specs.Contracts.{placeWith}
+use Rattle.tables.specs.Marks.{placeWith}
 use Rattle.tables.specs.declared.Assignment.{Assignment}
 
 abbrev pub outside : Assignment

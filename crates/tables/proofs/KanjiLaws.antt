@@ -1,13 +1,15 @@
 -- What `kanjiAt` reads in each stretch of rows. Assumes nothing.
 use mathlib.Core.Path.{_≡_, refl, _∙_}
-use mathlib.Core.Bool.{Bool, true, false, false≢true, _&&_}
-use mathlib.Core.List.{List}
+use mathlib.Core.Bool.{Bool, true, false, false≢true, cond, _&&_}
+use mathlib.Core.List.{List, [], _∷_}
 use Prim.Native.Nat.{ℕ, _<_, _≤_}
 use native.Mathlib.Omega.{arith}
-use lib.Dec.{leb, ltb}
+use lib.Dec.{eqb, leb, ltb}
 use lib.ListN.{getD}
 use borrow.Author.Tests.{le-leb, lt-leb, ne-eqb, leb-true, ltb-true, ltb-false}
+use Rattle.base.specs.Lists.{All}
 use Rattle.tables.specs.Kanji.{nonSpacing, kanjiOverrides, assigned, place, tableAt, kanjiSymbol, kanjiOf, kanjiAt}
+use Rattle.tables.specs.declared.Assignment.{Assignment}
 
 -- on the grid the table is read at the cell's place
 pub on-grid : (t : List ℕ) (row cell : ℕ) → 1 ≤ row → row ≤ 94 → 1 ≤ cell → cell ≤ 94 → tableAt t row cell ≡ getD t (place row cell) 0
@@ -34,6 +36,31 @@ module _ (row cell : ℕ) (h : 3 ≤ row) where
   no-override : (x : ℕ) → assigned kanjiOverrides row cell x ≡ x
   unfolding assigned
   no-override x = rw (ne-eqb 1 row not-1, ne-eqb 2 row not-2)
+
+-- a list with a character for the cell has it whatever the cell would be without, and a list that has none leaves it
+module _ (row cell x : ℕ) where
+  pub assigned-there : (l : List Assignment) → (assigned l row cell 0 ≡ 0 → ⊥) → assigned l row cell x ≡ assigned l row cell 0
+  unfolding assigned
+  assigned-there [] n = absurd (n refl)
+  assigned-there (a ∷ l) n = go (eqb (a .row) row && eqb (a .cell) cell) n (assigned-there l)
+    where
+      go : (b : Bool) → (cond b (a .character) (assigned l row cell 0) ≡ 0 → ⊥) → ((assigned l row cell 0 ≡ 0 → ⊥) → assigned l row cell x ≡ assigned l row cell 0)
+          → cond b (a .character) (assigned l row cell x) ≡ cond b (a .character) (assigned l row cell 0)
+      go true n r = refl
+      go false n r = r n
+
+  pub assigned-nowhere : (l : List Assignment) → All (λ (a : Assignment). 1 ≤ a .character) l → assigned l row cell 0 ≡ 0 → assigned l row cell x ≡ x
+  unfolding assigned
+  assigned-nowhere [] some e = refl
+  assigned-nowhere (a ∷ l) some e = go (eqb (a .row) row && eqb (a .cell) cell) e (assigned-nowhere l (some .1))
+    where
+      go : (b : Bool) → cond b (a .character) (assigned l row cell 0) ≡ 0 → (assigned l row cell 0 ≡ 0 → assigned l row cell x ≡ x)
+          → cond b (a .character) (assigned l row cell x) ≡ x
+      go true e r = absurd (omega (arith, e, some .0))
+      go false e r = r e
+
+pub marks-some : All (λ (a : Assignment). 1 ≤ a .character) nonSpacing
+marks-some = (omega arith, (omega arith, (omega arith, (omega arith, (omega arith, (omega arith, (omega arith, tt)))))))
 
 -- rows 1 and 2
 pub rows-1-2 : (row cell x : ℕ) → row < 3 → kanjiOf row cell x ≡ assigned nonSpacing row cell (assigned kanjiOverrides row cell x)

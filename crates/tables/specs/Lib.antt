@@ -1,2 +1,3 @@
 pub mod Kanji
-pub mod Contracts
+pub mod Marks
+pub mod Laws

@@ -6,7 +6,7 @@ ghost use mathlib.Core.Bool.{_&&_};
 ghost use lib.Dec.{leb, ltb};
 ghost use Rattle.addsym.specs.Symbols.{symbol};
 ghost use Rattle.tables.specs.Kanji.{CellReads, nonSpacing, kanjiOverrides, assigned, hasCharacter, placeValue, cellWith, tableAt, jisX0208At, gap, kanjiSymbol, kanjiAt};
-ghost use Rattle.tables.specs.Contracts.{placeWith};
+ghost use Rattle.tables.specs.Marks.{markTest};
 
 /// What a cell of a two-byte set reads as.
 pub enum Cell {
@@ -25,6 +25,12 @@ pub struct Assignment {
     pub row: u8,
     pub cell: u8,
     pub character: u32,
+}
+
+/// Whether a character is a mark, and the turns that the test for it took.
+pub struct MarkTest {
+    pub mark: bool,
+    pub turns: usize,
 }
 
 /// A character as the answer of a two-byte set.
@@ -115,43 +121,52 @@ pub const KANJI_OVERRIDES: [Assignment; 7] = [
     },
 ];
 
-/// The place of the first assignment with the character; 7 where none has it.
-fn place_with(list: [Assignment; 7], c: u32) -> usize
-    ensures { λ r. ⌜ r ≡ placeWith list c ⌝ }
+/// Whether `c` is one of the combining characters of Table E-1, and how many of them it was compared with. None is lower
+/// than U+0300.
+pub fn is_non_spacing(c: u32) -> MarkTest
+    ensures { λ r. ⌜ r ≡ markTest c ⌝ }
 {
-    let mut i = 0;
-    while i < 7 {
-        let a = list[i];
-        if a.character == c {
-            return i;
-        }
-        i += 1;
+    if c < 0x300 {
+        return MarkTest {
+            mark: false,
+            turns: 0,
+        };
     }
-    7
-}
-
-/// Whether `c` is one of the combining characters of Table E-1.
-pub fn is_non_spacing(c: u32) -> bool
-    ensures { λ r. ⌜ r ≡ hasCharacter nonSpacing c ⌝ }
-{
-    place_with(NON_SPACING, c) < 7
+    let mut turns = 0;
+    while turns < 7 {
+        let place = turns;
+        turns += 1;
+        let a = NON_SPACING[place];
+        if a.character == c {
+            return MarkTest { mark: true, turns };
+        }
+    }
+    MarkTest { mark: false, turns }
 }
 
 /// Whether `c` is the character of an override.
 pub fn is_override(c: u32) -> bool
     ensures { λ r. ⌜ r ≡ hasCharacter kanjiOverrides c ⌝ }
 {
-    place_with(KANJI_OVERRIDES, c) < 7
+    let mut i = 0;
+    while i < 7 {
+        let a = KANJI_OVERRIDES[i];
+        if a.character == c {
+            return true;
+        }
+        i += 1;
+    }
+    false
 }
 
-/// The cell of the Kanji set that codes a mark.
+/// The cell of the Kanji set that codes a mark: its turns name its place.
 pub fn mark_cell(c: u32) -> Place
     ensures { λ r. ⌜ placeValue r ≡ cellWith nonSpacing c ⌝ }
 {
-    let i = place_with(NON_SPACING, c);
-    if i < 7 {
-        let mark = NON_SPACING[i];
-        return Place::At(mark.row, mark.cell);
+    let test = is_non_spacing(c);
+    if test.mark {
+        let a = NON_SPACING[test.turns - 1];
+        return Place::At(a.row, a.cell);
     }
     Place::Nowhere
 }
@@ -240,8 +255,11 @@ pub fn kanji_at(t: &[u16], row: u8, cell: u8) -> u32
         return table_at(t, row, cell);
     }
     if row < 3 {
-        let over = assigned_at(KANJI_OVERRIDES, row, cell, table_at(t, row, cell));
-        return assigned_at(NON_SPACING, row, cell, over);
+        let mark = assigned_at(NON_SPACING, row, cell, 0);
+        if mark != 0 {
+            return mark;
+        }
+        return assigned_at(KANJI_OVERRIDES, row, cell, table_at(t, row, cell));
     }
     if row < 95 {
         return kanji_symbol_at(row, cell);

@@ -63,7 +63,7 @@ fn row_lacks(t: &[u16], row: u8, c: u32) -> bool
     if 2 < row {
         return table_lacks(t, row, c);
     }
-    if tables::is_non_spacing(c) {
+    if tables::is_non_spacing(c).mark {
         return false;
     }
     if tables::is_override(c) {

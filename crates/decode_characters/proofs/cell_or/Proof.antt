@@ -1,6 +1,6 @@
 -- `cell_or` meets its contract. Assumes nothing.
-use mathlib.Core.Path.{sym, _∙_}
 use borrow.Author.Needs.{needs}
+use Rattle.tables.proofs.MarkLaws.{tested}
 use Rattle.decode_characters.proofs.Did.{did-as}
 use Rattle.decode_characters.proofs.Laws.{cell-undefined, cell-mark, cell-char}
 use Rattle.decode_characters.proofs.cell_or.Tie as tie
@@ -27,7 +27,7 @@ returns c =
     let is-non-spacing = at-is-non-spacing .is-non-spacing in
     let if1 = at-if1 .if1 in
     let wait = c .before .before .wait in
-    λ cells x e. did-as (λ g q starts lens t₀ i₀ s k. cell-mark _ _ s x _ (rw (cell .given .1) at e) (sym (is-non-spacing .ensures) ∙ if1 .taken)) (wait .ensures cells _)
+    λ cells x e. did-as (λ g q starts lens t₀ i₀ s k. cell-mark _ _ s x _ (rw (cell .given .1) at e) (tested _ (is-non-spacing .ensures) (if1 .taken))) (wait .ensures cells _)
 
 show-requires : tie.Need-show-requires
 show-requires c κs = search needs
@@ -50,7 +50,7 @@ returns-2 c =
     let is-non-spacing = at-is-non-spacing .is-non-spacing in
     let if1 = at-if1 .if1 in
     let show = c .before .before .show in
-    λ cells x e. did-as (λ g q starts lens t₀ i₀ s k. cell-char _ _ s x _ (rw (cell .given .1) at e) (sym (is-non-spacing .ensures) ∙ if1 .left)) (show .ensures cells _)
+    λ cells x e. did-as (λ g q starts lens t₀ i₀ s k. cell-char _ _ s x _ (rw (cell .given .1) at e) (tested _ (is-non-spacing .ensures) (if1 .left))) (show .ensures cells _)
 
 same-length-3 : tie.Need-same-length-3
 same-length-3 c = search needs

@@ -1,6 +1,7 @@
 -- `spacing` meets its contract. Assumes nothing.
-use mathlib.Core.Path.{refl, sym, _∙_}
+use mathlib.Core.Path.{refl}
 use borrow.Author.Needs.{needs}
+use Rattle.tables.proofs.MarkLaws.{tested}
 use Rattle.decode_letters.proofs.spacing.Statement.{statement}
 use Rattle.decode_letters.proofs.spacing.Tie as tie
 
@@ -18,7 +19,7 @@ enum-told c = search needs
 
 returns-2 : tie.Need-returns-2
 returns-2 c =
-    λ x e f. ((rw (c .before .before .before .cell .given .1) at e) .0, sym (c .before .is-non-spacing .ensures) ∙ c .if1 .left)
+    λ x e f. ((rw (c .before .before .before .cell .given .1) at e) .0, tested _ (c .before .is-non-spacing .ensures) (c .if1 .left))
 
 returns-3 : tie.Need-returns-3
 returns-3 c = λ x e f. absurd (f refl)

@@ -5,6 +5,7 @@ use Prim.Native.Nat.{_-_, _≤_}
 use native.Mathlib.Omega.{arith}
 use borrow.Author.Needs.{needs}
 use lib.ListN.{length}
+use Rattle.tables.proofs.MarkLaws.{tested}
 use Rattle.coding.specs.Tokens.{tokens, baseless}
 use Rattle.encode_tokens.specs.Steps.{basesOf}
 use Rattle.encode_tokens.proofs.Texts.{from, from-first, from-end, Read, read-as, based-mark, baseless-mark, no-mark}
@@ -58,7 +59,7 @@ loop-again c =
     let k = h .before .before .before .before in (
       read h .within,
       k .loop .inv .1 ∙ (ap (baseless (k .loop .base)) (read h .tokens) ∙
-          based-mark _ _ _ (k .loop .base) (c .if2 .taken) (sym (c .before .before .is-non-spacing .ensures) ∙ c .before .if1 .taken)),
+          based-mark _ _ _ (k .loop .base) (c .if2 .taken) (tested _ (c .before .before .is-non-spacing .ensures) (c .before .if1 .taken))),
     )
 
 returns-2 : tie.Need-returns-2 Inv-loop μ-loop
@@ -66,7 +67,7 @@ returns-2 c =
     let h = c .before .before .before in
     let k = h .before .before .before .before in
     sym (ap basesOf (k .loop .inv .1 ∙ (ap (baseless (k .loop .base)) (read h .tokens) ∙
-    baseless-mark _ _ _ (k .loop .base) (c .if2 .left) (sym (c .before .before .is-non-spacing .ensures) ∙ c .before .if1 .taken))))
+    baseless-mark _ _ _ (k .loop .base) (c .if2 .left) (tested _ (c .before .before .is-non-spacing .ensures) (c .before .if1 .taken)))))
 
 loop-less-2 : tie.Need-loop-less-2 Inv-loop μ-loop
 loop-less-2 c = omega (arith, read (c .before .before) .least, read (c .before .before) .within)
@@ -75,7 +76,7 @@ loop-again-2 : tie.Need-loop-again-2 Inv-loop μ-loop
 loop-again-2 c =
     let h = c .before .before in
     let k = h .before .before .before .before in
-    (read h .within, k .loop .inv .1 ∙ (ap (baseless (k .loop .base)) (read h .tokens) ∙ no-mark _ _ _ (k .loop .base) (sym (c .before .is-non-spacing .ensures) ∙ c .if1 .left)))
+    (read h .within, k .loop .inv .1 ∙ (ap (baseless (k .loop .base)) (read h .tokens) ∙ no-mark _ _ _ (k .loop .base) (tested _ (c .before .is-non-spacing .ensures) (c .if1 .left))))
 
 pub baseless-spec : {M : Type 1} → statement M
 baseless-spec =

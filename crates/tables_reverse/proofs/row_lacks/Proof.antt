@@ -5,6 +5,7 @@ use native.Mathlib.Omega.{arith}
 use borrow.Author.Needs.{needs}
 use Rattle.tables.specs.Kanji.{tableAt, kanjiAt}
 use Rattle.tables.proofs.KanjiLaws.{rows-3-89}
+use Rattle.tables.proofs.MarkLaws.{tested}
 use Rattle.tables_reverse.proofs.RowLaws.{plain-row}
 use Rattle.tables_reverse.proofs.row_lacks.Statement.{statement}
 use Rattle.tables_reverse.proofs.row_lacks.Tie as tie
@@ -44,7 +45,7 @@ returns-4 c e cell a b r =
     let at-if1 = at-is-non-spacing .before in
     let z = at-if1 .before .before in
     let t = z .args .t .now in
-    let m = sym (at-is-non-spacing .is-non-spacing .ensures) ∙ at-if2 .if2 .left in
+    let m = tested (z .args .c) (at-is-non-spacing .is-non-spacing .ensures) (at-if2 .if2 .left) in
     let o = sym (at-is-override .is-override .ensures) ∙ at-if3 .if3 .left in
     c .table-lacks2 .ensures e cell a b (plain-row t (z .args .row) cell (z .args .c) (omega (arith, at-if1 .if1 .left)) m o r)
 
