@@ -184,8 +184,8 @@ fn mixed() -> Vec<u8> {
 
 /// Lines with marks: each of the seven in turn over a kanji, two kana before it.
 fn marks() -> Vec<u8> {
-    let kanji_set = [[0x21, 0x2D], [0x21, 0x2E], [0x21, 0x2F], [0x21, 0x30], [0x21, 0x31], [0x21, 0x32], [0x22, 0x7E]];
-    let words = kanji_set.iter().flat_map(|[row, cell]| [0xB3, 0xCE, *row, *cell, 0x36, 0x4A]);
+    let marks = (0x2D..=0x32).map(|cell| [0x21, cell]).chain([[0x22, 0x7E]]);
+    let words = marks.flat_map(|[row, cell]| [0xB3, 0xCE, row, cell, 0x36, 0x4A]);
     let line: Vec<u8> = words.chain([0x0D]).collect();
     line.repeat(LONGEST / line.len())
 }
