@@ -1,18 +1,22 @@
 -- The turns of the test for a mark, by name: specs/Laws.antt states them. Assumes nothing.
 use Prim.Native.Nat.{ℕ, suc, _+_, _-_, _<_, _≤_}
-use mathlib.Core.Path.{_≡_, refl, sym, ap, subst, _∙_}
-use mathlib.Core.Bool.{Bool, true, false, cond}
+use mathlib.Core.Path.{_≡_, refl, sym, ap, _∙_}
+use mathlib.Core.Bool.{Bool, true, false, cond, _||_}
 use mathlib.Core.List.{List, [], _∷_, map}
 use native.Mathlib.Omega.{arith}
-use borrow.Author.Tests.{ltb-true, ltb-false}
-use lib.Dec.{T, eqb, ltb, eqb→eq}
+use borrow.Author.Tests.{eqb-true, ltb-true, ltb-false, lt-leb}
+use lib.Dec.{eqb, ltb, leb, eqb→eq, ltb→lt}
 use lib.ListN.{length, getD}
 use Rattle.base.proofs.Table.{at}
 use Rattle.tables.specs.Kanji.{nonSpacing, hasCharacter}
 use Rattle.tables.specs.Marks.{placeWith, turns}
-use Rattle.tables.specs.Laws.{marks, TurnsNone, TurnsMost, TurnsPlace, TurnsApart}
+use Rattle.tables.specs.Laws.{marks, places, MarksInOrder, TurnsNone, TurnsMost, TurnsPlace, TurnsApart}
 use Rattle.tables.specs.declared.Assignment.{Assignment}
 use Rattle.tables.proofs.MarkLaws.{turns-low, turns-mark, turns-other, placed, mark-from}
+
+pub marks-in-order : MarksInOrder
+marks-in-order i h =
+    ltb→lt (getD places i 0) (getD places (i + 1) 0) (rw (lt-leb 6 i h) at (at 0 (λ i p. leb 6 i || ltb p (getD places (i + 1) 0)) places tt i (omega (arith, h))))
 
 -- what holds of the turns, by their three cases
 by-cases : (P : ℕ → Type 0) (c : ℕ) → (c < 0x300 → P 0) → ((n : ℕ) → 0x300 ≤ c → n < 7 → P (suc n)) → P (turns c)
@@ -41,7 +45,7 @@ there (a ∷ more) c h = go (eqb (a .character) c) refl h (there more c)
     go : (b : Bool) → eqb (a .character) c ≡ b → cond b 0 (suc (placeWith more c)) < suc (length more)
         → (placeWith more c < length more → getD (characters more) (placeWith more c) 0 ≡ c)
         → getD (characters (a ∷ more)) (cond b 0 (suc (placeWith more c))) 0 ≡ c
-    go true e l r = eqb→eq (a .character) c (subst T (sym e) tt)
+    go true e l r = eqb-true (a .character) c e
     go false e l r = r (omega arith)
 
 named : (c : ℕ) → hasCharacter nonSpacing c ≡ true → getD marks (turns c - 1) 0 ≡ c

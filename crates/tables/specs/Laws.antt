@@ -4,13 +4,20 @@ use mathlib.Core.Bool.{true}
 use mathlib.Core.List.{List, map}
 use mathlib.Core.Path.{_≡_}
 use lib.ListN.{getD}
-use Rattle.tables.specs.Kanji.{nonSpacing, hasCharacter}
+use Rattle.tables.specs.Kanji.{nonSpacing, hasCharacter, place}
 use Rattle.tables.specs.Marks.{turns}
 use Rattle.tables.specs.declared.Assignment.{Assignment}
 
--- the seven characters, in row order
+-- the seven characters, and their places in a table that is read row by row
 abbrev pub marks : List ℕ
 marks = map (λ (a : Assignment). a .character) nonSpacing
+
+abbrev pub places : List ℕ
+places = map (λ (a : Assignment). place (a .row) (a .cell)) nonSpacing
+
+-- "in row order"
+abbrev pub MarksInOrder : Type 0
+MarksInOrder = (i : ℕ) → i < 6 → getD places i 0 < getD places (i + 1) 0
 
 -- no turn below U+0300, and nowhere else
 abbrev pub TurnsNone : Type 0
