@@ -12,7 +12,7 @@ use Rattle.utf8.specs.Utf8.{utf8s}
 use Rattle.questions.specs.Questions.{firstRefusal, decodeLimit}
 use Rattle.questions.specs.Buffer.{padded, cleared}
 use Rattle.questions.proofs.Buffers.{clear-past}
-use Rattle.issues.specs.Issue.{issuesNumbers}
+use Rattle.issues.specs.Issue.{numbers, issuesNumbers}
 use Rattle.decode_output.specs.declared.Out.{Out}
 use Rattle.decode_output.specs.Output.{Output, release}
 use Rattle.decode_output.specs.Contracts as output
@@ -76,7 +76,8 @@ module _ (o : Output) (charge : ℕ) (t₀ i₀ : List ℕ) (out : Out) (t i : L
       refusing 7 r t′ i′ (rw (lt-leb _ _ p)) v
 
   -- the issues do not fit
-  pub finish-9 : (r : Answer) (t′ i′ : List ℕ) → out .len ≤ length t → length i < out .issues * 4 → Refuses 9 t i r t′ i′ → Answers o charge (length t₀) (length i₀) r t′ i′
+  pub finish-9 : (r : Answer) (t′ i′ : List ℕ) → out .len ≤ length t → length i < out .issues * numbers → Refuses 9 t i r t′ i′
+      → Answers o charge (length t₀) (length i₀) r t′ i′
   unfolding fitsIn
   finish-9 r t′ i′ k l v =
       let p : length (utf8s (o .text)) ≤ length t₀ = omega (arith, k, text-len, as-long) in
@@ -84,13 +85,13 @@ module _ (o : Output) (charge : ℕ) (t₀ i₀ : List ℕ) (out : Out) (t i : L
       refusing 8 r t′ i′ (rw (le-leb _ _ p, lt-leb _ _ q)) v
 
   -- both fit
-  pub finish-0 : (t′ i′ : List ℕ) → out .len ≤ length t → out .issues * 4 ≤ length i → t′ ≡ cleared t (out .len) → i′ ≡ cleared i (out .issues * 4)
+  pub finish-0 : (t′ i′ : List ℕ) → out .len ≤ length t → out .issues * numbers ≤ length i → t′ ≡ cleared t (out .len) → i′ ≡ cleared i (out .issues * numbers)
       → Answers o charge (length t₀) (length i₀) (Decoded (out .len) (out .issues) charge) t′ i′
   unfolding fitsIn
   finish-0 t′ i′ k l x y =
       let p : length (utf8s (o .text)) ≤ length t₀ = omega (arith, k, text-len, as-long) in
       let q : length (issuesNumbers (o .issues)) ≤ length i₀ = omega (arith, l, issue-count, as-many, length-numbers (o .issues)) in
-      let n : out .issues * 4 ≡ length (issuesNumbers (o .issues)) = omega (arith, issue-count, length-numbers (o .issues)) in
+      let n : out .issues * numbers ≡ length (issuesNumbers (o .issues)) = omega (arith, issue-count, length-numbers (o .issues)) in
       record {
         number = rw (le-leb _ _ p, le-leb _ _ q);
         place = refl;

@@ -1,5 +1,6 @@
 // The decoding call: the questions in order, and every byte of both buffers.
 use decode_output::Out;
+use issues::NUMBERS;
 ghost use mathlib.Core.Path.{_≡_};
 ghost use mathlib.Core.List.{List, []};
 ghost use Prim.Native.Nat.{ℕ, _≤_};
@@ -45,11 +46,11 @@ fn finish(out: Out, charged: usize, text: &mut [u8], issues: &mut [u32]) -> Answ
     if n > text.len() {
         return refuse(8, text, issues);
     }
-    if k * decode_output::NUMBERS > issues.len() {
+    if k * NUMBERS > issues.len() {
         return refuse(9, text, issues);
     }
     questions::clear(text, n);
-    questions::clear32(issues, k * decode_output::NUMBERS);
+    questions::clear32(issues, k * NUMBERS);
     Answer::Decoded {
         text: n,
         issues: k,

@@ -7,7 +7,7 @@ use native.Mathlib.Omega.{arith}
 use lib.ListN.{length, replicate, length-append}
 use Rattle.utf8.specs.Utf8.{utf8, utf8s}
 use Rattle.utf8.proofs.Bytes.{length-utf8}
-use Rattle.issues.specs.Issue.{Issue, issueNumbers, issuesNumbers}
+use Rattle.issues.specs.Issue.{Issue, numbers, issueNumbers, issuesNumbers}
 
 -- a text of no bytes has no characters
 pub utf8s-none : (a : List ℕ) → length (utf8s a) ≡ 0 → a ≡ []
@@ -46,7 +46,7 @@ unfolding issuesNumbers
 numbers-end [] i = refl
 numbers-end (x ∷ a) i = ap (λ (r : List ℕ). issueNumbers x ++ r) (numbers-end a i)
 
-pub length-numbers : (a : List Issue) → length (issuesNumbers a) ≡ length a * 4
+pub length-numbers : (a : List Issue) → length (issuesNumbers a) ≡ length a * numbers
 unfolding issuesNumbers
 length-numbers [] = refl
 length-numbers (x ∷ a) = omega (arith, length-numbers a)

@@ -6,12 +6,12 @@ use native.Mathlib.Omega.{arith}
 use lib.ListN.{length, take, drop, set, replicate, length-append}
 use lib.Seq.{sets, length-sets}
 use Rattle.utf8.specs.Utf8.{utf8, utf8s}
-use Rattle.issues.specs.Issue.{Issue, issuesNumbers, issueNumbers, numbersOf}
+use Rattle.issues.specs.Issue.{Issue, numbers, issuesNumbers, issueNumbers, numbersOf}
 use Rattle.issues.specs.declared.IssueKind.{IssueKind}
 use Rattle.issues.specs.declared.IssueKind.the-variants.{DanglingNonSpacing}
 use Rattle.utf8.proofs.Bytes.{utf8s-append, utf8s-snoc}
 use Rattle.decode_output.specs.declared.Out.{Out}
-use Rattle.decode_output.specs.Output.{Output, times, emitTimes, emit, firstAt, mark, report, releaseOf, release, newline}
+use Rattle.decode_output.specs.Output.{Output, times, emitTimes, emit, firstAt, mark, position, report, releaseOf, release, newline}
 use Rattle.decode_output.specs.Contracts.{Holds}
 use Rattle.decode_output.proofs.Sets.{sets-end, sets-past, moved-part}
 use Rattle.decode_output.proofs.Counts.{utf8s-none, numbers-end, length-numbers}
@@ -154,19 +154,25 @@ module _ {t₀ i₀ t i : List ℕ} {o : Output} {s : Out} (h : Holds t₀ i₀ 
 
   -- ---- an issue
 
-  pub holds-report : (at : ℕ) (kind : IssueKind) → let k = s .issues * 4 in let n = numbersOf kind in
+  -- the struct knows where the text ends
+  held-position : s .len ≡ position o
+  unfolding position
+  held-position = held-len h
+
+  pub holds-report : (at : ℕ) (kind : IssueKind) → let k = s .issues * numbers in let n = numbersOf kind in
       Holds t₀ i₀ (report at kind o) (record { len = s .len; end = s .end; first = s .first; repeat = s .repeat; issues = s .issues + 1 }) t
-      (set (set (set (set i k at) (k + 1) (n .kind)) (k + 2) (n .first)) (k + 3) (n .second))
+      (set (set (set (set (set i k at) (k + 1) (n .kind)) (k + 2) (n .first)) (k + 3) (n .second)) (k + 4) (s .len))
   unfolding report issueNumbers
   holds-report at kind =
-      let k = s .issues * 4 in
+      let k = s .issues * numbers in
       let n = numbersOf kind in
-      let x : Issue = record { offset = at; kind = kind } in
+      let x : Issue = record { offset = at; kind = kind; position = position o } in
       let e₁ : k + 1 ≡ suc k = omega arith in
       let e₂ : k + 2 ≡ suc (suc k) = omega arith in
       let e₃ : k + 3 ≡ suc (suc (suc k)) = omega arith in
-      let p : set (set (set (set i k at) (k + 1) (n .kind)) (k + 2) (n .first)) (k + 3) (n .second) ≡ sets i k (issueNumbers x) =
-      λ j. set (set (set (set i k at) (e₁ j) (n .kind)) (e₂ j) (n .first)) (e₃ j) (n .second) in
+      let e₄ : k + 4 ≡ suc (suc (suc (suc k))) = omega arith in
+      let p : set (set (set (set (set i k at) (k + 1) (n .kind)) (k + 2) (n .first)) (k + 3) (n .second)) (k + 4) (s .len) ≡ sets i k (issueNumbers x) =
+      λ j. set (set (set (set (set i k at) (e₁ j) (n .kind)) (e₂ j) (n .first)) (e₃ j) (n .second)) (e₄ j) (held-position j) in
       let q : k ≡ length (issuesNumbers (o .issues)) = omega (arith, held-issues h, length-numbers (o .issues)) in
       let c : s .issues + 1 ≡ length (o .issues ++ (x ∷ [])) = omega (arith, held-issues h, length-append (o .issues) (x ∷ [])) in
       record {
@@ -182,14 +188,15 @@ pub release-none : (o : Output) → o .marks ≡ [] → release o ≡ o
 unfolding release
 release-none o e = ap (λ (ms : List ℕ). releaseOf ms o) e
 
-abbrev pub dangling : ℕ → Issue
-dangling at = record { offset = at; kind = DanglingNonSpacing }
+-- reported at the first one's offset, before the marks
+abbrev pub dangling : ℕ → Output → Issue
+dangling at o = record { offset = at; kind = DanglingNonSpacing; position = position o }
 
-pub release-some : (o : Output) → (o .marks ≡ [] → ⊥) → release o ≡ written (o .text ++ o .marks) (o .repeat) (o .issues ++ (dangling (o .marksAt) ∷ []))
+pub release-some : (o : Output) → (o .marks ≡ [] → ⊥) → release o ≡ written (o .text ++ o .marks) (o .repeat) (o .issues ++ (dangling (o .marksAt) o ∷ []))
 unfolding release
 release-some o f = go (o .marks) f
   where
-    go : (ms : List ℕ) → (ms ≡ [] → ⊥) → releaseOf ms o ≡ written (o .text ++ ms) (o .repeat) (o .issues ++ (dangling (o .marksAt) ∷ []))
+    go : (ms : List ℕ) → (ms ≡ [] → ⊥) → releaseOf ms o ≡ written (o .text ++ ms) (o .repeat) (o .issues ++ (dangling (o .marksAt) o ∷ []))
     go [] g = absurd (g refl)
     go (m ∷ ms) g = refl
 
@@ -211,8 +218,8 @@ module _ {t₀ i₀ t i : List ℕ} {o : Output} {s : Out} (h : Holds t₀ i₀ 
   unfolding report
   holds-released f {r} {i′} g =
       let p : s .first ≡ o .marksAt = ap (λ (z : Out). z .first) (h .state) in
-      let e : written (o .text ++ o .marks) (o .repeat) (o .issues ++ (dangling (s .first) ∷ [])) ≡ release o =
-      (λ j. written (o .text ++ o .marks) (o .repeat) (o .issues ++ (dangling (p j) ∷ []))) ∙ sym (release-some o (marks-some h f)) in
+      let e : written (o .text ++ o .marks) (o .repeat) (o .issues ++ (dangling (s .first) o ∷ [])) ≡ release o =
+      (λ j. written (o .text ++ o .marks) (o .repeat) (o .issues ++ (dangling (p j) o ∷ []))) ∙ sym (release-some o (marks-some h f)) in
       subst
       (λ (z : Output). Holds t₀ i₀ z (outAt (r .end) (r .repeat) (r .issues)) t i′)
       e

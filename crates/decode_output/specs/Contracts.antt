@@ -25,10 +25,11 @@ Does f s t i s′ t′ i′ = (t₀ i₀ : List ℕ) (o : Output) → Holds t₀
 
 -- Room for n more characters, each of at most four bytes and written at most 63 times, and for k more issues. Only an `Out` is asked for it: that is
 -- the decoder's own state, which `start` makes and which the functions of this crate and a new repeat alone change, so no caller's input can break it.
+-- The text's bytes are a number of 32 bits, as a position is.
 pub record Room (n k : ℕ) (s : Out) : Type 0 where
   pub ordered : s .len ≤ s .end
   pub repeat : s .repeat ≤ 63
-  pub text : s .end + 256 * n ≤ 0x10000000000
+  pub text : s .end + 256 * n ≤ 0xFFFFFFFF
   pub issues : s .issues + k ≤ 0x10000000000
 
 -- from s to r at most n characters and k issues came

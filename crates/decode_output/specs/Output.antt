@@ -1,7 +1,8 @@
--- What a reading has written so far, and what waits: 01, "Reading".
+-- What a reading has written so far, and what waits: 01, "Reading", and request 4 of docs/REQUESTS.md, where an issue stands in the text.
 use Prim.Native.Nat.{ℕ, zero, suc}
 use mathlib.Core.List.{List, [], _∷_, _++_}
-use lib.ListN.{replicate}
+use lib.ListN.{length, replicate}
+use Rattle.utf8.specs.Utf8.{utf8s}
 use Rattle.issues.specs.Issue.{Issue}
 use Rattle.issues.specs.declared.IssueKind.{IssueKind}
 use Rattle.issues.specs.declared.IssueKind.the-variants.{DanglingNonSpacing}
@@ -43,12 +44,25 @@ unfoldable pub mark : ℕ → ℕ → Output → Output
 unfolding firstAt
 mark m at o = record { text = o .text; marks = o .marks ++ (m ∷ []); marksAt = firstAt (o .marks) (o .marksAt) at; repeat = o .repeat; issues = o .issues }
 
+-- "the byte position in the text at the moment of report, .. waiting marks not counted"
+unfoldable pub position : Output → ℕ
+unfolding utf8s
+position o = length (utf8s (o .text))
+
 -- "Issues are in order of report"
 unfoldable pub report : ℕ → IssueKind → Output → Output
-report at kind o = record { text = o .text; marks = o .marks; marksAt = o .marksAt; repeat = o .repeat; issues = o .issues ++ (record { offset = at; kind = kind } ∷ []) }
+unfolding position
+report at kind o =
+    record {
+      text = o .text;
+      marks = o .marks;
+      marksAt = o .marksAt;
+      repeat = o .repeat;
+      issues = o .issues ++ (record { offset = at; kind = kind; position = position o } ∷ []);
+    }
 
 -- "before a newline or the end they are released with DanglingNonSpacing at the first one's offset"; decode.rs, `flush_dangling`: the report comes
--- first, while the marks still wait
+-- first, while the marks still wait, so that the position is "before the .. marks it brings"
 unfoldable pub releaseOf : List ℕ → Output → Output
 unfolding report
 releaseOf [] o = o

@@ -2,6 +2,7 @@
 // end of the text. What does not fit is counted and not written, so that the counts are those of
 // the whole result. From `emit`, `issue` and `flush_dangling` of decode.rs.
 use issues::IssueKind;
+use issues::NUMBERS;
 ghost use mathlib.Core.Path.{_≡_};
 ghost use Prim.Native.Nat.{ℕ, _≤_};
 ghost use mathlib.Core.List.{List};
@@ -151,10 +152,8 @@ fn put32(d: &mut [u32], n: usize, x: u32)
     }
 }
 
-/// How many numbers an issue is: its offset, its kind and two fields.
-pub const NUMBERS: usize = 4;
-
-/// Reports an issue: the one place where issues are written.
+/// Reports an issue: the one place where issues are written. Its position is where the text ends,
+/// the waiting marks not counted.
 pub fn issue(o: Out, at: u32, kind: IssueKind, issues: &mut [u32]) -> Out
     requires { ⌜ Room 0 1 o ⌝ }
     ensures { λ r. ⌜ ((t : List ℕ) → Wrote 0 1 (report at kind) o t (now (issues .entry)) r t (now (issues .exit))) ⌝ }
@@ -165,6 +164,7 @@ pub fn issue(o: Out, at: u32, kind: IssueKind, issues: &mut [u32]) -> Out
     put32(issues, k + 1, n.kind);
     put32(issues, k + 2, n.first);
     put32(issues, k + 3, n.second);
+    put32(issues, k + 4, o.len as u32);
     let mut r = o;
     r.issues = o.issues + 1;
     r

@@ -1,4 +1,5 @@
--- An issue is four numbers: offset, kind (1 to 13 in the order of `IssueKind`), and two fields (01, "Reading").
+-- "An issue becomes five numbers, the last being the byte position in the text" (request 4 of docs/REQUESTS.md); the
+-- first four are those of 01, "Reading": offset, kind (1 to 13 in the order of `IssueKind`), and two fields.
 use Prim.Native.Nat.{ℕ}
 use mathlib.Core.List.{List, [], _∷_, _++_}
 use Rattle.issues.specs.declared.Numbers.{Numbers}
@@ -39,14 +40,19 @@ numbersOf LoneSingleShift = three 11 0 0
 numbersOf DanglingNonSpacing = three 12 0 0
 numbersOf RepeatToEndOfLine = three 13 0 0
 
--- an issue: where it was met, and what it is
+-- an issue: where it was met in the input, what it is, and how many bytes of text there were when it was reported
 pub record Issue : Type 0 where
   pub offset : ℕ
   pub kind : IssueKind
+  pub position : ℕ
 
--- an issue's four numbers
+-- how many numbers an issue is
+abbrev pub numbers : ℕ
+numbers = 5
+
+-- an issue's numbers
 unfoldable pub issueNumbers : Issue → List ℕ
-issueNumbers i = i .offset ∷ numbersOf (i .kind) .kind ∷ numbersOf (i .kind) .first ∷ numbersOf (i .kind) .second ∷ []
+issueNumbers i = i .offset ∷ numbersOf (i .kind) .kind ∷ numbersOf (i .kind) .first ∷ numbersOf (i .kind) .second ∷ i .position ∷ []
 
 -- a list of issues as the buffer holds it
 unfoldable pub issuesNumbers : List Issue → List ℕ

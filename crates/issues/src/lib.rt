@@ -1,5 +1,5 @@
 // `IssueKind` of decode.rs: what could not be represented exactly. The decoder writes an issue as
-// four numbers, its offset and the three of `numbers`.
+// `NUMBERS` numbers: its offset, the three of `numbers`, and its position in the text.
 ghost use mathlib.Core.Path.{_≡_};
 ghost use Rattle.issues.specs.Issue.{numbersOf};
 
@@ -35,7 +35,10 @@ pub enum IssueKind {
     RepeatToEndOfLine,
 }
 
-/// The numbers of an issue beside its offset: the kind, 1 to 13, and two fields, 0 where unused.
+/// How many numbers an issue is: its offset, its kind, two fields, and its position.
+pub const NUMBERS: usize = 5;
+
+/// Those beside the offset and the position: the kind, 1 to 13, and two fields, 0 where unused.
 pub struct Numbers {
     pub kind: u32,
     pub first: u32,

@@ -21,11 +21,13 @@ use Rattle.issues.specs.declared.IssueKind.the-variants.{
   DanglingNonSpacing,
   RepeatToEndOfLine,
 }
-use Rattle.decode_output.specs.Output.{Output, times, emit, mark, firstAt, report, release, releaseOf, newline, setRepeat}
+use Rattle.decode_output.specs.Output.{Output, times, emit, mark, firstAt, position, report, release, releaseOf, newline, setRepeat}
 use Rattle.reading.specs.State.{State}
 use Rattle.base.specs.Lists.{All}
+use Rattle.laws_reading.specs.Positions.{Placed}
 use Rattle.laws_reading.specs.Reading.{Escape}
 use Rattle.base.proofs.Every.{all-append}
+use Rattle.laws_reading.proofs.Placed.{placed-none, placed-one, placed-then}
 
 -- the parts of a state that the laws speak of
 pub record Part : Type 0 where
@@ -77,35 +79,38 @@ pub record Kept (input : List ℕ) (u : ℕ) (p q : Part) : Type 0 where
   pub fine : Bounded input q
   pub paid : weight (q .out) + 21 * p .charged ≤ weight (p .out) + 21 * (u + q .charged)
 
--- u bytes lead from p to q: text and issues are only appended to; and where C is given (that the bytes are the input's, say) what held holds
+-- u bytes lead from p to q: text and issues are only appended to, each issue where the text ends by then; and where C is given (that the bytes are the input's, say) what held holds
 pub record Change (C : Type 0) (input : List ℕ) (u : ℕ) (p q : Part) : Type 0 where
-  pub text : List ℕ
-  pub written : q .out .text ≡ p .out .text ++ text
   pub issues : List Issue
   pub reported : q .out .issues ≡ p .out .issues ++ issues
+  pub placed : Placed (p .out .text) issues (q .out .text)
   pub keeps : C → Bounded input p → Kept input u p q
 
 module _ (C : Type 0) (input : List ℕ) where
   pub stays : (u : ℕ) (p : Part) → Change C input u p p
-  stays u p = record { text = []; written = sym (append-nil _); issues = []; reported = sym (append-nil _); keeps = λ c f. record { fine = f; paid = omega arith } }
+  stays u p =
+      record {
+        issues = [];
+        reported = sym (append-nil _);
+        placed = placed-none (p .out .text) [] (sym (append-nil _));
+        keeps = λ c f. record { fine = f; paid = omega arith };
+      }
 
   pub follows : (u v w : ℕ) (p q r : Part) → u + v ≤ w → Change C input u p q → Change C input v q r → Change C input w p r
   follows u v w p q r h a b =
       record {
-        text = a .text ++ b .text;
-        written = b .written ∙ (ap (λ (l : List ℕ). l ++ b .text) (a .written) ∙ append-assoc (p .out .text) (a .text) (b .text));
         issues = a .issues ++ b .issues;
         reported = b .reported ∙ (ap (λ (l : List Issue). l ++ b .issues) (a .reported) ∙ append-assoc (p .out .issues) (a .issues) (b .issues));
+        placed = placed-then (p .out .text) (q .out .text) (r .out .text) (a .issues) (b .issues) (a .placed) (b .placed);
         keeps = λ c f. let x = a .keeps c f in let y = b .keeps c (x .fine) in record { fine = y .fine; paid = omega arith };
       }
 
   pub more : (u w : ℕ) (p q : Part) → u ≤ w → Change C input u p q → Change C input w p q
   more u w p q h a =
       record {
-        text = a .text;
-        written = a .written;
         issues = a .issues;
         reported = a .reported;
+        placed = a .placed;
         keeps = λ c f. let x = a .keeps c f in
             record { fine = x .fine; paid = omega arith };
       }
@@ -115,10 +120,9 @@ module _ (C : Type 0) (input : List ℕ) where
   unfolding report
   reports at kind p inside shown =
       record {
-        text = [];
-        written = sym (append-nil _);
-        issues = record { offset = at; kind = kind } ∷ [];
+        issues = record { offset = at; kind = kind; position = position (p .out) } ∷ [];
         reported = refl;
+        placed = placed-one (p .out .text) (record { offset = at; kind = kind; position = position (p .out) }) refl;
         keeps = λ c f.
             record {
               fine =
@@ -137,10 +141,9 @@ module _ (C : Type 0) (input : List ℕ) where
       (C → Bounded input p → (o .marksAt + min 1 (length (o .marks)) ≤ length input) × (o .repeat ≤ 63) × (weight o ≤ weight (p .out) + 21 * u)) → Change C input u p (puts o p)
   silent u p o text e i k =
       record {
-        text = text;
-        written = e;
         issues = [];
         reported = i ∙ sym (append-nil _);
+        placed = placed-none (p .out .text) text e;
         keeps =
             λ c f. record {
               fine = record { charge = f .charge; issues = subst (All (Fit input)) (sym i) (f .issues); marks = k c f .0; repeat = k c f .1 };
@@ -178,7 +181,7 @@ module _ (C : Type 0) (input : List ℕ) where
 
 -- what held before may be used
 pub given : (C : Type 0) (input : List ℕ) (u : ℕ) (p q : Part) → Change (C × Bounded input p) input u p q → Change C input u p q
-given C input u p q a = record { text = a .text; written = a .written; issues = a .issues; reported = a .reported; keeps = λ c f. a .keeps (c, f) f }
+given C input u p q a = record { issues = a .issues; reported = a .reported; placed = a .placed; keeps = λ c f. a .keeps (c, f) f }
 
 module _ (C : Type 0) (input : List ℕ) where
   -- the marks are released

@@ -1,3 +1,4 @@
+pub mod Placed
 pub mod Changes
 pub mod Charges
 pub mod Controls
@@ -7,3 +8,4 @@ pub mod Characters
 pub mod Steps
 pub mod Bodies
 pub mod Reading
+pub mod Positions

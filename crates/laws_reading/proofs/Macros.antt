@@ -49,10 +49,9 @@ module _ (C : Type 0) (g : Given) where
       record {
         change =
             record {
-              text = a .change .text;
-              written = a .change .written;
               issues = a .change .issues;
               reported = a .change .reported;
+              placed = a .change .placed;
               keeps = λ c f. let x = a .change .keeps c (record { charge = h; issues = f .issues; marks = f .marks; repeat = f .repeat }) in record { fine = x .fine; paid = omega arith };
             };
       }

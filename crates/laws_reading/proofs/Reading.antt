@@ -1,22 +1,22 @@
 -- The laws of reading, by name: specs/Reading.antt states them. Assumes nothing.
-use mathlib.Core.Path.{_≡_, refl, sym, ap, subst}
-use mathlib.Core.List.{List, [], _∷_, append-nil}
-use Prim.Native.Nat.{ℕ, zero, suc, _-_, _*_, _≤_, _<_}
+use mathlib.Core.Path.{_≡_, sym, ap, subst}
+use mathlib.Core.List.{List, [], append-nil}
+use Prim.Native.Nat.{ℕ, zero, suc, _≤_, _<_}
 use native.Mathlib.Omega.{arith}
 use borrow.Author.Tests.{le-leb, lt-leb}
 use lib.ListN.{length, length-append}
-use Rattle.issues.specs.Issue.{Issue, issueNumbers, issuesNumbers}
 use Rattle.issues.specs.declared.IssueKind.the-variants.{UnknownEscape}
-use Rattle.decode_output.specs.Output.{nothing}
+use Rattle.decode_output.specs.Output.{nothing, release}
+use Rattle.decode_output.proofs.Counts.{length-numbers}
 use Rattle.reading.specs.State.{Given, State, start, writes}
 use Rattle.reading.specs.Macros.{Run}
 use Rattle.reading.specs.Steps.{step, steps, run, decode}
 use Rattle.reading.specs.Call.{Lent, reading, textBytes, issueList, fits}
 use Rattle.reading.specs.Examples.{rows}
 use Rattle.laws_reading.specs.Reading.{ChargeBound, OffsetsInside, CharactersBound, Escape, EscapesInside, Grown, Grows, IssuesOnlyGrow, Question89, TableOfTwelveReading}
-use Rattle.laws_reading.proofs.Changes.{part, Shown, Fit, Bounded, Kept, releases}
+use Rattle.laws_reading.proofs.Changes.{part, Shown, Fit, Bounded, Kept, Change, stays, follows, releases}
+use Rattle.laws_reading.proofs.Placed.{placed-begins}
 use Rattle.base.proofs.Every.{all-map}
-use Rattle.laws_reading.proofs.Controls.{To}
 use Rattle.laws_reading.proofs.Macros.{Runs}
 use Rattle.laws_reading.proofs.Steps.{step-good, steps-to, runs-to}
 
@@ -26,15 +26,17 @@ module _ (g : Given) (initial : ℕ) where
   unfolding start nothing
   started = record { charge = omega arith; issues = tt; marks = omega arith; repeat = omega arith }
 
-  run-kept : Kept (g .input) (length (g .input) - 0) (part (start initial)) (part (run g 4 (g .input) 0 0 (start initial)))
-  unfolding run
-  run-kept =
-      steps-to (Unit {0}) g 4 (run g 3) (runs-to g 3 (Unit {0})) 0 0 (g .input) 0 0 (start initial) (λ c. omega arith) (λ c. record { after = []; bytes = sym (append-nil (g .input)) })
-      .change .keeps tt started
+  -- all steps, and the release of the marks
+  pub decode-change : Change (Unit {0}) (g .input) (length (g .input)) (part (start initial)) (part (decode g initial))
+  unfolding decode run writes
+  decode-change =
+      follows (Unit {0}) (g .input) _ 0 (length (g .input)) (part (start initial)) (part (run g 4 (g .input) 0 0 (start initial))) _ (omega arith)
+      (steps-to (Unit {0}) g 4 (run g 3) (runs-to g 3 (Unit {0})) 0 0 (g .input) 0 0 (start initial) (λ c. omega arith) (λ c. record { after = []; bytes = sym (append-nil (g .input)) })
+      .change)
+      (releases (Unit {0}) (g .input) (part (run g 4 (g .input) 0 0 (start initial))))
 
   decode-kept : Kept (g .input) (length (g .input)) (part (start initial)) (part (decode g initial))
-  unfolding decode writes
-  decode-kept = let x = releases (Unit {0}) (g .input) (part (run g 4 (g .input) 0 0 (start initial))) .keeps tt (run-kept .fine) in record { fine = x .fine; paid = omega (arith, run-kept .paid) }
+  decode-kept = decode-change .keeps tt started
 
 pub charge-bound : ChargeBound
 charge-bound g initial = decode-kept g initial .fine .charge
@@ -51,24 +53,26 @@ escapes-inside g initial =
     all-map (Fit (g .input)) (λ i. (start len : ℕ) → i .kind ≡ UnknownEscape start len → Escape (g .input) start len) (decode g initial .out .issues)
     (λ i f start len e. subst (Shown (g .input)) e (f .shown)) (decode-kept g initial .fine .issues)
 
-grown : (g : Given) (u : ℕ) (s t : State) → To ⊥ g u s t → Grown s t
-grown g u s t a = record { text = a .change .text; written = a .change .written; issues = a .change .issues; reported = a .change .reported }
+grown : (input : List ℕ) (u : ℕ) (s t : State) → Change ⊥ input u (part s) (part t) → Grown s t
+grown input u s t c =
+    let b = placed-begins (s .out .text) (t .out .text) (c .issues) (c .placed) in
+    record { text = b .0; written = b .1; issues = c .issues; reported = c .reported; placed = c .placed }
 
 module _ (g : Given) (R : Run) (grows : Grows R) where
   deeper : Runs ⊥ g R
   deeper b base at s body inside =
       let a = grows b base (suc at) s in
-      record { change = record { text = a .text; written = a .written; issues = a .issues; reported = a .reported; keeps = λ c. absurd c } }
+      record { change = record { issues = a .issues; reported = a .reported; placed = a .placed; keeps = λ c. absurd c } }
 
   step-grows : (left x : ℕ) (rest : List ℕ) (place at : ℕ) (s : State) → Grown s (step g left R x rest place at s .to)
-  step-grows left x rest place at s = grown g _ s _ (step-good ⊥ g left R deeper x rest place at s (λ c. absurd c) (λ c. absurd c) .to)
+  step-grows left x rest place at s = grown (g .input) _ s _ (step-good ⊥ g left R deeper x rest place at s (λ c. absurd c) (λ c. absurd c) .to .change)
 
   steps-grow : (left base origin : ℕ) (b : List ℕ) (i k : ℕ) (s : State) → Grown s (steps g left R base origin b i k s)
-  steps-grow left base origin b i k s = grown g _ s _ (steps-to ⊥ g left R deeper base origin b i k s (λ c. absurd c) (λ c. absurd c))
+  steps-grow left base origin b i k s = grown (g .input) _ s _ (steps-to ⊥ g left R deeper base origin b i k s (λ c. absurd c) (λ c. absurd c) .change)
 
 -- nothing is appended
 pub same : (s : State) → Grown s s
-same s = record { text = []; written = sym (append-nil _); issues = []; reported = sym (append-nil _) }
+same s = grown [] 0 s s (stays ⊥ [] 0 (part s))
 
 run-grows : (g : Given) (left : ℕ) → Grows (run g left)
 unfolding run
@@ -82,26 +86,22 @@ issues-only-grow =
       step = λ g left R grows. step-grows g R grows left;
       steps = λ g left R grows. steps-grow g R grows left;
       run = run-grows;
-      released = λ s. let a = releases ⊥ [] (part s) in record { text = a .text; written = a .written; issues = a .issues; reported = a .reported };
+      released = λ s. grown [] 0 s (writes release s) (releases ⊥ [] (part s));
     }
 
 -- where there are n issues, there are as many later
 pub has-later : {s t : State} {n : ℕ} → Grown s t → n ≤ length (s .out .issues) → n ≤ length (t .out .issues)
 has-later {s = s} w h = omega (arith, h, ap length (w .reported), length-append (s .out .issues) (w .issues))
 
-issues-four : (l : List Issue) → length (issuesNumbers l) ≡ 4 * length l
-unfolding issuesNumbers issueNumbers
-issues-four [] = refl
-issues-four (i ∷ l) = omega (arith, issues-four l)
-
 pub question-8-9 : (c : Lent) → Question89 c
 unfolding fits issueList
 question-8-9 c =
+    let each = length-numbers (reading c .out .issues) in
     record {
       eight = λ h. rw (lt-leb (length (textBytes c)) (c .textRoom) h);
-      nine = λ h k. rw (le-leb (length (textBytes c)) (c .textRoom) h, lt-leb (length (issueList c)) (c .issueRoom) k);
-      none = λ h k. rw (le-leb (length (textBytes c)) (c .textRoom) h, le-leb (length (issueList c)) (c .issueRoom) k);
-      four = issues-four (reading c .out .issues);
+      nine = λ h k. rw (le-leb (length (textBytes c)) (c .textRoom) h, lt-leb (length (issueList c)) (c .issueRoom) (omega (arith, each, k)));
+      none = λ h k. rw (le-leb (length (textBytes c)) (c .textRoom) h, le-leb (length (issueList c)) (c .issueRoom) (omega (arith, each, k)));
+      each = each;
     }
 
 pub table-of-twelve-reading : TableOfTwelveReading

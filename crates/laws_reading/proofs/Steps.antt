@@ -107,7 +107,15 @@ body-to : (g : Given) (left : ℕ) (R : Run) → ((C : Type 0) → Runs C g R) �
     (C → at < length (g .input)) → To C g (length b) s (steps g left R base (suc at) b 0 0 s)
 body-to g left R runs C b base at s body inside =
     let grows = steps-to ⊥ g left R (runs ⊥) base (suc at) b 0 0 s (λ c. absurd c) (λ c. absurd c) .change in
-    record { change = record { text = grows .text; written = grows .written; issues = grows .issues; reported = grows .reported; keeps = λ c f. kept (inside c) f (body c) } }
+    record {
+      change =
+          record {
+            issues = grows .issues;
+            reported = grows .reported;
+            placed = grows .placed;
+            keeps = λ c f. kept (inside c) f (body c);
+          };
+    }
   where
     kept : at < length (g .input) → Bounded (g .input) (part s) → Body (g .input) base b → Kept (g .input) (length b) (part s) (part (steps g left R base (suc at) b 0 0 s))
     kept h f (inl q) =

@@ -1,3 +1,4 @@
 pub mod Bodies
 pub mod Examples
+pub mod Positions
 pub mod Reading

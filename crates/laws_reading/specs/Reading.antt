@@ -1,5 +1,5 @@
 -- The laws of reading, as statements: 01, "Reading". proofs/Reading.antt and, for bodies, proofs/Bodies.antt prove each under its name.
-use Prim.Native.Nat.{ℕ, suc, _+_, _*_, _≤_, _<_}
+use Prim.Native.Nat.{ℕ, suc, _+_, _*_, _/_, _≤_, _<_}
 use mathlib.Core.Path.{_≡_}
 use mathlib.Core.Bool.{Bool, true, false, cond, _&&_}
 use mathlib.Core.List.{List, [], _∷_, _++_}
@@ -7,7 +7,7 @@ use mathlib.Core.Option.{Option, none, some}
 use lib.Dec.{leb}
 use lib.ListN.{length, drop}
 use Rattle.base.specs.Lists.{All}
-use Rattle.issues.specs.Issue.{Issue}
+use Rattle.issues.specs.Issue.{Issue, numbers}
 use Rattle.issues.specs.declared.IssueKind.the-variants.{UnknownEscape}
 use Rattle.decode_output.specs.Output.{release}
 use Rattle.reading.specs.State.{Given, State, writes}
@@ -16,6 +16,7 @@ use Rattle.reading.specs.Steps.{step, steps, run, decode}
 use Rattle.reading.specs.Call.{Lent, reading, textBytes, issueList, fits, escapePart}
 use Rattle.reading.specs.Examples.{Rows}
 use Rattle.laws_reading.specs.Bodies.{Begun, begun, bodies, total}
+use Rattle.laws_reading.specs.Positions.{Placed, ReportedAt}
 
 -- "its length is within what remains of 64 × length + 4,096"
 abbrev pub ChargeBound : Type 0
@@ -25,14 +26,20 @@ ChargeBound = (g : Given) (initial : ℕ) → decode g initial .charged ≤ 64 *
 abbrev pub ChargeIsSum : Type 0
 ChargeIsSum = (g : Given) (initial : ℕ) → decode g initial .charged ≡ total (bodies g initial)
 
--- A body is run: it begins with its length charged, and the state in which its run ends is t.
+-- A body is run: it begins with its length charged and nothing written or reported, and the state in which its run ends is t.
 pub record BodyRun (R : Run) (at : ℕ) (s : State) (b : Begun) (t : State) : Type 0 where
   pub charges : b .from .charged ≡ s .charged + length (b .body .bytes)
+  pub begins : b .from .out ≡ s .out
   pub ends : t ≡ R (b .body .bytes) (b .body .place) (suc at) (b .from)
 
--- from s to t that body is run, or nothing is charged
+-- From s to t nothing is charged, and what is reported stands at the end of the text of s.
+pub record Free (s t : State) : Type 0 where
+  pub charged : t .charged ≡ s .charged
+  pub reported : ReportedAt s t
+
+-- from s to t that body is run, or none
 abbrev pub RunOrFree : Run → ℕ → State → Option Begun → State → Type 0
-RunOrFree R at s none t = t .charged ≡ s .charged
+RunOrFree R at s none t = Free s t
 RunOrFree R at s (some b) t = BodyRun R at s b t
 
 -- What `bodies` lists is run and not only charged: a step runs the body that it is said to run, and ends as that run does.
@@ -71,12 +78,13 @@ pub record Escape (input : List ℕ) (start len : ℕ) : Type 0 where
 abbrev pub EscapesInside : Type 0
 EscapesInside = (g : Given) (initial : ℕ) → All (λ i. (start len : ℕ) → i .kind ≡ UnknownEscape start len → Escape (g .input) start len) (decode g initial .out .issues)
 
--- from s to t text and issues are only appended
+-- from s to t text and issues are only appended, each issue at the end of the text that is written by then
 pub record Grown (s t : State) : Type 0 where
   pub text : List ℕ
   pub written : t .out .text ≡ s .out .text ++ text
   pub issues : List Issue
   pub reported : t .out .issues ≡ s .out .issues ++ issues
+  pub placed : Placed (s .out .text) issues (t .out .text)
 
 -- so by every run of R
 abbrev pub Grows : Run → Type 0
@@ -89,13 +97,13 @@ pub record IssuesOnlyGrow : Type 0 where
   pub run : (g : Given) (left : ℕ) → Grows (run g left)
   pub released : (s : State) → Grown s (writes release s)
 
--- "Does the whole text .. fit its buffer ..? If no, 8. Do the issues fit? If no, 9": by the lengths of the whole text and of all issues, four
--- numbers each, whatever the buffers
+-- "Does the whole text .. fit its buffer ..? If no, 8. Do the issues fit? If no, 9": by the length of the whole text and the number of all issues,
+-- of which the buffer holds a fifth of its length, rounded down
 pub record Question89 (c : Lent) : Type 0 where
   pub eight : c .textRoom < length (textBytes c) → fits c ≡ 8
-  pub nine : length (textBytes c) ≤ c .textRoom → c .issueRoom < length (issueList c) → fits c ≡ 9
-  pub none : length (textBytes c) ≤ c .textRoom → length (issueList c) ≤ c .issueRoom → fits c ≡ 0
-  pub four : length (issueList c) ≡ 4 * length (reading c .out .issues)
+  pub nine : length (textBytes c) ≤ c .textRoom → c .issueRoom / numbers < length (reading c .out .issues) → fits c ≡ 9
+  pub none : length (textBytes c) ≤ c .textRoom → length (reading c .out .issues) ≤ c .issueRoom / numbers → fits c ≡ 0
+  pub each : length (issueList c) ≡ length (reading c .out .issues) * numbers
 
 -- "The table of twelve": the eight rows that decode
 abbrev pub TableOfTwelveReading : Type 0

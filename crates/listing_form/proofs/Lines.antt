@@ -8,9 +8,10 @@ use lib.ListN.{length, getD, take, drop, length-append, length-drop, length-take
 use lib.Seq.{drop-cons, drop-drop, length-take-le}
 use Rattle.lent.specs.Put.{Put}
 use Rattle.lent.proofs.Putting.{put-then, Rest, rest-less, rest-none}
+use Rattle.issues.specs.Issue.{numbers}
 use Rattle.ascii.specs.Ascii.{decimal, hexadecimal, space, newline}
 use Rattle.ascii.proofs.Digits.{decimal-few, hexadecimal-long}
-use Rattle.listing_form.specs.Lines.{numbers, firstLine, others, issueLine, issueLines}
+use Rattle.listing_form.specs.Lines.{firstLine, others, issueLine, issueLines}
 
 -- ---- a line
 

@@ -2,6 +2,7 @@
 use Prim.Native.Nat.{ℕ, zero, suc}
 use mathlib.Core.List.{List, [], _∷_, _++_}
 use lib.ListN.{take, drop}
+use Rattle.issues.specs.Issue.{numbers}
 use Rattle.ascii.specs.Ascii.{decimal, hexadecimal, space, newline}
 
 -- `text `, ` issues ` and ` charged `
@@ -19,11 +20,7 @@ unfoldable pub firstLine : ℕ → ℕ → ℕ → List ℕ
 unfolding decimal
 firstLine text issues charged = textWord ++ decimal text ++ issuesWord ++ decimal issues ++ chargedWord ++ decimal charged ++ newline
 
--- "An issue is four 32-bit numbers"
-abbrev pub numbers : ℕ
-numbers = 4
-
--- "then one line per issue, its four numbers"
+-- "then one line per issue, its .. numbers", of which request 4 of docs/REQUESTS.md makes five
 unfoldable pub others : List ℕ → List ℕ
 unfolding decimal
 others [] = newline

@@ -2,12 +2,13 @@
 use ascii::decimal;
 use ascii::hexadecimal;
 use ascii::word;
-use decode_output::NUMBERS;
+use issues::NUMBERS;
 ghost use Prim.Native.Nat.{_+_, _*_, _≤_};
 ghost use lib.ListN.{length};
 ghost use Rattle.lent.specs.Put.{Put};
 ghost use Rattle.ascii.specs.Contracts.{Printed};
-ghost use Rattle.listing_form.specs.Lines.{numbers, firstLine, issueLine, issueLines, decodingLines};
+ghost use Rattle.issues.specs.Issue.{numbers};
+ghost use Rattle.listing_form.specs.Lines.{firstLine, issueLine, issueLines, decodingLines};
 ghost use Rattle.listing_form.specs.Contracts.{greatest};
 
 /// The most issues that are printed, and the numbers that they have.

@@ -9,13 +9,14 @@ use lib.Dec.{eqb, leb}
 use lib.ListN.{length, take, replicate, length-replicate}
 use Rattle.questions.specs.Questions.{firstRefusal, decodeLimit}
 use Rattle.questions.proofs.Refusals.{passed}
+use Rattle.issues.specs.Issue.{numbers}
 use Rattle.reading.specs.Call.{Lent, Outcome, reading, textBytes, issueList, fits, refusal, outcomeOf, outcome}
 use Rattle.laws_reading.proofs.Reading.{charge-bound, question-8-9}
 use Rattle.decode.specs.declared.call.Answer.{Answer}
 use Rattle.decode.specs.Answers.{numberOf, textOf, issuesOf, chargedOf, lent, Answered}
 use Rattle.jis_tab.specs.CellTable.{cellTable}
 use Rattle.ascii.specs.Ascii.{refusedLine}
-use Rattle.listing_form.specs.Lines.{numbers, decodingLines}
+use Rattle.listing_form.specs.Lines.{decodingLines}
 use Rattle.listing_lines.specs.Lines.{answerLines, call, decodedLines, listing}
 
 -- ---- counts
@@ -41,7 +42,7 @@ accepted-bounds c e p q =
     let x : outcome c ≡ outcomeOf zero c = ap (λ (n : ℕ). outcomeOf n c) e in
     record {
       text = omega (arith, ap (λ (o : Outcome). o .text) x);
-      issues = omega (arith, ap (λ (o : Outcome). o .issues) x, question-8-9 c .four);
+      issues = omega (arith, ap (λ (o : Outcome). o .issues) x, question-8-9 c .each);
       charged = omega (arith, ap (λ (o : Outcome). o .charged) x, charge-bound (record { cells = c .cells; annexE = eqb (c .width) 1; input = c .input }) (c .initial));
     }
 

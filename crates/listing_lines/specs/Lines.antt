@@ -4,10 +4,11 @@ use mathlib.Core.Bool.{Bool}
 use mathlib.Core.List.{List}
 use lib.ListN.{length, take}
 use Rattle.questions.specs.Questions.{firstRefusal}
+use Rattle.issues.specs.Issue.{numbers}
 use Rattle.reading.specs.Call.{Lent, Outcome, outcome}
 use Rattle.ascii.specs.Ascii.{refusedLine}
 use Rattle.jis_tab.specs.CellTable.{cellTable}
-use Rattle.listing_form.specs.Lines.{numbers, decodingLines}
+use Rattle.listing_form.specs.Lines.{decodingLines}
 
 -- what a call gave, in lines; a refusal's place is 0, since decoding asks none of 4, 5 and 6
 unfoldable pub answerLines : ℕ → Outcome → List ℕ

@@ -70,12 +70,12 @@ charge n s = record { sets = s .sets; gl = s .gl; gr = s .gr; narrow = s .narrow
 unfoldable pub writes : (Output → Output) → State → State
 writes f s = record { sets = s .sets; gl = s .gl; gr = s .gr; narrow = s .narrow; starts = s .starts; lens = s .lens; charged = s .charged; out = f (s .out) }
 
--- an issue
+-- an issue, with its position in the text so far
 unfoldable pub issue : ℕ → IssueKind → State → State
 unfolding writes report
 issue at kind s = writes (report at kind) s
 
--- an issue, with U+FFFD in the character's place
+-- an issue, then U+FFFD in the character's place: "before the placeholder .. it brings" (request 4 of docs/REQUESTS.md)
 unfoldable pub placeholder : ℕ → IssueKind → State → State
 unfolding writes report emit
 placeholder at kind s = writes (emit 0xFFFD) (writes (report at kind) s)

@@ -4,6 +4,7 @@ use crate::cleaning;
 use crate::decoding_case::DecodingCase;
 use crate::decoding_case::case_at;
 use decode::call::Answer;
+use issues::NUMBERS;
 use replay_vectors::buffers::byte_room;
 use replay_vectors::buffers::number_room;
 use replay_vectors::buffers::same_bytes;
@@ -85,6 +86,9 @@ fn same_in_rooms(
     )
 }
 
+/// The bytes of an issue in the file: four a number.
+const ISSUE: usize = 4 * NUMBERS;
+
 /// The case at a place.
 fn compare(file: &[u8], at: usize, cells: &[u16]) -> Compared
     requires { ⌜ at ≤ length (now file) ⌝ }
@@ -95,7 +99,7 @@ fn compare(file: &[u8], at: usize, cells: &[u16]) -> Compared
     let input = at + 44;
     let text = input + case.input;
     let issues = text + case.text;
-    let next = issues + 16 * case.issues;
+    let next = issues + ISSUE * case.issues;
     if next > file.len() {
         return Compared {
             next: 0,

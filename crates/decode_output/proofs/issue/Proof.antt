@@ -32,6 +32,16 @@ add-put32-3 c = search needs
 put32-requires-4 : tie.Need-put32-requires-4
 put32-requires-4 c κs = search needs
 
+add-put32-4 : tie.Need-add-put32-4
+add-put32-4 c = search needs
+
+-- the text is short enough for a position of 32 bits
+cast-put32 : tie.Need-cast-put32
+cast-put32 c = search needs
+
+put32-requires-5 : tie.Need-put32-requires-5
+put32-requires-5 c κs = search needs
+
 add-r : tie.Need-add-r
 add-r c = search needs
 
@@ -40,7 +50,8 @@ same-length c = search needs
 
 returns : tie.Need-returns
 returns c =
-    let at-put324 = c .before .before .before in
+    let at-put325 = c .before .before .before in
+    let at-put324 = at-put325 .before .before .before .before .before in
     let at-put323 = at-put324 .before .before .before .before in
     let at-put322 = at-put323 .before .before .before .before in
     let at-put32 = at-put322 .before .before .before .before in
@@ -52,6 +63,7 @@ returns c =
     record {
       does = λ t₀ i₀ o h.
           rw (
+            at-put325 .put325 .ensures,
             at-put324 .put324 .ensures,
             at-put323 .put323 .ensures,
             at-put322 .put322 .ensures,
@@ -75,6 +87,9 @@ issue-spec =
     put32-requires-3
     add-put32-3
     put32-requires-4
+    add-put32-4
+    cast-put32
+    put32-requires-5
     add-r
     same-length
     returns)

@@ -5,7 +5,8 @@ use native.Mathlib.Omega.{arith}
 use borrow.Author.Needs.{needs}
 use lib.ListN.{length, drop}
 use Rattle.lent.proofs.Putting.{Rest, rest-all}
-use Rattle.listing_form.specs.Lines.{numbers, issueLines}
+use Rattle.issues.specs.Issue.{numbers}
+use Rattle.listing_form.specs.Lines.{issueLines}
 use Rattle.listing_form.proofs.Lines.{issue-whole, lines-turn, lines-end}
 use Rattle.listing_form.proofs.issue_lines.Statement.{statement}
 use Rattle.listing_form.proofs.issue_lines.Tie as tie

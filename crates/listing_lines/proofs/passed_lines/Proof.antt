@@ -5,7 +5,7 @@ use native.Mathlib.Omega.{arith}
 use lib.ListN.{length, length-replicate}
 use lib.Seq.{length-take-le}
 use Rattle.ascii.proofs.Writing.{printed-as, printed-refused}
-use Rattle.listing_form.specs.Lines.{numbers}
+use Rattle.issues.specs.Issue.{numbers}
 use Rattle.listing_lines.proofs.Outcomes.{passes-more, answered-as, lines-refused, lines-decoded, Within, within}
 use borrow.Author.Needs.{needs}
 use Rattle.listing_lines.proofs.passed_lines.Statement.{statement}
