@@ -6,6 +6,9 @@
 
 #include "arib_text.h"
 
+/* Room for two issues. */
+enum { ROOM = 2 * ARIB_ISSUE_NUMBERS };
+
 static uint16_t cells[8836];
 
 /* jis.tab: big-endian numbers. */
@@ -25,20 +28,44 @@ static void reads(void)
 {
     const uint8_t title[] = {0x24, 0xA2};
     uint8_t text[16];
-    uint32_t issues[8];
+    uint32_t issues[ROOM];
     size_t counts[4];
     memset(text, 0xAA, sizeof text);
-    uint32_t refused = arib_decode(cells, 8836, 0, 0, title, 2, text, 16, issues, 8, counts, 4);
+    uint32_t refused = arib_decode(cells, 8836, 0, 0, title, 2, text, 16, issues, ROOM, counts, 4);
     assert(refused == 0);
     assert(counts[0] == 0 && counts[1] == 3 && counts[2] == 1 && counts[3] == 0);
     assert(memcmp(text, "あ\0\0\0\0\0\0\0\0\0\0\0\0\0", 16) == 0);
-    assert(issues[0] == 0 && issues[1] == ARIB_TRUNCATED && issues[2] == 0 && issues[3] == 0);
+    const uint32_t truncated[ROOM] = {0, ARIB_TRUNCATED, 0, 0, 0};
+    assert(memcmp(issues, truncated, sizeof issues) == 0);
     printf("24 A2 reads as %s, with %zu issue\n", (const char *)text, counts[2]);
 
-    refused = arib_decode(cells, 8836, 0, 0, title, 2, text, 2, issues, 8, counts, 4);
+    refused = arib_decode(cells, 8836, 0, 0, title, 2, text, 2, issues, ROOM, counts, 4);
     assert(refused == 8 && counts[1] == 0 && text[0] == 0 && text[1] == 0);
-    refused = arib_decode(cells, 8835, 2, 0, title, 2, text, 16, issues, 8, counts, 4);
+    refused = arib_decode(cells, 8835, 2, 0, title, 2, text, 16, issues, ROOM, counts, 4);
     assert(refused == 1);
+}
+
+/* あ, a mark that a newline releases, a code without a character: the places of two issues in the
+ * text. Nine numbers hold but one. */
+static void places(void)
+{
+    const uint8_t input[] = {0xA2, 0x21, 0x2D, 0x0D, 0x29, 0x21};
+    uint8_t text[16];
+    uint32_t issues[ROOM];
+    size_t counts[4];
+    uint32_t refused = arib_decode(cells, 8836, 0, 0, input, 6, text, 16, issues, ROOM, counts, 4);
+    assert(refused == 0 && counts[1] == 9 && counts[2] == 2);
+    assert(memcmp(text, "あ\u0301\n\uFFFD", 10) == 0);
+    const uint32_t expected[ROOM] = {
+        1, ARIB_DANGLING_NON_SPACING, 0, 0, 3,
+        4, ARIB_UNDEFINED_CODE, ARIB_KANJI, 0x2921, 6,
+    };
+    assert(memcmp(issues, expected, sizeof issues) == 0);
+    int before = (int)issues[ARIB_ISSUE_POSITION];
+    printf("A2 21 2D 0D 29 21 has its first issue behind %.*s\n", before, (const char *)text);
+
+    refused = arib_decode(cells, 8836, 0, 0, input, 6, text, 16, issues, ROOM - 1, counts, 4);
+    assert(refused == 9 && counts[1] == 0 && counts[2] == 0 && issues[ARIB_ISSUE_POSITION] == 0);
 }
 
 static void finds_an_escape(void)
@@ -108,6 +135,7 @@ int main(int argc, char **argv)
     assert(argc == 2);
     read_cells(argv[1]);
     reads();
+    places();
     finds_an_escape();
     codes();
     keys();

@@ -35,6 +35,17 @@
 extern "C" {
 #endif
 
+/* The numbers of an issue in their order, and how many they are. */
+enum arib_issue {
+    ARIB_ISSUE_OFFSET,            /* the byte of the input where the code begins; in a macro's body
+                                   * that of the outermost call */
+    ARIB_ISSUE_KIND,              /* one of enum arib_kind */
+    ARIB_ISSUE_FIRST,             /* the two fields */
+    ARIB_ISSUE_SECOND,
+    ARIB_ISSUE_POSITION,          /* the bytes of text written before it */
+    ARIB_ISSUE_NUMBERS
+};
+
 /* Kinds of issues, with the two fields of each; a field that is not named is 0. A code is in GL
  * form, two bytes as row + 0x20 and cell + 0x20; a set is one of enum arib_set. */
 enum arib_kind {
@@ -76,9 +87,13 @@ enum arib_set {
 };
 
 /* Decodes a string to UTF-8. counts: place, bytes of text, issues, charge (the bytes of the macro
- * bodies that ran). An issue is four numbers, offset, kind and two fields, so the buffer holds a
- * quarter of its length; issues are in order of report. Questions 1, 2, 3, 8, 9. Takes at most some
- * 12,000 bytes of stack on x86-64, by c/stack: macro bodies run four deep. */
+ * bodies that ran). An issue is five numbers, offset, kind, two fields and position, so the buffer
+ * holds a fifth of its length, rounded down; issues are in order of report. The position is the
+ * bytes of text that were written when the issue was reported, before the U+FFFD or the marks that
+ * it brings; marks that still waited for their character are not counted. So the text up to it is
+ * what came before the issue, and cutting there never cuts a character. Positions never fall along
+ * the list, and none exceeds the text's length. Questions 1, 2, 3, 8, 9. Takes at most some 12,000
+ * bytes of stack on x86-64, by c/stack: macro bodies run four deep. */
 uint32_t arib_decode(const uint16_t *cells, size_t cells_len, uint32_t initial, uint32_t width,
                      const uint8_t *input, size_t input_len, uint8_t *text, size_t text_len,
                      uint32_t *issues, size_t issues_len, size_t *counts, size_t counts_len);

@@ -6,7 +6,7 @@ use oracle::coding::{Refusal, refusal};
 use oracle::options::Options;
 
 use crate::coding::Coding;
-use crate::model::{self, Reading};
+use crate::model::{self, ISSUE, Reading};
 
 /// How many numbers a cell table has.
 pub const CELLS: usize = 94 * 94;
@@ -97,11 +97,11 @@ impl Call<'_> {
 }
 
 impl Rooms {
-    /// Questions 8 and 9: the refusal's number, or 0. An issue is four numbers.
+    /// Questions 8 and 9: the refusal's number, or 0. A remainder of the numbers holds no issue.
     pub fn questions(&self, reading: &Reading) -> u32 {
         if reading.text.len() > self.text {
             8
-        } else if reading.issues.len() > self.issues / 4 {
+        } else if reading.issues.len() > self.issues / ISSUE {
             9
         } else {
             0
@@ -110,7 +110,7 @@ impl Rooms {
 
     /// Just enough.
     pub fn exact(reading: &Reading) -> Rooms {
-        Rooms { text: reading.text.len(), issues: 4 * reading.issues.len() }
+        Rooms { text: reading.text.len(), issues: ISSUE * reading.issues.len() }
     }
 }
 

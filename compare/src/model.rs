@@ -13,13 +13,20 @@ pub(crate) mod tables;
 use extent::Extent;
 use sets::Set;
 
+/// How many numbers an issue is.
+pub const ISSUE: usize = 5;
+
+/// Offset, kind, two fields and position: the bytes of text at the moment of report, before the
+/// placeholder or marks it brings, waiting marks not counted.
+pub type Issue = [u32; ISSUE];
+
 /// What decoding gives.
 #[derive(Debug, Clone, Default, PartialEq, Eq)]
 pub struct Reading {
     /// UTF-8 bytes.
     pub text: Vec<u8>,
-    /// Offset, kind and two fields of each issue, in order of report.
-    pub issues: Vec<[u32; 4]>,
+    /// In order of report.
+    pub issues: Vec<Issue>,
     /// The lengths of the macro bodies that ran.
     pub charge: usize,
 }

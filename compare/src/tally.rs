@@ -60,6 +60,30 @@ macro_rules! tally {
 
 pub(crate) use tally;
 
+tally! {
+    /// Positions of issues that were compared, and how many of them are not 0.
+    pub struct Positions {
+        pub compared: u64,
+        pub behind: u64,
+    }
+}
+
+impl Positions {
+    pub fn see(&mut self, positions: impl Iterator<Item = u32>) {
+        for position in positions {
+            self.compared += 1;
+            self.behind += u64::from(position > 0);
+        }
+    }
+}
+
+impl Display for Positions {
+    fn fmt(&self, f: &mut Formatter<'_>) -> fmt::Result {
+        let Positions { compared, behind } = self;
+        write!(f, "{compared} positions of issues compared, {behind} of them not 0")
+    }
+}
+
 /// ` number:count` for each that is not 0.
 pub fn by_number(counts: &[u64]) -> String {
     let seen = counts.iter().enumerate().filter(|(_, n)| **n > 0);

@@ -64,6 +64,27 @@ fn faults_in_a_reading() {
     found::each(faulty, "input 7 bytes: A229211B2140A4\n", |calls| read(calls, &INPUT));
 }
 
+/// あ; a mark; an unknown escape while the mark waits; U+FFFD, which takes it; い; a mark that waits
+/// to the end. The issues are at 3, 3 and 11 of the text.
+const PLACED: [u8; 11] = [0xA2, 0x21, 0x2D, 0x1B, 0x21, 0x40, 0x29, 0x21, 0xA4, 0x21, 0x2D];
+
+/// Waiting marks counted; behind the placeholder; behind the marks that are released; in
+/// characters; the offset.
+#[test]
+fn faults_in_a_position() {
+    assert_eq!(read(CALLS, &PLACED), None);
+    let faulty = reading![
+        |found| found.issues[0].position = 5,
+        |found| found.issues[1].position = 6,
+        |found| found.issues[1].position = 8,
+        |found| found.issues[2].position = 13,
+        |found| found.issues[0].position = 1,
+        |found| found.issues[2].position = 4,
+        |found| found.issues[1].position = found.issues[1].offset,
+    ];
+    found::each(faulty, "input 11 bytes: A2212D1B21402921A4212D\n", |calls| read(calls, &PLACED));
+}
+
 /// A panic is a difference too: its input is printed.
 #[test]
 fn a_panic() {

@@ -23,7 +23,7 @@ fn run(program: Program, script: &str, table: &Table, input: &[u8]) -> Option<St
     found.err().map(|difference| difference.to_string())
 }
 
-const LISTING: &str = r"printf 'text 3 issues 1 charged 0\nE38182\n0 4 0 0\n'";
+const LISTING: &str = r"printf 'text 3 issues 1 charged 0\nE38182\n0 4 0 0 0\n'";
 
 fn listing(script: &str) -> Option<String> {
     run(Program::Listing, script, &Table::Rusts, &[0x24, 0xA2])
@@ -38,10 +38,12 @@ fn no_fault() {
 fn faults_of_listing() {
     let scripts = [
         "",
-        r"printf 'text 3 issues 1 charged 0\nE38182\n0 4 0 0'",
+        r"printf 'text 3 issues 1 charged 0\nE38182\n0 4 0 0 0'",
         r"printf 'text 3 issues 1 charged 0\nE38182\n'",
-        r"printf 'text 3 issues 1 charged 0\nE38184\n0 4 0 0\n'",
-        r"printf 'text 3 issues 1 charged 1\nE38182\n0 4 0 0\n'",
+        r"printf 'text 3 issues 1 charged 0\nE38184\n0 4 0 0 0\n'",
+        r"printf 'text 3 issues 1 charged 1\nE38182\n0 4 0 0 0\n'",
+        r"printf 'text 3 issues 1 charged 0\nE38182\n0 4 0 0\n'",
+        r"printf 'text 3 issues 1 charged 0\nE38182\n0 4 0 0 3\n'",
         r"printf 'refused 3 0\n'",
         &format!("{LISTING}; echo more"),
         &format!("{LISTING}; echo more >&2"),

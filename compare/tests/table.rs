@@ -3,18 +3,18 @@
 use compare::call::Call;
 use compare::cells;
 use compare::inputs::corners;
-use compare::model::Reading;
+use compare::model::{Issue, Reading};
 
 /// Text, issues and charge as 01 has them.
-const ANSWERS: [(&str, &[[u32; 4]], usize); 8] = [
+const ANSWERS: [(&str, &[Issue], usize); 8] = [
     ("\u{FF21}", &[], 0),
     ("A", &[], 0),
-    ("あ", &[[0, 4, 0, 0]], 0),
+    ("あ", &[[0, 4, 0, 0, 0]], 0),
     ("あああ", &[], 0),
-    ("あ", &[[0, 13, 0, 0]], 0),
+    ("あ", &[[0, 13, 0, 0, 0]], 0),
     ("あ\u{301}", &[], 0),
     ("ア", &[], 16),
-    ("", &[[0, 10, 0, 0]], 8),
+    ("", &[[0, 10, 0, 0, 0]], 8),
 ];
 
 #[test]

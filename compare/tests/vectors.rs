@@ -3,7 +3,8 @@
 mod rest;
 
 use compare::call::Rooms;
-use compare::decode::{Buffers, vectors};
+use compare::decode::Buffers;
+use compare::decode::vectors::{self, MOST};
 use compare::model::Reading;
 use compare::subject;
 use rest::{Case, Rest};
@@ -18,7 +19,8 @@ fn each_vector_is_answered() {
     for case in 0..rest.number() {
         let Case { call, rooms: [text, issues], refusal, counts } = rest.case();
         let rooms = Rooms { text, issues };
-        assert!(call.input.len() <= 4_096 && rooms.text <= 4_096 && rooms.issues <= 1_024);
+        assert!(call.input.len() <= 4_096);
+        assert!(rooms.text <= MOST.text && rooms.issues <= MOST.issues);
         assert_eq!(refusal.place, 0);
         let [text, issues, charge] = counts;
         let text = rest.bytes(text).to_vec();

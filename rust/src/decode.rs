@@ -5,7 +5,7 @@ use std::fmt;
 
 use crate::buffers::{self, larger, written};
 use crate::cells;
-use crate::ffi::{self, Call};
+use crate::ffi::{self, Call, ISSUE_NUMBERS};
 use crate::sets::{GraphicSet, InitialState};
 
 /// How the width of alphanumerics and SP goes over into Unicode.
@@ -54,6 +54,11 @@ pub struct Issue {
     /// The byte where the code begins; inside a macro body that of the outermost call.
     pub offset: usize,
     pub kind: IssueKind,
+    /// The bytes of [`Decoded::text`] that were written when the issue was reported. The text up
+    /// to there came before the issue; U+FFFD or the marks that the issue brings stand behind it,
+    /// as do marks that still waited for their character. Always a character boundary, and never
+    /// less than the position of the issue before. isdb-text has no such field.
+    pub position: usize,
 }
 
 impl fmt::Display for Issue {
@@ -127,6 +132,10 @@ impl Error for Refused {}
 /// let read = decode_with(&[0x24, 0xA2], &DecodeOptions::default());
 /// assert_eq!(read.text, "あ");
 /// assert_eq!(read.issues[0].kind, IssueKind::Truncated);
+/// // あ, a code without a character, い
+/// let read = decode_with(&[0xA2, 0x29, 0x21, 0xA4], &DecodeOptions::default());
+/// let (before, after) = read.text.split_at(read.issues[0].position);
+/// assert_eq!((before, after), ("あ", "\u{FFFD}い"));
 /// ```
 pub fn decode_with(bytes: &[u8], opts: &DecodeOptions) -> Decoded {
     try_decode_with(bytes, opts).expect("at most 65,535 bytes")
@@ -140,7 +149,7 @@ pub fn decode_with(bytes: &[u8], opts: &DecodeOptions) -> Decoded {
 /// assert_eq!(refused.number, 3);
 /// ```
 pub fn try_decode_with(bytes: &[u8], opts: &DecodeOptions) -> Result<Decoded, Refused> {
-    let (mut text, mut issues) = (buffers::for_text(bytes), vec![0; 4 * 16]);
+    let (mut text, mut issues) = (buffers::for_text(bytes), vec![0; 16 * ISSUE_NUMBERS]);
     let mut counts = [0; 4];
     loop {
         match ffi::decode(opts.call(bytes), &mut text, &mut issues, &mut counts) {
@@ -151,18 +160,19 @@ pub fn try_decode_with(bytes: &[u8], opts: &DecodeOptions) -> Result<Decoded, Re
         }
     }
     let [_, length, count, _] = counts;
-    let issues = issues.chunks_exact(4).take(count);
+    let issues = issues.chunks_exact(ISSUE_NUMBERS).take(count);
+    let issues = issues.map(|numbers| issue(bytes, numbers.try_into().expect("a whole issue")));
     Ok(Decoded {
         text: written(text, length),
-        issues: issues.map(|numbers| issue(bytes, numbers)).collect(),
+        issues: issues.collect(),
     })
 }
 
-/// An issue from its four numbers.
-fn issue(bytes: &[u8], numbers: &[u32]) -> Issue {
-    let (first, second) = (numbers[2], numbers[3]);
+/// An issue from its numbers.
+fn issue(bytes: &[u8], numbers: [u32; ISSUE_NUMBERS]) -> Issue {
+    let [offset, kind, first, second, position] = numbers;
     let (set, code) = (GraphicSet::from_number(first), second as u16);
-    let kind = match numbers[1] {
+    let kind = match kind {
         1 => IssueKind::UnknownEscape(bytes[first as usize..][..second as usize].to_vec()),
         2 => IssueKind::UndefinedControl(first as u8),
         3 => IssueKind::MalformedControl(first as u8),
@@ -184,7 +194,8 @@ fn issue(bytes: &[u8], numbers: &[u32]) -> Issue {
         _ => IssueKind::RepeatToEndOfLine,
     };
     Issue {
-        offset: numbers[0] as usize,
+        offset: offset as usize,
         kind,
+        position: position as usize,
     }
 }

@@ -2,6 +2,9 @@
 //! call that is refused writes its buffers and counts too. The repository's own comparison goes
 //! through them.
 
+/// How many numbers an issue is: offset, kind, two fields, position.
+pub const ISSUE_NUMBERS: usize = 5;
+
 /// What a call is given, its buffers aside. The options are 01's numbers.
 #[derive(Clone, Copy)]
 pub struct Call<'a> {

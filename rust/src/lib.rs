@@ -23,7 +23,8 @@
 //! Beside what isdb-text has: [`code_with`] gives the gap, a bound on how much shorter any other
 //! coding of the text could be; [`key_with`] gives the key of a title; [`clean_with`] says whether
 //! a title reads without issue, and stops at the first; [`try_decode_with`] says which question an
-//! input fails instead of panicking.
+//! input fails instead of panicking; [`Issue::position`] is an issue's place in the text, which a
+//! program that spells out an [`Issue`] has to name too.
 
 mod buffers;
 mod cells;

@@ -1,4 +1,4 @@
-//! A program of isdb-text's users, unchanged.
+//! A program of isdb-text's users, unchanged but for the position of an issue that is spelt out.
 
 use isdb_text::{
     AribString, DecodeOptions, EncodeError, EncodeOptions, InitialState, Issue, IssueKind,
@@ -33,7 +33,8 @@ fn options_and_issues() {
         read.issues,
         [Issue {
             offset: 0,
-            kind: unknown
+            kind: unknown,
+            position: 0
         }]
     );
     assert_eq!(read.text, "あ");

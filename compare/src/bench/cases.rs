@@ -4,6 +4,7 @@ use crate::call::{Call, CodingRooms, LONGEST, Rooms};
 use crate::cells;
 use crate::coding::Coder;
 use crate::inputs::bombs;
+use crate::model::ISSUE;
 use crate::texts::long;
 use crate::titles;
 
@@ -73,7 +74,8 @@ impl Ready {
 /// input, and of the macro bodies that its budget pays for.
 const TITLE: Rooms = Rooms { text: 256, issues: 64 };
 const PLAIN: Rooms = Rooms { text: 3 * LONGEST, issues: 64 };
-const MACROS: Rooms = Rooms { text: 3 * (65 * LONGEST + 4_096), issues: 4_096 };
+/// Once the budget of macro-kana is spent, each further call is an issue, 870 of them.
+const MACROS: Rooms = Rooms { text: 3 * (65 * LONGEST + 4_096), issues: 1_024 * ISSUE };
 
 const TITLES: Case =
     Case { name: "titles", work: Work::Decode(TITLE), initial: 0, inputs: titles::all, passes: 50 };

@@ -1,5 +1,5 @@
 //! One call of the crate held: against isdb-text, and what that does not answer against 01 (the
-//! key) and the model (the gap).
+//! key) and the models (the issues' positions, the gap).
 
 use std::fmt::Debug;
 use std::panic::{AssertUnwindSafe, catch_unwind};
@@ -13,11 +13,14 @@ use crate::call::Call;
 use crate::coding::Coder;
 use crate::difference::{Difference, Held, held};
 use crate::key::key;
+use crate::model::Reading;
 use crate::runs::Worker;
 
 /// What a thread keeps from call to call.
 pub struct Holder {
     calls: Calls,
+    /// The model's reading of the last input.
+    reading: Reading,
     model: Coder,
     pub tally: Tally,
 }
@@ -27,8 +30,8 @@ impl Worker for Holder {
     type Tally = Tally;
 
     fn new(calls: Calls) -> Self {
-        let (model, tally) = Default::default();
-        Holder { calls, model, tally }
+        let (reading, model, tally) = Default::default();
+        Holder { calls, reading, model, tally }
     }
 
     fn tally(self) -> Tally {
@@ -42,10 +45,12 @@ impl Holder {
         self.reading(call).map(drop)
     }
 
-    /// Text, issues with all their fields, the key, and whether there is no issue.
+    /// Text, issues with all their fields and positions, the key, and whether there is no issue.
     fn reading(&mut self, call: Call) -> Result<Decoded, Difference> {
         let (calls, own) = (self.calls, decode_options(&call));
-        let reading = decoded(decode_with(call.input, &call.options().into()));
+        call.read(&mut self.reading);
+        let rust = decode_with(call.input, &call.options().into());
+        let reading = decoded(rust, &self.reading);
         same("reading", &call, &reading, || (calls.decode)(call.input, &own))?;
         let key = if reading.issues.is_empty() { Ok(key(&reading.text)) } else { refused(10) };
         same("key", &call, &key, || (calls.key)(call.input, &own))?;
@@ -53,6 +58,7 @@ impl Holder {
         same("clean", &call, &clean, || (calls.clean)(call.input, &own))?;
         self.tally.readings += 1;
         self.tally.issues += reading.issues.len() as u64;
+        self.tally.positions.see(reading.issues.iter().map(|issue| issue.position as u32));
         self.tally.keys += u64::from(key.is_ok());
         Ok(reading)
     }

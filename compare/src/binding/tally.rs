@@ -2,7 +2,7 @@
 
 use std::fmt::{Display, Formatter, Result};
 
-use crate::tally::tally;
+use crate::tally::{Positions, tally};
 
 tally! {
     pub struct Tally {
@@ -11,6 +11,8 @@ tally! {
         /// Their issues, and how many have a key: those that are clean.
         pub issues: u64,
         pub keys: u64,
+        /// The positions of the issues.
+        pub positions: Positions,
         /// Texts coded or refused, likewise; how many were decoded again, how many have a gap.
         pub codings: u64,
         pub again: u64,
@@ -20,8 +22,8 @@ tally! {
 
 impl Display for Tally {
     fn fmt(&self, f: &mut Formatter<'_>) -> Result {
-        let Tally { readings, issues, keys, codings, again, gaps } = self;
-        write!(f, "{readings} readings with {issues} issues and {keys} keys; ")?;
+        let Tally { readings, issues, keys, positions, codings, again, gaps } = self;
+        write!(f, "{readings} readings with {issues} issues and {keys} keys; {positions}; ")?;
         write!(f, "{codings} codings, {again} decoded again, {gaps} with a gap")
     }
 }

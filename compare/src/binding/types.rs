@@ -6,6 +6,7 @@ use ours::{
 };
 
 use crate::call::Call;
+use crate::model;
 
 /// The call's options.
 pub fn decode_options(call: &Call) -> DecodeOptions {
@@ -19,10 +20,16 @@ pub fn encode_options(call: &Call) -> EncodeOptions {
     EncodeOptions { initial, width }
 }
 
-/// isdb-text's reading in the crate's types.
-pub fn decoded(rust: isdb_text::Decoded) -> Decoded {
-    let issue = |rust: isdb_text::Issue| Issue { offset: rust.offset, kind: kind(rust.kind) };
-    Decoded { text: rust.text, issues: rust.issues.into_iter().map(issue).collect() }
+/// isdb-text's reading in the crate's types. isdb-text has no positions: they are the model's.
+pub fn decoded(rust: isdb_text::Decoded, model: &model::Reading) -> Decoded {
+    assert_eq!(rust.issues.len(), model.issues.len(), "the issues' number of model and Rust");
+    let issue = |(rust, &[.., position]): (isdb_text::Issue, &model::Issue)| Issue {
+        offset: rust.offset,
+        kind: kind(rust.kind),
+        position: position as usize,
+    };
+    let issues = rust.issues.into_iter().zip(&model.issues).map(issue);
+    Decoded { text: rust.text, issues: issues.collect() }
 }
 
 /// isdb-text's coding or error in the crate's types.

@@ -22,6 +22,8 @@ pub struct Holder<'a> {
     subject: &'a dyn Subject,
     buffers: Buffers,
     reading: Reading,
+    /// Whether the reading's positions are among those compared.
+    placed: bool,
     pub tally: Tally,
 }
 
@@ -30,8 +32,8 @@ impl<'a> Worker for Holder<'a> {
     type Tally = Tally;
 
     fn new(subject: &'a dyn Subject) -> Self {
-        let (buffers, reading, tally) = Default::default();
-        Holder { subject, buffers, reading, tally }
+        let (buffers, reading, placed, tally) = Default::default();
+        Holder { subject, buffers, reading, placed, tally }
     }
 
     fn tally(self) -> Tally {
@@ -48,6 +50,7 @@ impl Holder<'_> {
     /// Reads with the model, for a table that the Rust does not have.
     pub fn read(&mut self, call: Call) {
         call.read(&mut self.reading);
+        self.placed = false;
         self.tally.readings += 1;
         self.tally.longest.see(self.reading.text.len());
         self.tally.charge.see(self.reading.charge);
@@ -58,7 +61,8 @@ impl Holder<'_> {
 
     /// Reads with the model and with the Rust: text, issues with their fields, and the bytes of
     /// unknown escapes as the subject hands them back. Then `arib_clean`, by the Rust's issues.
-    /// The table is the Rust's.
+    /// The table is the Rust's. The issues' positions, which the Rust has not, are the model's:
+    /// `run` holds the subject to them.
     pub fn read_both(&mut self, call: Call) -> Held {
         self.read(call);
         self.tally.rust += 1;
@@ -102,6 +106,9 @@ impl Holder<'_> {
     fn decode(&mut self, call: Call, rooms: Rooms, number: u32) -> Held {
         self.tally.calls += 1;
         self.tally.answers[number as usize] += 1;
+        if number == 0 && !std::mem::replace(&mut self.placed, true) {
+            self.tally.positions.see(self.reading.issues.iter().map(|[.., position]| *position));
+        }
         let given = self.subject.decode(call, self.buffers.lend(rooms));
         let answer = question(number).map(|()| &self.reading);
         held(self.buffers.fault(given, answer), &call, |difference| {
@@ -117,7 +124,7 @@ impl Holder<'_> {
     /// The Rust's bytes of each unknown escape, through `arib_unknown_escape`.
     fn part_fault(&mut self, rust: &reading::Reading, input: &[u8]) -> Option<String> {
         let escapes = rust.issues.iter().zip(&self.reading.issues).filter(|(i, _)| i.kind == 1);
-        for (issue, &[_, _, start, length]) in escapes {
+        for (issue, &[_, _, start, length, _]) in escapes {
             let (start, length) = (start as usize, length as usize);
             let (returned, part) = self.subject.unknown_escape(input, start, length);
             self.tally.parts += 1;

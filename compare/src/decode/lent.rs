@@ -3,7 +3,7 @@
 use crate::call::{Answer, Rooms, numbered};
 use crate::difference::digits;
 use crate::lent::{Buffer, answer_fault};
-use crate::model::Reading;
+use crate::model::{ISSUE, Reading};
 use crate::subject::Lent;
 
 /// Buffers that are used again from call to call.
@@ -76,8 +76,8 @@ impl Buffers {
     }
 }
 
-/// Four numbers an issue.
+/// Each issue's numbers.
 pub fn issues(numbers: &[u32]) -> String {
     let issue = |n: &[u32]| n.iter().map(u32::to_string).collect::<Vec<_>>().join(",");
-    numbers.chunks(4).map(|n| format!(" {}", issue(n))).collect()
+    numbers.chunks(ISSUE).map(|n| format!(" {}", issue(n))).collect()
 }

@@ -4,29 +4,31 @@ use super::Holder;
 use super::hold::COUNTS;
 use crate::call::{Call, Rooms};
 use crate::difference::Held;
+use crate::model::ISSUE;
 use crate::random::Random;
 
 /// Beyond what is needed, with a remainder of the issue buffer.
 pub fn ample(holder: &Holder, random: &mut Random) -> Rooms {
     let Rooms { text, issues } = Rooms::exact(holder.reading());
-    Rooms { text: text + random.below(40), issues: issues + random.below(12) }
+    Rooms { text: text + random.below(40), issues: issues + random.below(3 * ISSUE) }
 }
 
-/// `arib_decode` in exact rooms; with remainders of the issue buffer; with one byte, one number
-/// and one issue less. Then `arib_key` and `arib_clean`.
+/// `arib_decode` in exact rooms; with the greatest remainder of the issue buffer; with one byte,
+/// one number and one issue less. For two issues a number less is nine, of which four are a
+/// remainder. Then `arib_key` and `arib_clean`.
 pub fn all_rooms(holder: &mut Holder, call: Call) -> Held {
     let Rooms { text, issues } = Rooms::exact(holder.reading());
     let rooms = |text, issues| Rooms { text, issues };
     holder.run(call, rooms(text, issues))?;
-    holder.run(call, rooms(text + 1, issues + 3))?;
-    holder.run(call, rooms(text, issues + 7))?;
+    holder.run(call, rooms(text + 1, issues + ISSUE - 1))?;
+    holder.run(call, rooms(text, issues + 2 * ISSUE - 1))?;
     if text > 0 {
         holder.run(call, rooms(text - 1, issues))?;
-        holder.run(call, rooms(text / 2, issues + 4))?;
+        holder.run(call, rooms(text / 2, issues + ISSUE))?;
     }
     if issues > 0 {
         holder.run(call, rooms(text, issues - 1))?;
-        holder.run(call, rooms(text + 3, issues - 4))?;
+        holder.run(call, rooms(text + 3, issues - ISSUE))?;
     }
     if text > 0 && issues > 0 {
         holder.run(call, rooms(text - 1, issues - 1))?;

@@ -3,10 +3,11 @@
 use super::rooms::{all_rooms, key_rooms};
 use super::{Found, Runs};
 use crate::call::{Call, Rooms, under_all};
+use crate::model::ISSUE;
 use crate::{cells, inputs};
 
 /// The room for inputs of up to three bytes: 63 repeats of three bytes, and four issues.
-const SMALL: Rooms = Rooms { text: 200, issues: 18 };
+const SMALL: Rooms = Rooms { text: 200, issues: 4 * ISSUE + 2 };
 
 /// The corners under all options, with the Rust's table and with zeros, in all rooms.
 pub fn corners(runs: &Runs) -> Found {

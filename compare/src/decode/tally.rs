@@ -2,7 +2,7 @@
 
 use std::fmt::{Display, Formatter, Result};
 
-use crate::tally::{Greatest, by_number, tally};
+use crate::tally::{Greatest, Positions, by_number, tally};
 
 tally! {
     pub struct Tally {
@@ -16,6 +16,8 @@ tally! {
         pub parts: u64,
         /// Issues of kinds 1 to 13 in the readings.
         pub kinds: [u64; 14],
+        /// Of the readings that the subject was held to, once each.
+        pub positions: Positions,
         /// Answers by refusal number; 0 for accepted calls.
         pub answers: [u64; 11],
         /// Calls of `arib_key` by refusal number, likewise.
@@ -29,7 +31,7 @@ tally! {
     }
 }
 
-/// The counts, the calls by refusal number, the issues by kind.
+/// The counts, the calls by refusal number, the issues by kind, their positions.
 impl Display for Tally {
     fn fmt(&self, f: &mut Formatter<'_>) -> Result {
         let Tally { readings, calls, rust, parts, longest, charge, .. } = self;
@@ -48,6 +50,6 @@ impl Display for Tally {
             "\n  {calls} calls of clean, {clean} without issue, by number:{}",
             by_number(asked)
         )?;
-        write!(f, "\n  issues by kind:{}", by_number(&self.kinds))
+        write!(f, "\n  issues by kind:{}\n  {}", by_number(&self.kinds), self.positions)
     }
 }

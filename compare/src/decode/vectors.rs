@@ -1,4 +1,4 @@
-//! `compare vectors`: eleven numbers a case, the input, the text, and four numbers an issue.
+//! `compare vectors`: eleven numbers a case, the input, the text, and the numbers of the issues.
 
 mod cases;
 
@@ -9,11 +9,13 @@ use crate::runs::Worker;
 use crate::subject;
 use crate::vectors::{self, numbers};
 
+pub use cases::MOST;
+
 /// One call.
 type Case = vectors::Case<Rooms>;
 
 /// The file with the first `count` cases of the list. The model's answers are held against the
-/// Rust's where the table is the Rust's.
+/// Rust's where the table is the Rust's, but for the issues' positions, which the Rust has not.
 pub fn file(count: usize) -> Vec<u8> {
     let mut holder = Holder::new(subject::model());
     vectors::file(count, cases::all(), |out, case| put(out, case, answer(&mut holder, case)))

@@ -51,6 +51,13 @@ const CORNERS: &[Corner] = &[
     (0, 0, "212D212E227EA2"),
     (0, 0, "212D1B283221A2"),
     (0, 0, "212D240D"),
+    // Issues behind text: before a placeholder and its repeats, before marks that are released, while
+    // marks wait, in a body.
+    (0, 0, "A298437A4DA2"),
+    (0, 0, "A2212D0D7A4D"),
+    (0, 0, "A2212D"),
+    (0, 0, "A2212D9840A2"),
+    (1, 0, "A2954121A2A0A2954F1D21"),
     // Sizes and the width option.
     (0, 0, "8B600E41"),
     (0, 0, "8BE00E41"),

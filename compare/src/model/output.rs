@@ -4,7 +4,8 @@ use super::{Machine, tables};
 
 impl Machine<'_> {
     pub fn report(&mut self, offset: u32, kind: u32, first: u32, second: u32) {
-        self.reading.issues.push([offset, kind, first, second]);
+        let position = self.reading.text.len() as u32;
+        self.reading.issues.push([offset, kind, first, second, position]);
     }
 
     /// A character read from a cell: marks wait, others are emitted.

@@ -9,7 +9,7 @@ use super::{Found, Runs};
 use crate::call::{Call, Rooms};
 use crate::difference::{Difference, digits};
 use crate::inputs::{self, bombs};
-use crate::model::Reading;
+use crate::model::{ISSUE, Issue, Reading};
 use crate::random::Random;
 use crate::titles;
 
@@ -17,7 +17,7 @@ use crate::titles;
 const LONGEST: usize = 4_096;
 
 /// Its buffers.
-const ROOMS: Rooms = Rooms { text: 65_536, issues: 4 * 256 };
+const ROOMS: Rooms = Rooms { text: 65_536, issues: 256 * ISSUE };
 
 /// What it must say.
 pub fn said(holder: &mut Holder, call: Call) -> Result<Said, Difference> {
@@ -40,8 +40,7 @@ pub fn said(holder: &mut Holder, call: Call) -> Result<Said, Difference> {
 fn lines(reading: &Reading) -> String {
     let Reading { text, issues, charge } = reading;
     let (length, count) = (text.len(), issues.len());
-    let issue =
-        |[offset, kind, first, second]: &[u32; 4]| format!("{offset} {kind} {first} {second}\n");
+    let issue = |numbers: &Issue| numbers.map(|n| n.to_string()).join(" ") + "\n";
     let issues: String = issues.iter().map(issue).collect();
     format!("text {length} issues {count} charged {charge}\n{}\n{issues}", digits(text))
 }

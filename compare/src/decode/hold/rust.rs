@@ -5,7 +5,8 @@ use oracle::reading::{Issue, Reading};
 use crate::difference::digits;
 use crate::model;
 
-/// In what the model differs from the Rust, if in anything.
+/// In what the model differs from the Rust, if in anything. Of an issue these are the first four
+/// numbers: the Rust has no position.
 pub fn fault(model: &model::Reading, rust: &Reading, input: &[u8]) -> Option<&'static str> {
     if model.text != rust.text.as_bytes() {
         return Some("the texts of model and Rust");
@@ -18,7 +19,8 @@ pub fn fault(model: &model::Reading, rust: &Reading, input: &[u8]) -> Option<&'s
 }
 
 /// Of an unknown escape the Rust has the bytes and not the start.
-fn same_issue([offset, kind, first, second]: [u32; 4], rust: &Issue, input: &[u8]) -> bool {
+fn same_issue(model: model::Issue, rust: &Issue, input: &[u8]) -> bool {
+    let [offset, kind, first, second, _] = model;
     let fields = match kind {
         1 => {
             let escape = input.get(first as usize..(first + second) as usize);

@@ -3,15 +3,15 @@
 use super::Case;
 use crate::call::{Call, OPTIONS, Rooms};
 use crate::inputs::{self, bombs, corners};
-use crate::model::Reading;
+use crate::model::{ISSUE, Reading};
 use crate::questions::some_wrong_options;
 use crate::random::Random;
 use crate::{cells, titles};
 
 /// The greatest rooms of any case.
-const MOST: Rooms = Rooms { text: 4_096, issues: 1_024 };
+pub const MOST: Rooms = Rooms { text: 4_096, issues: 256 * ISSUE };
 /// The usual ones.
-const USUAL: Rooms = Rooms { text: 256, issues: 66 };
+const USUAL: Rooms = Rooms { text: 256, issues: 16 * ISSUE + 2 };
 
 /// Input, text and issues of a random case have at most so many bytes.
 const SHORT: usize = 150;
@@ -63,7 +63,10 @@ fn options() -> impl Iterator<Item = Case> {
 /// Every byte, alone and before two kana.
 fn bytes() -> impl Iterator<Item = Case> {
     let small = |n: u8, input| Case {
-        rooms: Rooms { text: 9 + usize::from(n % 3), issues: 12 + usize::from(n % 5) },
+        rooms: Rooms {
+            text: 9 + usize::from(n % 3),
+            issues: 3 * ISSUE + usize::from(n) % (ISSUE + 1),
+        },
         ..case(n & 1 == 0, u32::from(n / 2 % 2), u32::from(n / 4 % 2), input)
     };
     (0..=255).flat_map(move |n| [small(n, vec![n]), small(n, vec![n, 0xA2, 0xA4])])
@@ -101,7 +104,7 @@ fn rows() -> impl Iterator<Item = Case> {
     let all = ROWS.iter().flat_map(move |&(row, sets)| {
         sets.iter().flat_map(move |&set| tables(row).iter().map(move |&zeros| (row, set, zeros)))
     });
-    let rooms = Rooms { text: 4 * 94, issues: 4 * 94 };
+    let rooms = Rooms { text: 4 * 94, issues: ISSUE * 94 };
     all.map(move |(row, set, zeros)| Case { rooms, ..case(zeros, 0, 0, input(row, set)) })
 }
 
@@ -113,7 +116,7 @@ fn level() -> impl Iterator<Item = Case> {
 
 /// Budgets that are spent.
 fn spent() -> impl Iterator<Item = Case> {
-    let rooms = Rooms { text: 600, issues: 800 };
+    let rooms = Rooms { text: 600, issues: 200 * ISSUE };
     bombs::small().into_iter().map(move |input| Case { rooms, ..case(false, 1, 0, input) })
 }
 
@@ -138,7 +141,7 @@ fn random() -> impl Iterator<Item = Case> {
         let cells = tables[usize::from(zeros)];
         Call { cells, initial, width, input: &input }.read(&mut reading);
         let exact = Rooms::exact(&reading);
-        let size = input.len() + exact.text + 4 * exact.issues;
+        let size = input.len() + exact.text + size_of::<u32>() * exact.issues;
         let fits = exact.text < MOST.text - 20 && exact.issues < MOST.issues - 20;
         let kept = fits && (long || size <= SHORT);
         let rooms = around(&mut random, exact);
@@ -149,7 +152,7 @@ fn random() -> impl Iterator<Item = Case> {
 /// Mostly rooms beyond the exact ones.
 fn around(random: &mut Random, exact: Rooms) -> Rooms {
     let Rooms { text, issues } = exact;
-    let (more, numbers) = (random.below(20), random.below(12));
+    let (more, numbers) = (random.below(20), random.below(3 * ISSUE));
     match random.below(12) {
         0 => Rooms { text: text.saturating_sub(1 + more / 6), issues: issues + numbers },
         1 => Rooms { text: text + more, issues: issues.saturating_sub(1 + numbers / 3) },
