@@ -50,6 +50,9 @@ impl Holder {
         let (calls, own) = (self.calls, decode_options(&call));
         call.read(&mut self.reading);
         let rust = decode_with(call.input, &call.options().into());
+        let counts = [rust.issues.len(), self.reading.issues.len()];
+        let fault = (counts[0] != counts[1]).then_some("the number of issues, of Rust and model");
+        held(fault, &call, |difference| difference.line("issues", format!("{counts:?}")))?;
         let reading = decoded(rust, &self.reading);
         same("reading", &call, &reading, || (calls.decode)(call.input, &own))?;
         let key = if reading.issues.is_empty() { Ok(key(&reading.text)) } else { refused(10) };

@@ -20,9 +20,9 @@ pub fn encode_options(call: &Call) -> EncodeOptions {
     EncodeOptions { initial, width }
 }
 
-/// isdb-text's reading in the crate's types. isdb-text has no positions: they are the model's.
+/// isdb-text's reading in the crate's types. isdb-text has no positions: they are the model's,
+/// which has as many issues.
 pub fn decoded(rust: isdb_text::Decoded, model: &model::Reading) -> Decoded {
-    assert_eq!(rust.issues.len(), model.issues.len(), "the issues' number of model and Rust");
     let issue = |(rust, &[.., position]): (isdb_text::Issue, &model::Issue)| Issue {
         offset: rust.offset,
         kind: kind(rust.kind),

@@ -4,16 +4,15 @@ use mathlib.Core.Path.{_≡_, refl, sym, ap, _∙_}
 use mathlib.Core.List.{List, [], _∷_, _++_, append-nil, append-assoc}
 use native.Mathlib.Nat.{mul-zero, mul-suc}
 use native.Mathlib.Omega.{arith}
-use lib.ListN.{length, replicate, length-append}
+use lib.ListN.{length, replicate, length-append, length-replicate}
 use Rattle.utf8.specs.Utf8.{utf8, utf8s}
-use Rattle.utf8.proofs.Bytes.{length-utf8}
+use Rattle.utf8.proofs.Bytes.{utf8s-least, utf8s-most}
 use Rattle.issues.specs.Issue.{Issue, numbers, issueNumbers, issuesNumbers}
 
 -- a text of no bytes has no characters
 pub utf8s-none : (a : List ℕ) → length (utf8s a) ≡ 0 → a ≡ []
-unfolding utf8s
 utf8s-none [] h = refl
-utf8s-none (c ∷ a) h = absurd (omega (arith, length-utf8 c .least, length-append (utf8 c) (utf8s a)))
+utf8s-none (c ∷ a) h = absurd (omega (arith, h, utf8s-least (c ∷ a)))
 
 -- a character n times
 pub length-times : (n c : ℕ) → length (utf8s (replicate n c)) ≡ length (utf8 c) * n
@@ -25,14 +24,10 @@ pub width-times : {w : ℕ} (n c : ℕ) → w ≡ length (utf8 c) → w * n ≡ 
 width-times n c e = ap (λ (k : ℕ). k * n) e ∙ sym (length-times n c)
 
 pub times-most : (n c : ℕ) → length (utf8s (replicate n c)) ≤ 4 * n
-unfolding utf8s
-times-most zero c = omega arith
-times-most (suc n) c = omega (arith, length-append (utf8 c) (utf8s (replicate n c)), length-utf8 c .most, times-most n c)
+times-most n c = omega (arith, utf8s-most (replicate n c), length-replicate n c)
 
 pub times-least : (n c : ℕ) → n ≤ length (utf8s (replicate n c))
-unfolding utf8s
-times-least zero c = omega arith
-times-least (suc n) c = omega (arith, length-append (utf8 c) (utf8s (replicate n c)), length-utf8 c .least, times-least n c)
+times-least n c = omega (arith, utf8s-least (replicate n c), length-replicate n c)
 
 pub times-more : (n c : ℕ) → utf8s (replicate (suc n) c) ≡ utf8s (replicate n c) ++ utf8 c
 unfolding utf8s

@@ -1,12 +1,12 @@
 -- The laws of positions, by name: specs/Positions.antt states them. Assumes nothing.
 use mathlib.Core.Path.{sym, subst}
-use mathlib.Core.List.{List, [], _∷_}
-use Prim.Native.Nat.{ℕ, _*_, _≤_}
+use mathlib.Core.List.{List, []}
+use Prim.Native.Nat.{ℕ, _≤_}
 use native.Mathlib.Omega.{arith}
-use lib.ListN.{length, length-append}
+use lib.ListN.{length}
 use Rattle.base.proofs.Every.{all-map}
-use Rattle.utf8.specs.Utf8.{utf8, utf8s}
-use Rattle.utf8.proofs.Bytes.{length-utf8}
+use Rattle.utf8.specs.Utf8.{utf8s}
+use Rattle.utf8.proofs.Bytes.{utf8s-most}
 use Rattle.issues.specs.Issue.{Issue}
 use Rattle.decode_output.specs.Output.{nothing}
 use Rattle.reading.specs.State.{Given, start}
@@ -31,16 +31,10 @@ positions-never-fall g initial = placed-falls [] (decode g initial .out .text) (
 pub positions-cut : PositionsCut
 positions-cut g initial = placed-cut [] (decode g initial .out .text) (decode g initial .out .issues) (whole g initial)
 
--- a character has at most four bytes
-bytes-most : (text : List ℕ) → length (utf8s text) ≤ 4 * length text
-unfolding utf8s
-bytes-most [] = omega arith
-bytes-most (c ∷ text) = omega (arith, length-append (utf8 c) (utf8s text), length-utf8 c .most, bytes-most text)
-
 -- 84 × (65,535 + 64 × 65,535 + 4,096) is below 2^32
 pub positions-small : PositionsSmall
 positions-small g initial h =
     let text = decode g initial .out .text in
     all-map (λ i. i .position ≤ length (utf8s text)) (λ i. i .position ≤ 0xFFFFFFFF) (decode g initial .out .issues)
-    (λ i k. omega (arith, k, h, bytes-most text, characters-bound g initial, charge-bound g initial))
+    (λ i k. omega (arith, k, h, utf8s-most text, characters-bound g initial, charge-bound g initial))
     (positions-inside g initial)

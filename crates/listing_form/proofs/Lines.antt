@@ -31,7 +31,8 @@ pub line-turn : (ns : List ℕ) (i : ℕ) {l₀ xs l l₁ l₂ : List ℕ} {at n
 line-turn ns i w h p q = rest-less w (put-then p q) (others-more ns i h)
 
 -- the newline
-pub line-end : (ns : List ℕ) (i : ℕ) {l₀ xs l l₁ : List ℕ} {at n r : ℕ} → Rest l₀ at xs l n (others (drop i ns)) → length ns ≤ i → Put l n newline l₁ r → Put l₀ at xs l₁ r
+pub line-end : (ns : List ℕ) (i : ℕ) {l₀ xs l l₁ : List ℕ} {at n r : ℕ} → Rest l₀ at xs l n (others (drop i ns)) → length ns ≤ i → Put l n newline l₁ r
+    → Put l₀ at xs l₁ r
 unfolding others
 line-end ns i w h p = w .leads (rw (drop-of-length-le ns h) p)
 

@@ -2,11 +2,11 @@
 -- Assumes nothing.
 use mathlib.Core.Path.{_≡_, refl, sym, ap, _∙_, subst}
 use mathlib.Core.List.{List, [], _∷_, _++_, append-assoc, append-nil}
-use Prim.Native.Nat.{ℕ, zero, suc, _+_, _-_, _/_, _%_, _≤_, _<_}
+use Prim.Native.Nat.{ℕ, zero, suc, _+_, _-_, _*_, _/_, _%_, _≤_, _<_}
 use native.Mathlib.Omega.{arith}
 use native.Mathlib.Decide.{decLt}
 use borrow.Author.Tests.{lt-ltb, le-ltb}
-use lib.ListN.{length, getD, List·getD-append}
+use lib.ListN.{length, getD, length-append, List·getD-append}
 use lib.Seq.{getD-append-add}
 use Rattle.utf8.specs.Utf8.{utf8, utf8s, trailing}
 
@@ -63,6 +63,17 @@ length-utf8 c = go (row c)
     go (in2 g h) = rw (row2 c g h) (omega arith)
     go (in3 g h) = rw (row3 c g h) (omega arith)
     go (in4 g) = rw (row4 c g) (omega arith)
+
+-- a text has one to four bytes a character
+pub utf8s-least : (cs : List ℕ) → length cs ≤ length (utf8s cs)
+unfolding utf8s
+utf8s-least [] = omega arith
+utf8s-least (c ∷ cs) = omega (arith, length-append (utf8 c) (utf8s cs), length-utf8 c .least, utf8s-least cs)
+
+pub utf8s-most : (cs : List ℕ) → length (utf8s cs) ≤ 4 * length cs
+unfolding utf8s
+utf8s-most [] = omega arith
+utf8s-most (c ∷ cs) = omega (arith, length-append (utf8 c) (utf8s cs), length-utf8 c .most, utf8s-most cs)
 
 pub utf8s-append : (cs ds : List ℕ) → utf8s (cs ++ ds) ≡ utf8s cs ++ utf8s ds
 unfolding utf8s
