@@ -1,25 +1,25 @@
 -- The clean call, from what the decoder's steps leave. Assumes nothing.
 use Prim.Native.Nat.{ℕ, zero, suc, _≤_, _<_}
-use mathlib.Core.Path.{_≡_, refl, sym, ap, _∙_, subst}
+use mathlib.Core.Path.{_≡_, refl, sym, ap, _∙_}
 use mathlib.Core.Bool.{Bool, true, false, cond}
 use mathlib.Core.List.{List, [], _∷_}
 use mathlib.Core.Logic.{inl, inr}
 use native.Mathlib.Omega.{arith}
-use lib.Dec.{eqb}
 use lib.ListN.{length}
 use Rattle.issues.specs.Issue.{Issue}
 use Rattle.decode_output.specs.declared.Out.{Out}
 use Rattle.decode_output.specs.Output.{release}
 use Rattle.decode_output.specs.Contracts as output
-use Rattle.reading.specs.State.{Given, State, start, writes}
+use Rattle.reading.specs.State.{State, given, start, writes}
 use Rattle.reading.specs.Steps.{decode, run}
+use Rattle.reading.specs.WithoutBuffers.{Lent, lent, reading, refusal}
 use Rattle.laws_reading.proofs.Reading.{issues-only-grow, has-later}
 use Rattle.decode_state.specs.declared.Core.{Core}
-use Rattle.decode_state.specs.Contracts.{startOf, undefined, whole, Holds, HoldsOrCut}
-use Rattle.decode_state.proofs.Begun.{holds-start}
+use Rattle.decode_state.specs.Contracts.{startOf, whole, HoldsOrCut}
 use Rattle.decode_outer.specs.Contracts.{TopRan}
-use Rattle.clean.specs.Clean.{Lent, reading, isEmpty, clean, refusal, Outcome, outcomeOf, outcome}
-use Rattle.clean.specs.Contracts.{verdictOf, lent, Answered}
+use Rattle.decode_outer.proofs.Start.{enough-end, ran-start}
+use Rattle.clean.specs.Clean.{isEmpty, clean, Outcome, outcomeOf, outcome}
+use Rattle.clean.specs.Contracts.{verdictOf, Answered}
 use Rattle.clean.specs.declared.CleanAnswer.the-variants.{Yes, No, Refused}
 
 -- ---- the answer
@@ -75,15 +75,18 @@ module _ (c : Lent) where
 -- ---- from the start, by all steps and the release of the marks
 
 module _ (cells : List ℕ) (initial width : ℕ) (input t i : List ℕ) (d r : Core) (t₁ i₁ : List ℕ) (z : refusal (lent cells initial width input) ≡ 0)
-    (e : d ≡ startOf initial width 1) (p : r .enough ≡ 1) (top : TopRan cells input d t i r t₁ i₁) where
-  abbrev given : Given
-  given = record { cells = cells; annexE = eqb width 1; input = input }
-
+    (short : length input ≤ 65535) (e : d ≡ startOf initial width 1) (top : TopRan cells input d t i r t₁ i₁) where
   abbrev ends : State
-  ends = run given 4 input 0 0 (start initial)
+  ends = run (given cells width input) 4 input 0 0 (start initial)
 
-  ran : HoldsOrCut given t i ends (whole r (top .starts) (top .lens)) t₁ i₁
-  ran = top .ran .does given refl refl t i (start initial) (subst (λ (x : Core). Holds given t i (start initial) (undefined x) t i) (sym e) (holds-start cells input initial width 1 t i))
+  abbrev Ran : Type 0
+  Ran = HoldsOrCut (given cells width input) t i ends (whole r (top .starts) (top .lens)) t₁ i₁
+
+  ran : Ran
+  ran = ran-start input initial width 1 short e top
+
+  p : r .enough ≡ 1
+  p = enough-end input initial width 1 short e top
 
   -- the reading is the end of the steps, with the marks released
   read : reading (lent cells initial width input) ≡ writes release ends
@@ -94,7 +97,7 @@ module _ (cells : List ℕ) (initial width : ℕ) (input t i : List ℕ) (d r : 
   pub answered-no : 0 < r .out .issues → Answered (lent cells initial width input) No
   answered-no h = some (reading (lent cells initial width input) .out .issues) refl (later (has ran))
     where
-      has : HoldsOrCut given t i ends (whole r (top .starts) (top .lens)) t₁ i₁ → 1 ≤ length (ends .out .issues)
+      has : Ran → 1 ≤ length (ends .out .issues)
       has (inl k) = omega (arith, h, ap (λ (o : Out). o .issues) (k .out .state))
       has (inr q) = omega (arith, p, q .has)
 
@@ -112,6 +115,6 @@ module _ (cells : List ℕ) (initial width : ℕ) (input t i : List ℕ) (d r : 
   unfolding writes
   answered-end {o = o} {i₂ = i₂} h flush = answered (lent cells initial width input) z (o .issues) (count ran)
     where
-      count : HoldsOrCut given t i ends (whole r (top .starts) (top .lens)) t₁ i₁ → o .issues ≡ length (reading (lent cells initial width input) .out .issues)
+      count : Ran → o .issues ≡ length (reading (lent cells initial width input) .out .issues)
       count (inl k) = rw read (ap (λ (x : Out). x .issues) (flush .does t i (ends .out) (k .out) .state))
       count (inr q) = absurd (omega (arith, h, p, q .ends))

@@ -8,9 +8,10 @@ use borrow.Author.Tests.{ne-eqb}
 use lib.Dec.{eqb}
 use lib.ListN.{length}
 use Rattle.issues.specs.Issue.{Issue}
-use Rattle.questions.specs.Questions.{firstRefusal, decodeLimit}
 use Rattle.reading.specs.Call as decoding
-use Rattle.clean.specs.Clean.{Lent, decodingIn, reading, isEmpty, clean, refusal, Outcome, outcome}
+use Rattle.reading.specs.WithoutBuffers.{Lent, decodingIn, reading, refusal}
+use Rattle.laws_reading.proofs.Calls.{accepted, refused-first}
+use Rattle.clean.specs.Clean.{isEmpty, clean, Outcome, outcome}
 use Rattle.clean.specs.Laws.{Means, CleanMeans, CleanDecoding}
 use Rattle.clean.proofs.Calls.{clean-as, passed-as, failed-as}
 
@@ -38,18 +39,10 @@ clean-means c = go (refusal c) refl
         let w = ap (λ (x : Outcome). x .clean) (failed-as c q e) in
         record { yes = λ z h. absurd (omega (arith, e, z)); passed = λ h. absurd (omega (arith, w, h)); empty = λ h. absurd (omega (arith, w, h)) }
 
--- a decoding that is accepted counts all issues of its reading, and questions 1 to 3 are passed
+-- a decoding that is accepted counts all issues of its reading
 counted : (d : decoding.Lent) → decoding.outcome d .refused ≡ 0 → decoding.outcome d .issues ≡ length (decoding.reading d .out .issues)
-unfolding decoding.outcome decoding.outcomeOf
-counted d e = go (decoding.refusal d) e
-  where
-    go : (q : ℕ) → decoding.outcomeOf q d .refused ≡ 0 → decoding.outcomeOf q d .issues ≡ length (decoding.reading d .out .issues)
-    go zero h = refl
-    go (suc q) h = absurd (omega (arith, h))
-
-first : (d : decoding.Lent) (q : ℕ) → firstRefusal (d .cells) (d .initial) (d .width) decodeLimit (length (d .input)) ≡ suc q → decoding.outcome d .refused ≡ suc q
-unfolding decoding.outcome decoding.outcomeOf decoding.refusal
-first d q e = rw e
+unfolding decoding.outcomeOf
+counted d e = ap (λ (x : decoding.Outcome). x .issues) (accepted d e)
 
 pub clean-decoding : CleanDecoding
 unfolding reading refusal
@@ -59,4 +52,4 @@ clean-decoding c textRoom issueRoom e = go (refusal c) refl
     go zero z =
         said c z (reading c .out .issues) refl ∙ by-length (reading c .out .issues)
         ∙ sym (ap (λ (n : ℕ). cond (eqb n 0) 1 0) (counted (decodingIn textRoom issueRoom c) e))
-    go (suc q) z = absurd (omega (arith, e, first (decodingIn textRoom issueRoom c) q z))
+    go (suc q) z = absurd (omega (arith, e, refused-first (decodingIn textRoom issueRoom c) q z))

@@ -2,8 +2,8 @@
 use Prim.Native.Nat.{ℕ, zero, suc}
 use mathlib.Core.Path.{_≡_}
 use mathlib.Core.Bool.{cond}
-use mathlib.Core.List.{List}
-use Rattle.clean.specs.Clean.{Lent, clean, outcome}
+use Rattle.reading.specs.WithoutBuffers.{Lent}
+use Rattle.clean.specs.Clean.{clean, outcome}
 use Rattle.clean.specs.declared.CleanAnswer.{CleanAnswer}
 use Rattle.clean.specs.declared.CleanAnswer.the-variants.{Yes, No, Refused}
 
@@ -27,10 +27,6 @@ cleanOf (Refused number place) = 0
 abbrev pub verdictOf : ℕ → CleanAnswer
 verdictOf zero = Yes
 verdictOf (suc n) = No
-
--- what a call is lent
-abbrev pub lent : List ℕ → ℕ → ℕ → List ℕ → Lent
-lent cells initial width input = record { cells = cells; initial = initial; width = width; input = input }
 
 -- every number of the answer, which is `Yes` or `No` where none is refused
 pub record Answered (c : Lent) (r : CleanAnswer) : Type 0 where

@@ -4,13 +4,14 @@ use mathlib.Core.Path.{_≡_, refl}
 use mathlib.Core.List.{List, [], _∷_}
 use lib.ListN.{replicate}
 use Rattle.questions.specs.Questions.{all, cellsHold}
+use Rattle.reading.specs.WithoutBuffers.{lent}
 use Rattle.clean.specs.Clean.{Outcome, outcome}
 
 unfoldable zeros : List ℕ
 zeros = replicate 8836 0
 
 abbrev call : List ℕ → ℕ → List ℕ → Outcome
-call cells initial input = outcome (record { cells = cells; initial = initial; width = 0; input = input })
+call cells initial input = outcome (lent cells initial 0 input)
 
 abbrev yes : Outcome
 yes = record { refused = 0; clean = 1 }

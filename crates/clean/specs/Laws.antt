@@ -5,7 +5,8 @@ use mathlib.Core.Bool.{cond}
 use mathlib.Core.List.{[]}
 use lib.Dec.{eqb}
 use Rattle.reading.specs.Call as decoding
-use Rattle.clean.specs.Clean.{Lent, decodingIn, reading, refusal, outcome}
+use Rattle.reading.specs.WithoutBuffers.{Lent, decodingIn, reading, refusal}
+use Rattle.clean.specs.Clean.{outcome}
 
 -- "yes" where questions 1 to 3 pass and the issue list of the full reading is empty, and nowhere else
 pub record Means (c : Lent) : Type 0 where

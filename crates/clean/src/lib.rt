@@ -5,7 +5,8 @@ pub mod values;
 ghost use mathlib.Core.Path.{_≡_};
 ghost use lib.ListN.{length};
 ghost use Rattle.questions.specs.Questions.{firstRefusal};
-ghost use Rattle.clean.specs.Contracts.{lent, verdictOf, Answered};
+ghost use Rattle.reading.specs.WithoutBuffers.{lent};
+ghost use Rattle.clean.specs.Contracts.{verdictOf, Answered};
 
 /// What a clean call answers: whether there is no issue, or the number of the first question that it fails, with its place.
 pub enum CleanAnswer {

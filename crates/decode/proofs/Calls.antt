@@ -1,59 +1,37 @@
 -- The decoding call: from what was written to the answer, and the refusals.
 use Prim.Native.Nat.{ℕ, zero, suc, _*_, _≤_, _<_}
-use mathlib.Core.Path.{_≡_, refl, sym, ap, _∙_, subst}
-use mathlib.Core.List.{List, [], _++_, append-nil}
-use mathlib.Core.Logic.{inl, inr}
+use mathlib.Core.Path.{_≡_, refl, sym, ap, _∙_}
+use mathlib.Core.List.{List, []}
 use native.Mathlib.Omega.{arith}
 use borrow.Author.Tests.{le-leb, lt-leb}
-use lib.Dec.{eqb}
 use lib.ListN.{length}
-use lib.Seq.{sets, length-sets}
+use lib.Seq.{length-sets}
 use Rattle.utf8.specs.Utf8.{utf8s}
 use Rattle.questions.specs.Questions.{firstRefusal, decodeLimit}
 use Rattle.questions.specs.Buffer.{padded, cleared}
 use Rattle.questions.proofs.Buffers.{clear-past}
 use Rattle.issues.specs.Issue.{numbers, issuesNumbers}
-use Rattle.decode_output.specs.declared.Out.{Out}
-use Rattle.decode_output.specs.Output.{Output, release}
-use Rattle.decode_output.specs.Contracts as output
 use Rattle.decode_output.proofs.Counts.{length-numbers}
-use Rattle.reading.specs.State.{Given, State, start, writes}
-use Rattle.reading.specs.Steps.{decode, run}
+use Rattle.reading.specs.State.{State}
 use Rattle.reading.specs.Call.{Lent, Outcome, reading, textBytes, issueList, fits, refusal, outcomeOf, outcome}
-use Rattle.decode_state.specs.declared.Core.{Core}
-use Rattle.decode_state.specs.declared.Decoder.{Decoder}
-use Rattle.decode_state.specs.Contracts.{startOf, undefined, whole, Holds, HoldsOrCut}
-use Rattle.decode_state.proofs.Begun.{holds-start}
+use Rattle.decode_read.specs.declared.Counts.{Counts}
+use Rattle.decode_read.specs.Contracts.{Counted, Read}
 use Rattle.decode.specs.declared.call.Answer.{Answer}
 use Rattle.decode.specs.declared.call.Answer.the-variants.{Decoded}
-use Rattle.decode_output.proofs.Held.{release-marks}
-use Rattle.decode_outer.specs.Contracts.{TopRan}
 use Rattle.decode.specs.Answers.{fitsIn, numberOf, placeOf, textOf, issuesOf, chargedOf, lent, Refuses, Answers, Answered}
 
 -- ---- the answer, from what was written
 
-module _ (o : Output) (charge : ℕ) (t₀ i₀ : List ℕ) (out : Out) (t i : List ℕ) (m : o .marks ≡ []) (h : output.Holds t₀ i₀ o out t i) where
-  bytes : o .text ++ o .marks ≡ o .text
-  bytes = rw m (append-nil (o .text))
-
-  written : t ≡ sets t₀ 0 (utf8s (o .text))
-  written = h .text ∙ ap (λ (l : List ℕ). sets t₀ 0 (utf8s l)) bytes
-
-  text-len : out .len ≡ length (utf8s (o .text))
-  text-len = ap (λ (z : Out). z .len) (h .state)
-
-  issue-count : out .issues ≡ length (o .issues)
-  issue-count = ap (λ (z : Out). z .issues) (h .state)
-
+module _ (s : State) (t₀ i₀ : List ℕ) (n : Counts) (t i : List ℕ) (h : Counted s t₀ i₀ n t i) where
   as-long : length t ≡ length t₀
-  as-long = ap length written ∙ length-sets t₀ 0 (utf8s (o .text))
+  as-long = ap length (h .written) ∙ length-sets t₀ 0 (utf8s (s .out .text))
 
   as-many : length i ≡ length i₀
-  as-many = ap length (h .issues) ∙ length-sets i₀ 0 (issuesNumbers (o .issues))
+  as-many = ap length (h .listed) ∙ length-sets i₀ 0 (issuesNumbers (s .out .issues))
 
   refusing : (q : ℕ) (r : Answer) (t′ i′ : List ℕ)
-      → fitsIn (length (utf8s (o .text))) (length (issuesNumbers (o .issues))) (length t₀) (length i₀) ≡ suc q → Refuses (suc q) t i r t′ i′
-      → Answers o charge (length t₀) (length i₀) r t′ i′
+      → fitsIn (length (utf8s (s .out .text))) (length (issuesNumbers (s .out .issues))) (length t₀) (length i₀) ≡ suc q → Refuses (suc q) t i r t′ i′
+      → Answers s (length t₀) (length i₀) r t′ i′
   refusing q r t′ i′ e v = record {
     number = ap numberOf (v .answer) ∙ sym e;
     place = ap placeOf (v .answer);
@@ -69,39 +47,39 @@ module _ (o : Output) (charge : ℕ) (t₀ i₀ : List ℕ) (out : Out) (t i : L
   }
 
   -- the text does not fit
-  pub finish-8 : (r : Answer) (t′ i′ : List ℕ) → length t < out .len → Refuses 8 t i r t′ i′ → Answers o charge (length t₀) (length i₀) r t′ i′
+  pub finish-8 : (r : Answer) (t′ i′ : List ℕ) → length t < n .text → Refuses 8 t i r t′ i′ → Answers s (length t₀) (length i₀) r t′ i′
   unfolding fitsIn
   finish-8 r t′ i′ k v =
-      let p : length t₀ < length (utf8s (o .text)) = omega (arith, k, text-len, as-long) in
+      let p : length t₀ < length (utf8s (s .out .text)) = omega (arith, k, h .text, as-long) in
       refusing 7 r t′ i′ (rw (lt-leb _ _ p)) v
 
   -- the issues do not fit
-  pub finish-9 : (r : Answer) (t′ i′ : List ℕ) → out .len ≤ length t → length i < out .issues * numbers → Refuses 9 t i r t′ i′
-      → Answers o charge (length t₀) (length i₀) r t′ i′
+  pub finish-9 : (r : Answer) (t′ i′ : List ℕ) → n .text ≤ length t → length i < n .issues * numbers → Refuses 9 t i r t′ i′
+      → Answers s (length t₀) (length i₀) r t′ i′
   unfolding fitsIn
   finish-9 r t′ i′ k l v =
-      let p : length (utf8s (o .text)) ≤ length t₀ = omega (arith, k, text-len, as-long) in
-      let q : length i₀ < length (issuesNumbers (o .issues)) = omega (arith, l, issue-count, as-many, length-numbers (o .issues)) in
+      let p : length (utf8s (s .out .text)) ≤ length t₀ = omega (arith, k, h .text, as-long) in
+      let q : length i₀ < length (issuesNumbers (s .out .issues)) = omega (arith, l, h .issues, as-many, length-numbers (s .out .issues)) in
       refusing 8 r t′ i′ (rw (le-leb _ _ p, lt-leb _ _ q)) v
 
   -- both fit
-  pub finish-0 : (t′ i′ : List ℕ) → out .len ≤ length t → out .issues * numbers ≤ length i → t′ ≡ cleared t (out .len) → i′ ≡ cleared i (out .issues * numbers)
-      → Answers o charge (length t₀) (length i₀) (Decoded (out .len) (out .issues) charge) t′ i′
+  pub finish-0 : (t′ i′ : List ℕ) → n .text ≤ length t → n .issues * numbers ≤ length i → t′ ≡ cleared t (n .text) → i′ ≡ cleared i (n .issues * numbers)
+      → Answers s (length t₀) (length i₀) (Decoded (n .text) (n .issues) (n .charged)) t′ i′
   unfolding fitsIn
   finish-0 t′ i′ k l x y =
-      let p : length (utf8s (o .text)) ≤ length t₀ = omega (arith, k, text-len, as-long) in
-      let q : length (issuesNumbers (o .issues)) ≤ length i₀ = omega (arith, l, issue-count, as-many, length-numbers (o .issues)) in
-      let n : out .issues * numbers ≡ length (issuesNumbers (o .issues)) = omega (arith, issue-count, length-numbers (o .issues)) in
+      let p : length (utf8s (s .out .text)) ≤ length t₀ = omega (arith, k, h .text, as-long) in
+      let q : length (issuesNumbers (s .out .issues)) ≤ length i₀ = omega (arith, l, h .issues, as-many, length-numbers (s .out .issues)) in
+      let e : n .issues * numbers ≡ length (issuesNumbers (s .out .issues)) = omega (arith, h .issues, length-numbers (s .out .issues)) in
       record {
         number = rw (le-leb _ _ p, le-leb _ _ q);
         place = refl;
         case = λ z. refl;
         accepted = λ z. (
-          text-len,
-          issue-count,
-          refl,
-          x ∙ rw (written, text-len) (clear-past t₀ (utf8s (o .text)) p),
-          y ∙ rw (h .issues, n) (clear-past i₀ (issuesNumbers (o .issues)) q),
+          h .text,
+          h .issues,
+          h .charged,
+          x ∙ rw (h .written, h .text) (clear-past t₀ (utf8s (s .out .text)) p),
+          y ∙ rw (h .listed, e) (clear-past i₀ (issuesNumbers (s .out .issues)) q),
         );
         refused = λ z. absurd (z refl);
       }
@@ -110,7 +88,7 @@ module _ (o : Output) (charge : ℕ) (t₀ i₀ : List ℕ) (out : Out) (t i : L
 
 -- questions 1 to 3 are passed: the answer is that of what the reading writes
 pub answered : (c : Lent) (r : Answer) (t i : List ℕ) → firstRefusal (c .cells) (c .initial) (c .width) decodeLimit (length (c .input)) ≡ 0
-    → Answers (reading c .out) (reading c .charged) (c .textRoom) (c .issueRoom) r t i → Answered c r t i
+    → Answers (reading c) (c .textRoom) (c .issueRoom) r t i → Answered c r t i
 unfolding outcome refusal fits textBytes issueList fitsIn outcomeOf
 answered c r t i z v = go (fitsIn (length (utf8s (reading c .out .text))) (length (issuesNumbers (reading c .out .issues))) (c .textRoom) (c .issueRoom)) refl
   where
@@ -165,24 +143,9 @@ refused c (suc q) r ti ii t i z k a b v =
       listed = v .issues ∙ ap (λ (n : ℕ). padded n []) b ∙ sym (ap (λ (y : Outcome). y .issueBuffer) x);
     }
 
--- from the start, by all steps and the release of the marks, to the answer
-module _ (cells : List ℕ) (initial width : ℕ) (input t i : List ℕ) (d r : Core) (t₁ i₁ : List ℕ) (o : Out) (i₂ : List ℕ) (a : Answer) (t₃ i₃ : List ℕ) where
-  pub checked : firstRefusal cells initial width decodeLimit (length input) ≡ 0 → d ≡ startOf initial width 0xFFFFFFFF → r .enough ≡ 0xFFFFFFFF
-      → r .out .issues ≤ 4263871 → TopRan cells input d t i r t₁ i₁ → output.Wrote 0 1 release (r .out) t₁ i₁ o t₁ i₂
-      → ((t₀ i₀ : List ℕ) (x : Output) → x .marks ≡ [] → output.Holds t₀ i₀ x o t₁ i₂ → Answers x (r .charged) (length t₀) (length i₀) a t₃ i₃)
-      → Answered (lent cells initial width input t i) a t₃ i₃
-  unfolding reading decode writes
-  checked z e p m top flush finish =
-      let g : Given = record { cells = cells; annexE = eqb width 1; input = input } in
-      let s : State = run g 4 input 0 0 (start initial) in
-      let begun : Holds g t i (start initial) (undefined d) t i = subst (λ (x : Core). Holds g t i (start initial) (undefined x) t i) (sym e) (holds-start cells input initial width 0xFFFFFFFF t i) in
-      let h : Holds g t i s (whole r (top .starts) (top .lens)) t₁ i₁ = uncut g s (top .ran .does g refl refl t i (start initial) begun) in
-      let k : output.Holds t i (release (s .out)) o t₁ i₂ = flush .does t i (s .out) (h .out) in
-      let v : Answers (release (s .out)) (r .charged) (length t) (length i) a t₃ i₃ = finish t i (release (s .out)) (release-marks (s .out)) k in
-      let charge : r .charged ≡ s .charged = ap (λ (x : Decoder). x .core .charged) (h .state) in
-      answered (lent cells initial width input t i) a t₃ i₃ z (subst (λ (n : ℕ). Answers (release (s .out)) n (length t) (length i) a t₃ i₃) charge v)
-    where
-      -- it is not cut, since there are not enough issues
-      uncut : (g : Given) (s : State) → HoldsOrCut g t i s (whole r (top .starts) (top .lens)) t₁ i₁ → Holds g t i s (whole r (top .starts) (top .lens)) t₁ i₁
-      uncut g s (inl h) = h
-      uncut g s (inr q) = absurd (omega (arith, p, m, q .ends))
+-- from the reading to the answer
+pub checked : (cells : List ℕ) (initial width : ℕ) (input : List ℕ) {t i : List ℕ} {n : Counts} {t₁ i₁ : List ℕ} (a : Answer) {t₂ i₂ : List ℕ}
+    → firstRefusal cells initial width decodeLimit (length input) ≡ 0 → Read cells initial width input t i n t₁ i₁
+    → ((s : State) (t₀ i₀ : List ℕ) → Counted s t₀ i₀ n t₁ i₁ → Answers s (length t₀) (length i₀) a t₂ i₂) → Answered (lent cells initial width input t i) a t₂ i₂
+unfolding reading
+checked cells initial width input {t} {i} a z v finish = answered (lent cells initial width input t i) a _ _ z (finish _ t i (v .counted))

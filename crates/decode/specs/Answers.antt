@@ -8,7 +8,7 @@ use lib.ListN.{length}
 use Rattle.utf8.specs.Utf8.{utf8s}
 use Rattle.questions.specs.Buffer.{padded}
 use Rattle.issues.specs.Issue.{issuesNumbers}
-use Rattle.decode_output.specs.Output.{Output}
+use Rattle.reading.specs.State.{State}
 use Rattle.reading.specs.Call.{Lent, outcome}
 use Rattle.decode.specs.declared.call.Answer.{Answer}
 use Rattle.decode.specs.declared.call.Answer.the-variants.{Decoded, Refused}
@@ -44,13 +44,13 @@ pub record Refuses (number : ℕ) (t i : List ℕ) (r : Answer) (t′ i′ : Lis
   pub text : t′ ≡ padded (length t) []
   pub issues : i′ ≡ padded (length i) []
 
--- what was written, as the answer of a call with so much room
-pub record Answers (o : Output) (charge textRoom issueRoom : ℕ) (r : Answer) (t i : List ℕ) : Type 0 where
-  pub number : numberOf r ≡ fitsIn (length (utf8s (o .text))) (length (issuesNumbers (o .issues))) textRoom issueRoom
+-- what is written at s, as the answer of a call with so much room
+pub record Answers (s : State) (textRoom issueRoom : ℕ) (r : Answer) (t i : List ℕ) : Type 0 where
+  pub number : numberOf r ≡ fitsIn (length (utf8s (s .out .text))) (length (issuesNumbers (s .out .issues))) textRoom issueRoom
   pub place : placeOf r ≡ 0
   pub case : numberOf r ≡ 0 → r ≡ Decoded (textOf r) (issuesOf r) (chargedOf r)
-  pub accepted : numberOf r ≡ 0 → (textOf r ≡ length (utf8s (o .text))) × (issuesOf r ≡ length (o .issues)) × (chargedOf r ≡ charge) ×
-      (t ≡ padded textRoom (utf8s (o .text))) × (i ≡ padded issueRoom (issuesNumbers (o .issues)))
+  pub accepted : numberOf r ≡ 0 → (textOf r ≡ length (utf8s (s .out .text))) × (issuesOf r ≡ length (s .out .issues)) × (chargedOf r ≡ s .charged) ×
+      (t ≡ padded textRoom (utf8s (s .out .text))) × (i ≡ padded issueRoom (issuesNumbers (s .out .issues)))
   pub refused : (numberOf r ≡ 0 → ⊥) → (textOf r ≡ 0) × (issuesOf r ≡ 0) × (chargedOf r ≡ 0) × (t ≡ padded textRoom []) × (i ≡ padded issueRoom [])
 
 -- what a call is lent

@@ -1,14 +1,14 @@
 // The decoding call: the questions in order, and every byte of both buffers.
-use decode_output::Out;
+use decode_read::Counts;
 use issues::NUMBERS;
 ghost use mathlib.Core.Path.{_≡_};
-ghost use mathlib.Core.List.{List, []};
+ghost use mathlib.Core.List.{List};
 ghost use Prim.Native.Nat.{ℕ, _≤_};
 ghost use lib.ListN.{length};
-ghost use Rattle.decode_output.specs.Output.{Output};
-ghost use Rattle.decode_output.specs.Contracts.{Holds};
 ghost use Rattle.questions.specs.Questions.{firstRefusal};
+ghost use Rattle.reading.specs.State.{State};
 ghost use Rattle.reading.specs.Call.{escapePart};
+ghost use Rattle.decode_read.specs.Contracts.{Counted};
 ghost use Rattle.decode.specs.Answers.{lent, Refuses, Answers, Answered};
 
 /// What a decoding call answers: the text's bytes, the issues and the charge, or the number of the
@@ -34,15 +34,15 @@ fn refuse(number: u32, text: &mut [u8], issues: &mut [u32]) -> Answer
     Answer::Refused { number, place: 0 }
 }
 
-/// What was written, as the answer: too little room is refused with 8 or 9, else what is left of the
-/// buffers is zero.
-fn finish(out: Out, charged: usize, text: &mut [u8], issues: &mut [u32]) -> Answer
-    requires { ⌜ out .issues ≤ 0x10000000000 ⌝ }
-    ensures { λ r. ⌜ ((t₀ i₀ : List ℕ) (o : Output) → o .marks ≡ [] → Holds t₀ i₀ o out (now (text .entry)) (now (issues .entry)) →
-        Answers o charged (length t₀) (length i₀) r (now (text .exit)) (now (issues .exit))) ⌝ }
+/// What was counted and written, as the answer: too little room is refused with 8 or 9, else what is
+/// left of the buffers is zero.
+fn finish(counts: Counts, text: &mut [u8], issues: &mut [u32]) -> Answer
+    requires { ⌜ counts .issues ≤ 0x10000000000 ⌝ }
+    ensures { λ r. ⌜ ((s : State) (t₀ i₀ : List ℕ) → Counted s t₀ i₀ counts (now (text .entry)) (now (issues .entry)) →
+        Answers s (length t₀) (length i₀) r (now (text .exit)) (now (issues .exit))) ⌝ }
 {
-    let n = out.len;
-    let k = out.issues;
+    let n = counts.text;
+    let k = counts.issues;
     if n > text.len() {
         return refuse(8, text, issues);
     }
@@ -54,7 +54,7 @@ fn finish(out: Out, charged: usize, text: &mut [u8], issues: &mut [u32]) -> Answ
     Answer::Decoded {
         text: n,
         issues: k,
-        charged,
+        charged: counts.charged,
     }
 }
 
@@ -71,11 +71,8 @@ pub fn decode_checked(
     requires { ⌜ firstRefusal (now cells) initial width 65535 (length (now input)) ≡ 0 ⌝ }
     ensures { λ r. ⌜ Answered (lent (now (cells .entry)) initial width (now (input .entry)) (now (text .entry)) (now (issues .entry))) r (now (text .exit)) (now (issues .exit)) ⌝ }
 {
-    let start = decode_state::start(initial, width, decode_state::UNBOUNDED);
-    let core = decode_outer::top(cells, input, start, text, issues);
-    let out = core.out;
-    let flushed = decode_output::flush_dangling(out, issues);
-    finish(flushed, core.charged as usize, text, issues)
+    let counts = decode_read::read(cells, initial, width, input, text, issues);
+    finish(counts, text, issues)
 }
 
 /// Decodes a string of the eight-unit code: `decode_with`.

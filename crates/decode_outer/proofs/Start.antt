@@ -1,15 +1,18 @@
 -- What all steps of the input are given at the start, and what is left at the end.
 use Prim.Native.Nat.{ℕ, _≤_}
-use mathlib.Core.Path.{_≡_, subst}
+use mathlib.Core.Path.{_≡_, refl, sym, subst}
 use mathlib.Core.List.{List}
 use native.Mathlib.Omega.{arith}
 use lib.ListN.{length}
 use Rattle.utf8.specs.Utf8.{utf8s}
 use Rattle.decode_output.specs.Output.{nothing}
 use Rattle.decode_output.specs.Contracts as output
+use Rattle.reading.specs.State.{given, start}
 use Rattle.reading.specs.Macros.{limit}
+use Rattle.reading.specs.Steps.{run}
 use Rattle.decode_state.specs.declared.Core.{Core}
-use Rattle.decode_state.specs.Contracts.{startOf}
+use Rattle.decode_state.specs.Contracts.{startOf, undefined, whole, Holds, HoldsOrCut}
+use Rattle.decode_state.proofs.Begun.{holds-start}
 use Rattle.decode_bodies.specs.Contracts.{Ready, Grown}
 use Rattle.decode_outer.specs.Contracts.{TopRan}
 
@@ -42,3 +45,10 @@ module _ (input : List ℕ) {c : Core} (initial width : ℕ) (enough : ℕ) (h :
     pub issues-end : r .out .issues ≤ 4263871
     unfolding limit nothing
     issues-end = omega (arith, grown .issues, grown .within, h)
+
+    -- they go from the state before the first byte, unless the reading is cut
+    pub ran-start : HoldsOrCut (given cells width input) t i (run (given cells width input) 4 input 0 0 (start initial)) (whole r (v .starts) (v .lens)) t′ i′
+    ran-start =
+        let g = given cells width input in
+        let begun = subst (λ (x : Core). Holds g t i (start initial) (undefined x) t i) (sym e) (holds-start cells input initial width enough t i) in
+        v .ran .does g refl refl t i (start initial) begun

@@ -8,4 +8,5 @@ pub mod Characters
 pub mod Steps
 pub mod Bodies
 pub mod Reading
+pub mod Calls
 pub mod Positions

@@ -2,13 +2,13 @@
 use Prim.Native.Nat.{ℕ, zero, suc}
 use mathlib.Core.Bool.{cond}
 use mathlib.Core.List.{List, []}
-use lib.Dec.{eqb, leb}
+use lib.Dec.{leb}
 use lib.ListN.{length}
 use Rattle.utf8.specs.Utf8.{utf8s}
 use Rattle.questions.specs.Questions.{firstRefusal, decodeLimit}
 use Rattle.questions.specs.Buffer.{padded}
 use Rattle.issues.specs.Issue.{issuesNumbers}
-use Rattle.reading.specs.State.{State}
+use Rattle.reading.specs.State.{State, given}
 use Rattle.reading.specs.Steps.{decode}
 
 -- what the caller lends: the cell table, the two options, the input, and how many bytes and numbers the two buffers hold
@@ -23,7 +23,7 @@ pub record Lent : Type 0 where
 -- the reading of the input
 unfoldable pub reading : Lent → State
 unfolding decode
-reading c = decode (record { cells = c .cells; annexE = eqb (c .width) 1; input = c .input }) (c .initial)
+reading c = decode (given (c .cells) (c .width) (c .input)) (c .initial)
 
 -- the text's bytes, and the issues' numbers
 unfoldable pub textBytes : Lent → List ℕ

@@ -4,4 +4,5 @@ pub mod Controls
 pub mod Macros
 pub mod Steps
 pub mod Call
+pub mod WithoutBuffers
 pub mod Examples

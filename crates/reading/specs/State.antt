@@ -2,6 +2,7 @@
 use Prim.Native.Nat.{ℕ, _+_}
 use mathlib.Core.Bool.{Bool, false, _||_}
 use mathlib.Core.List.{List}
+use lib.Dec.{eqb}
 use lib.ListN.{set, replicate}
 use Rattle.sets.specs.Sets.{initialSets}
 use Rattle.issues.specs.declared.IssueKind.{IssueKind}
@@ -13,6 +14,10 @@ pub record Given : Type 0 where
   pub cells : List ℕ
   pub annexE : Bool
   pub input : List ℕ
+
+-- the same, by 01's number of the width option
+abbrev pub given : List ℕ → ℕ → List ℕ → Given
+given cells width input = record { cells = cells; annexE = eqb width 1; input = input }
 
 -- What a later step can depend on: the numbers of the sets in G0 to G3, the code elements in GL and GR, whether the size is Small, Middle or
 -- SZX 60, by code the 128 macro bodies' starts in the input (0 for none: no body starts before 3) and lengths, the charge so far, and what was

@@ -1,10 +1,11 @@
 // `decode.bin` against `decode_with`: the number, the place, the counts, and every element of both
-// buffers, which hold a pattern before the call. `clean` is held to the same answer.
-use crate::cleaning;
-use crate::decoding_case::DecodingCase;
-use crate::decoding_case::case_at;
+// buffers, which hold a pattern before the call. `measure` and `clean` are held to the same answer.
 use decode::call::Answer;
 use issues::NUMBERS;
+use replay_decode_cases::case::DecodingCase;
+use replay_decode_cases::case::case_at;
+use replay_decode_cases::cleaning;
+use replay_decode_cases::measuring;
 use replay_vectors::buffers::byte_room;
 use replay_vectors::buffers::number_room;
 use replay_vectors::buffers::same_bytes;
@@ -40,7 +41,7 @@ fn same_answer(answer: Answer, case: DecodingCase) -> bool {
     }
 }
 
-/// One call, in the buffers that are lent, and whether it is clean.
+/// One call, in the buffers that are lent, and without any.
 fn same(
     case: DecodingCase,
     cells: &[u16],
@@ -54,6 +55,7 @@ fn same(
     same_answer(answer, case)
         & same_bytes(bytes, text)
         & same_numbers(numbers, issues)
+        & measuring::same(case, cells, input)
         & cleaning::same(case, cells, input)
 }
 
@@ -86,6 +88,21 @@ fn same_in_rooms(
     )
 }
 
+/// One call, with the case's table.
+fn same_by_table(
+    case: DecodingCase,
+    cells: &[u16],
+    input: &[u8],
+    text: &[u8],
+    issues: &[u8],
+) -> bool {
+    if case.table == 0 {
+        return same_in_rooms(case, cells, input, text, issues);
+    }
+    let zeros = [0u16; 8836];
+    same_in_rooms(case, &zeros, input, text, issues)
+}
+
 /// The bytes of an issue in the file: four a number.
 const ISSUE: usize = 4 * NUMBERS;
 
@@ -95,7 +112,6 @@ fn compare(file: &[u8], at: usize, cells: &[u16]) -> Compared
     ensures { λ r. ⌜ r .next ≤ length (now (file .entry)) ⌝ }
 {
     let case = case_at(&file[at..]);
-    let zeros = [0u16; 8836];
     let input = at + 44;
     let text = input + case.input;
     let issues = text + case.text;
@@ -106,23 +122,11 @@ fn compare(file: &[u8], at: usize, cells: &[u16]) -> Compared
             same: false,
         };
     }
-    if case.table == 0 {
-        return Compared {
-            next,
-            same: same_in_rooms(
-                case,
-                cells,
-                &file[input..text],
-                &file[text..issues],
-                &file[issues..next],
-            ),
-        };
-    }
     Compared {
         next,
-        same: same_in_rooms(
+        same: same_by_table(
             case,
-            &zeros,
+            cells,
             &file[input..text],
             &file[text..issues],
             &file[issues..next],

@@ -1,8 +1,6 @@
-// Holds `decode_with` and `clean` to calls whose answers are known: `decode.bin` has the calls with their answers,
+// Holds `decode_with`, `measure` and `clean` to calls whose answers are known: `decode.bin` has the calls with their answers,
 // `jis.tab` the cell table (compare/README.md has the layout). A line says how many calls were compared and how many differ.
-mod cleaning;
 mod decoding;
-mod decoding_case;
 
 use replay_vectors::files::cells;
 use replay_vectors::files::read;
@@ -16,5 +14,8 @@ fn main() {
     }
     let mut file = [0u8; 0x80000];
     let n = read(b"decode.bin", &mut file);
-    line(b"decode and clean", decoding::replay(&file[..n], &t));
+    line(
+        b"decode, measure and clean",
+        decoding::replay(&file[..n], &t),
+    );
 }

@@ -14,14 +14,16 @@ use Rattle.decode.specs.Answers as decoded
 use Rattle.coding.specs.Call as coding
 use Rattle.encode.specs.Answers as codes
 use Rattle.encode.specs.declared.call.Answer as encoded
-use Rattle.clean.specs.Clean as clean
+use Rattle.reading.specs.WithoutBuffers as unbuffered
+use Rattle.measure.specs.Contracts as measures
+use Rattle.measure.specs.declared.MeasureAnswer.{MeasureAnswer}
 use Rattle.clean.specs.Contracts as cleans
 use Rattle.clean.specs.declared.CleanAnswer.{CleanAnswer}
 use Rattle.key.specs.Key as key
 use Rattle.key.specs.Contracts as keys
 use Rattle.key.specs.declared.KeyAnswer.{KeyAnswer}
 use Rattle.text_counts.specs.Counts.{fronted, escapeStart}
-use Rattle.text.specs.Calls.{counts, Decodes, Escapes, cleanCounts, Cleans, keyCounts, Keys, codingCounts, Codes}
+use Rattle.text.specs.Calls.{counts, Decodes, Escapes, measureCounts, Measures, cleanCounts, Cleans, keyCounts, Keys, codingCounts, Codes}
 
 -- an answer whose numbers were reported
 pub decodes : {c : Lent} {a : Answer} {before after t i : List ℕ} {n p x y z : ℕ} → decoded.Answered c a t i
@@ -35,7 +37,13 @@ decodes v n p x y z e = record {
   listed = v .listed;
 }
 
-pub cleaned : {c : clean.Lent} {a : CleanAnswer} {before after : List ℕ} {n p x : ℕ} → cleans.Answered c a
+pub measured : {c : unbuffered.Lent} {a : MeasureAnswer} {before after : List ℕ} {n p x y z : ℕ} → measures.Answered c a
+    → n ≡ measures.numberOf a → p ≡ measures.placeOf a → x ≡ measures.textOf a → y ≡ measures.issuesOf a → z ≡ measures.chargedOf a
+    → after ≡ fronted before (p ∷ x ∷ y ∷ z ∷ []) → Measures c before n after
+unfolding measureCounts
+measured v n p x y z e = record { number = n ∙ v .number; counted = e ∙ rw (p ∙ v .place, x ∙ v .counted, y ∙ v .reported, z ∙ v .charged) refl }
+
+pub cleaned : {c : unbuffered.Lent} {a : CleanAnswer} {before after : List ℕ} {n p x : ℕ} → cleans.Answered c a
     → n ≡ cleans.numberOf a → p ≡ cleans.placeOf a → x ≡ cleans.cleanOf a → after ≡ fronted before (p ∷ x ∷ []) → Cleans c before n after
 unfolding cleanCounts
 cleaned v n p x e = record { number = n ∙ v .number; counted = e ∙ rw (p ∙ v .place, x ∙ v .said) refl }

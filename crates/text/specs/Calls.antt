@@ -4,7 +4,9 @@ use mathlib.Core.Path.{_≡_}
 use mathlib.Core.List.{List, [], _∷_}
 use lib.ListN.{length, take, drop}
 use Rattle.reading.specs.Call.{Lent, Outcome, outcome, escapePart}
+use Rattle.reading.specs.WithoutBuffers as unbuffered
 use Rattle.coding.specs.Call as coding
+use Rattle.measure.specs.Measure as measure
 use Rattle.clean.specs.Clean as clean
 use Rattle.key.specs.Key as key
 use Rattle.text_counts.specs.Counts.{fronted, escapeStart}
@@ -27,12 +29,21 @@ pub record Escapes (input : List ℕ) (start len : ℕ) (before : List ℕ) (r :
   pub counted : after ≡ fronted before (escapeStart (length input) start len ∷ r ∷ [])
   pub names : take r (drop (escapeStart (length input) start len) input) ≡ escapePart input start len
 
+-- The counts of a measuring call: place, bytes of text, issues, charge. It asks none of 4, 5 and 6.
+unfoldable pub measureCounts : measure.Outcome → List ℕ
+measureCounts o = 0 ∷ o .text ∷ o .issues ∷ o .charged ∷ []
+
+-- the number of the refusal as the result (0: none), and the counts
+pub record Measures (c : unbuffered.Lent) (before : List ℕ) (r : ℕ) (after : List ℕ) : Type 0 where
+  pub number : r ≡ measure.outcome c .refused
+  pub counted : after ≡ fronted before (measureCounts (measure.outcome c))
+
 -- The counts of a clean call: place, and 1 for yes or 0. It asks none of 4, 5 and 6.
 unfoldable pub cleanCounts : clean.Outcome → List ℕ
 cleanCounts o = 0 ∷ o .clean ∷ []
 
 -- the number of the refusal as the result (0: none), and the counts
-pub record Cleans (c : clean.Lent) (before : List ℕ) (r : ℕ) (after : List ℕ) : Type 0 where
+pub record Cleans (c : unbuffered.Lent) (before : List ℕ) (r : ℕ) (after : List ℕ) : Type 0 where
   pub number : r ≡ clean.outcome c .refused
   pub counted : after ≡ fronted before (cleanCounts (clean.outcome c))
 

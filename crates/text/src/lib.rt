@@ -1,10 +1,10 @@
 // The calls that other programs link: lib.rs. Each is a function of the crates below, with plain C
 // names; a slice passes as a pointer and a length.
 ghost use Rattle.decode.specs.Answers.{lent};
-ghost use Rattle.clean.specs.Contracts as cleans;
+ghost use Rattle.reading.specs.WithoutBuffers as unbuffered;
 ghost use Rattle.key.specs.Contracts as keys;
 ghost use Rattle.encode.specs.Answers as codes;
-ghost use Rattle.text.specs.Calls.{Decodes, Escapes, Cleans, Keys, Codes};
+ghost use Rattle.text.specs.Calls.{Decodes, Escapes, Measures, Cleans, Keys, Codes};
 
 /// `decode_with`: the counts are the place of a refusal, then the text's bytes, the issues and the
 /// charge. Answers the number of the refusal, 0 for none.
@@ -49,6 +49,28 @@ pub extern "C" fn arib_unknown_escape(
     n
 }
 
+/// How much buffer the decoding of a string needs: the counts are the place of a refusal, then the text's bytes, the
+/// issues and the charge. Answers the number of the refusal, 0 for none.
+#[no_mangle]
+pub extern "C" fn arib_measure(
+    cells: &[u16],
+    initial: u32,
+    width: u32,
+    input: &[u8],
+    counts: &mut [usize],
+) -> u32
+    ensures { λ r. ⌜ Measures (unbuffered.lent (now (cells .entry)) initial width (now (input .entry))) (now (counts .entry)) r (now (counts .exit)) ⌝ }
+{
+    let answer = measure::measure(cells, initial, width, input);
+    let numbers = [
+        measure::values::text(answer),
+        measure::values::issues(answer),
+        measure::values::charged(answer),
+    ];
+    text_counts::report(counts, measure::values::place(answer), &numbers);
+    measure::values::number(answer)
+}
+
 /// Whether a string is read without an issue: the counts are the place of a refusal, then 1 for yes or 0. Answers the
 /// number of the refusal, 0 for none.
 #[no_mangle]
@@ -59,7 +81,7 @@ pub extern "C" fn arib_clean(
     input: &[u8],
     counts: &mut [usize],
 ) -> u32
-    ensures { λ r. ⌜ Cleans (cleans.lent (now (cells .entry)) initial width (now (input .entry))) (now (counts .entry)) r (now (counts .exit)) ⌝ }
+    ensures { λ r. ⌜ Cleans (unbuffered.lent (now (cells .entry)) initial width (now (input .entry))) (now (counts .entry)) r (now (counts .exit)) ⌝ }
 {
     let answer = clean::clean(cells, initial, width, input);
     let numbers = [clean::values::clean(answer)];

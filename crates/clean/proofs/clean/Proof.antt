@@ -1,8 +1,7 @@
 -- `clean`: a question that fails refuses; else the steps answer.
 use mathlib.Core.Path.{sym}
 use borrow.Author.Needs.{needs}
-use Rattle.clean.specs.Clean.{refusal}
-use Rattle.clean.specs.Contracts.{lent}
+use Rattle.reading.specs.WithoutBuffers.{lent, refusal}
 use Rattle.clean.proofs.Calls.{refused}
 use Rattle.clean.proofs.clean.Statement.{statement}
 use Rattle.clean.proofs.clean.Tie as tie

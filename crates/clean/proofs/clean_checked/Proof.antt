@@ -3,9 +3,9 @@ use mathlib.Core.Path.{sym, subst}
 use borrow.Author.Needs.{needs}
 use lib.ListN.{length}
 use Rattle.questions.proofs.Refusals.{passed}
-use Rattle.decode_outer.proofs.Start.{ready-start, room-end, enough-end}
-use Rattle.clean.specs.Clean.{refusal}
-use Rattle.clean.specs.Contracts.{lent, Answered}
+use Rattle.decode_outer.proofs.Start.{ready-start, room-end}
+use Rattle.reading.specs.WithoutBuffers.{lent, refusal}
+use Rattle.clean.specs.Contracts.{Answered}
 use Rattle.clean.specs.declared.CleanAnswer.{CleanAnswer}
 use Rattle.clean.proofs.Calls.{answered-no, answered-end}
 use Rattle.clean.proofs.clean_checked.Statement.{statement}
@@ -36,8 +36,8 @@ returns c =
     let entry = at-start .before .before .before in
     let a = entry .args in
     let short = passed (a .cells .now) (a .initial) (a .width) 65535 (length (a .input .now)) (entry .pre) .within in
-    let asked = enough-end (entry .args .input .now) (entry .args .initial) (entry .args .width) 1 short (at-start .start .ensures) (at-top .top .ensures) in
-    answered-no (a .cells .now) (a .initial) (a .width) (a .input .now) _ _ _ (at-top .top .result) _ _ (entry .pre) (at-start .start .ensures) asked (at-top .top .ensures) (c .if1 .taken)
+    answered-no (a .cells .now) (a .initial) (a .width) (a .input .now) _ _ _ (at-top .top .result) _ _ (entry .pre) short (at-start .start .ensures) (at-top .top .ensures)
+    (c .if1 .taken)
 
 slice-aggregate-flush-dangling : tie.Need-slice-aggregate-flush-dangling
 slice-aggregate-flush-dangling c = search needs
@@ -64,10 +64,9 @@ returns-2 c =
     let entry = at-start .before .before .before in
     let a = entry .args in
     let short = passed (a .cells .now) (a .initial) (a .width) 65535 (length (a .input .now)) (entry .pre) .within in
-    let asked = enough-end (entry .args .input .now) (entry .args .initial) (entry .args .width) 1 short (at-start .start .ensures) (at-top .top .ensures) in
     let v =
-    answered-end (a .cells .now) (a .initial) (a .width) (a .input .now) _ _ _ (at-top .top .result) _ _ (entry .pre) (at-start .start .ensures) asked (at-top .top .ensures) (at-test .if1 .left)
-    (at-flush .flush-dangling .ensures _) in
+    answered-end (a .cells .now) (a .initial) (a .width) (a .input .now) _ _ _ (at-top .top .result) _ _ (entry .pre) short (at-start .start .ensures) (at-top .top .ensures)
+    (at-test .if1 .left) (at-flush .flush-dangling .ensures _) in
     subst (λ (r : CleanAnswer). Answered (lent (a .cells .now) (a .initial) (a .width) (a .input .now)) r) (sym (c .verdict .ensures)) v
 
 pub clean-checked-spec : {M : Type 1} → statement M

@@ -1,6 +1,6 @@
 -- `arib_clean` meets its contract: the answer is that of `clean`, reported. Assumes nothing.
 use Rattle.text.proofs.Counts.{cleaned}
-use Rattle.clean.specs.Contracts.{lent}
+use Rattle.reading.specs.WithoutBuffers.{lent}
 use borrow.Author.Needs.{needs}
 use Rattle.text.proofs.arib_clean.Statement.{statement}
 use Rattle.text.proofs.arib_clean.Tie as tie

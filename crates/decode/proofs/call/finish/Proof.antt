@@ -17,7 +17,7 @@ returns : tie.Need-returns
 returns c =
     let at-refuse = c .before .before .before .before in
     let at-text = at-refuse .before .before .before in
-    λ t₀ i₀ o m h. finish-8 o _ t₀ i₀ _ _ _ m h _ _ _ (at-text .if1 .taken) (at-refuse .refuse .ensures)
+    λ s t₀ i₀ h. finish-8 s t₀ i₀ _ _ _ h _ _ _ (at-text .if1 .taken) (at-refuse .refuse .ensures)
 
 mul-if2 : tie.Need-mul-if2
 mul-if2 c = search needs
@@ -36,7 +36,7 @@ returns-2 c =
     let at-refuse = c .before .before .before .before in
     let at-issues = at-refuse .before .before .before in
     let at-text = at-issues .before in
-    λ t₀ i₀ o m h. finish-9 o _ t₀ i₀ _ _ _ m h _ _ _ (at-text .if1 .left) (at-issues .if2 .taken) (at-refuse .refuse2 .ensures)
+    λ s t₀ i₀ h. finish-9 s t₀ i₀ _ _ _ h _ _ _ (at-text .if1 .left) (at-issues .if2 .taken) (at-refuse .refuse2 .ensures)
 
 clear-requires : tie.Need-clear-requires
 clear-requires c κs = search needs
@@ -59,7 +59,7 @@ returns-3 c =
     let at-clear = at-clear32 .before .before .before .before in
     let at-issues = at-clear .before .before in
     let at-text = at-issues .before in
-    λ t₀ i₀ o m h. finish-0 o _ t₀ i₀ _ _ _ m h _ _ (at-text .if1 .left) (at-issues .if2 .left) (at-clear .clear .ensures) (at-clear32 .clear32 .ensures)
+    λ s t₀ i₀ h. finish-0 s t₀ i₀ _ _ _ h _ _ (at-text .if1 .left) (at-issues .if2 .left) (at-clear .clear .ensures) (at-clear32 .clear32 .ensures)
 
 pub finish-spec : {M : Type 1} → statement M
 finish-spec =

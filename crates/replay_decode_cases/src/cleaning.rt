@@ -1,5 +1,5 @@
 // `clean` on the calls of `decode.bin`, held to what decoding answers: issues or none, and 9 where there are some.
-use crate::decoding_case::DecodingCase;
+use crate::case::DecodingCase;
 use clean::CleanAnswer;
 
 /// Whether the answer is the decoding's. A text that does not fit, 8, says nothing of issues; the corners among these

@@ -1,7 +1,7 @@
 // The cases of `decode.bin`: calls of decoding with their answers.
 use replay_vectors::numbers::count;
 use replay_vectors::numbers::number;
-ghost use Rattle.replay_decode.specs.Small.{Small};
+ghost use Rattle.replay_decode_cases.specs.Small.{Small};
 
 pub struct DecodingCase {
     /// 0 for `jis.tab`, 1 for zeros.

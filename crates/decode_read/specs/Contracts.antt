@@ -1,0 +1,25 @@
+-- What the reading of a whole string promises.
+use Prim.Native.Nat.{ℕ, _≤_}
+use mathlib.Core.Path.{_≡_}
+use mathlib.Core.List.{List}
+use lib.ListN.{length}
+use lib.Seq.{sets}
+use Rattle.utf8.specs.Utf8.{utf8s}
+use Rattle.issues.specs.Issue.{issuesNumbers}
+use Rattle.reading.specs.State.{State, given}
+use Rattle.reading.specs.Steps.{decode}
+use Rattle.decode_read.specs.declared.Counts.{Counts}
+
+-- r counts what is written at s, and t′ and i′, which were t and i, hold what of it fits
+pub record Counted (s : State) (t i : List ℕ) (r : Counts) (t′ i′ : List ℕ) : Type 0 where
+  pub text : r .text ≡ length (utf8s (s .out .text))
+  pub issues : r .issues ≡ length (s .out .issues)
+  pub charged : r .charged ≡ s .charged
+  pub written : t′ ≡ sets t 0 (utf8s (s .out .text))
+  pub listed : i′ ≡ sets i 0 (issuesNumbers (s .out .issues))
+
+-- so of the reading of the input; it has at most an issue for each byte that is read, of 65,535 bytes and the bodies that their budget pays for, and
+-- one for the marks at the end
+pub record Read (cells : List ℕ) (initial width : ℕ) (input t i : List ℕ) (r : Counts) (t′ i′ : List ℕ) : Type 0 where
+  pub counted : Counted (decode (given cells width input) initial) t i r t′ i′
+  pub few : r .issues ≤ 4263872

@@ -1,0 +1,4 @@
+pub mod Measure
+pub mod Contracts
+pub mod Laws
+pub mod Examples
