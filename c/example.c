@@ -1,7 +1,8 @@
-/* Reads, codes and keys a title, and asks whether it is clean: the calls of arib_text.h, as a test.
- * c/test builds and runs it. */
+/* Reads, codes and keys a title, asks whether it is clean and how much room it takes: the calls of
+ * arib_text.h, as a test. c/test builds and runs it. */
 #include <assert.h>
 #include <stdio.h>
+#include <stdlib.h>
 #include <string.h>
 
 #include "arib_text.h"
@@ -130,6 +131,51 @@ static void asks(void)
     assert(refused == 1 && counts[0] == 0 && counts[1] == 0);
 }
 
+/* あ, an undefined control, a mark that waits to the end. */
+static const uint8_t damaged[] = {0xA2, 0xA0, 0x21, 0x2D};
+
+static void measures(void)
+{
+    size_t counts[5] = {7, 7, 7, 7, 7};
+    uint32_t refused = arib_measure(cells, 8836, 0, 0, damaged, 4, counts, 5);
+    assert(refused == 0 && counts[0] == 0 && counts[1] == 5 && counts[2] == 2 && counts[3] == 0);
+    assert(counts[4] == 7);
+    printf("A2 A0 21 2D takes %zu bytes of text and %zu issues\n", counts[1], counts[2]);
+
+    counts[2] = 7;
+    refused = arib_measure(cells, 8836, 0, 0, damaged, 4, counts, 2);
+    assert(refused == 0 && counts[0] == 0 && counts[1] == 5 && counts[2] == 7);
+    refused = arib_measure(cells, 8836, 2, 0, damaged, 4, counts, 4);
+    assert(refused == 2);
+    assert(counts[0] == 0 && counts[1] == 0 && counts[2] == 0 && counts[3] == 0);
+    refused = arib_measure(cells, 8835, 2, 0, damaged, 4, counts, 4);
+    assert(refused == 1);
+}
+
+/* As a player does, just as much as the string takes; a byte less; an issue less, with every
+ * remainder. */
+static void allocates(void)
+{
+    size_t counts[4];
+    uint32_t refused = arib_measure(cells, 8836, 0, 0, damaged, 4, counts, 4);
+    assert(refused == 0);
+    size_t bytes = counts[1], numbers = counts[2] * ARIB_ISSUE_NUMBERS;
+    uint8_t *text = malloc(bytes);
+    uint32_t *issues = malloc(numbers * sizeof *issues);
+    assert(text && issues);
+    refused = arib_decode(cells, 8836, 0, 0, damaged, 4, text, bytes, issues, numbers, counts, 4);
+    assert(refused == 0 && memcmp(text, "あ\u0301", bytes) == 0);
+    refused = arib_decode(cells, 8836, 0, 0, damaged, 4, text, bytes - 1, issues, numbers, counts,
+                          4);
+    assert(refused == 8);
+    for (size_t n = numbers - ARIB_ISSUE_NUMBERS; n < numbers; n++) {
+        refused = arib_decode(cells, 8836, 0, 0, damaged, 4, text, bytes, issues, n, counts, 4);
+        assert(refused == 9);
+    }
+    free(text);
+    free(issues);
+}
+
 int main(int argc, char **argv)
 {
     assert(argc == 2);
@@ -140,5 +186,7 @@ int main(int argc, char **argv)
     codes();
     keys();
     asks();
+    measures();
+    allocates();
     return 0;
 }

@@ -77,6 +77,12 @@ static void *cleans(void *unused)
     return unused;
 }
 
+static void *measures(void *unused)
+{
+    arib_measure(cells, 8836, CAPTION, 0, input, input_len, counts, 4);
+    return unused;
+}
+
 static void *finds_escape(void *unused)
 {
     arib_unknown_escape(input, input_len, 0, input_len, counts, 2);
@@ -151,6 +157,7 @@ int main(void)
     printf("decode %zu, without macros %zu\n", reading(decodes, 5) - none, reading(decodes, 0) - none);
     printf("key %zu, without macros %zu\n", reading(keys, 5) - none, reading(keys, 0) - none);
     printf("clean %zu, without macros %zu\n", reading(cleans, 5) - none, reading(cleans, 0) - none);
+    printf("measure %zu, without macros %zu\n", reading(measures, 5) - none, reading(measures, 0) - none);
     printf("encode %zu\n", writing(encodes) - none);
     printf("unknown escape %zu\n", reading(finds_escape, 0) - none);
     return 0;

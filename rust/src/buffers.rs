@@ -1,9 +1,12 @@
-//! Buffers that are lent to the library, and grow until it does not refuse them.
+//! Buffers that are lent to the library, and larger ones where it refuses them.
 
-/// A first buffer for the text of a string.
-pub fn for_text(bytes: &[u8]) -> Vec<u8> {
-    vec![0; 4 * bytes.len() + 64]
+/// How many bytes the first buffer for the text of a string has.
+pub fn text_room(bytes: &[u8]) -> usize {
+    4 * bytes.len() + 64
 }
+
+/// How many issues the first buffer for them holds.
+pub const ISSUE_ROOM: usize = 16;
 
 /// Four times as much.
 pub fn larger<T: Clone + Default>(buffer: &[T]) -> Vec<T> {

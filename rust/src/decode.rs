@@ -3,9 +3,10 @@
 use std::error::Error;
 use std::fmt;
 
-use crate::buffers::{self, larger, written};
+use crate::buffers::{ISSUE_ROOM, text_room, written};
 use crate::cells;
 use crate::ffi::{self, Call, ISSUE_NUMBERS};
+use crate::measure::{Measured, measure_with};
 use crate::sets::{GraphicSet, InitialState};
 
 /// How the width of alphanumerics and SP goes over into Unicode.
@@ -149,15 +150,27 @@ pub fn decode_with(bytes: &[u8], opts: &DecodeOptions) -> Decoded {
 /// assert_eq!(refused.number, 3);
 /// ```
 pub fn try_decode_with(bytes: &[u8], opts: &DecodeOptions) -> Result<Decoded, Refused> {
-    let (mut text, mut issues) = (buffers::for_text(bytes), vec![0; 16 * ISSUE_NUMBERS]);
-    let mut counts = [0; 4];
-    loop {
-        match ffi::decode(opts.call(bytes), &mut text, &mut issues, &mut counts) {
-            0 => break,
-            8 => text = larger(&text),
-            9 => issues = larger(&issues),
-            number => return Err(Refused::new(number, &counts)),
+    match decode_in(text_room(bytes), ISSUE_ROOM, bytes, opts) {
+        Err(Refused { number: 8 | 9, .. }) => {
+            let Measured { text, issues, .. } = measure_with(bytes, opts)?;
+            decode_in(text, issues, bytes, opts)
         }
+        answer => answer,
+    }
+}
+
+/// Decodes a string with room for so many bytes of text and so many issues.
+fn decode_in(
+    text: usize,
+    issues: usize,
+    bytes: &[u8],
+    opts: &DecodeOptions,
+) -> Result<Decoded, Refused> {
+    let (mut text, mut issues) = (vec![0; text], vec![0; ISSUE_NUMBERS * issues]);
+    let mut counts = [0; 4];
+    let number = ffi::decode(opts.call(bytes), &mut text, &mut issues, &mut counts);
+    if number != 0 {
+        return Err(Refused::new(number, &counts));
     }
     let [_, length, count, _] = counts;
     let issues = issues.chunks_exact(ISSUE_NUMBERS).take(count);

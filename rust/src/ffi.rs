@@ -62,6 +62,8 @@ calls! {
     key = arib_key(key: u8);
     /// Counts: place, 1 for a clean title and 0 for another.
     clean = arib_clean();
+    /// Counts: those of `decode` in buffers that are large enough.
+    measure = arib_measure();
 }
 
 unsafe extern "C" {

@@ -1,6 +1,6 @@
 //! Keys of titles.
 
-use crate::buffers::{self, larger, written};
+use crate::buffers::{larger, text_room, written};
 use crate::decode::{DecodeOptions, Refused};
 use crate::ffi;
 
@@ -19,7 +19,7 @@ use crate::ffi;
 /// assert_eq!(key_with(&[0x24, 0xA2], &options).unwrap_err().number, 10);
 /// ```
 pub fn key_with(bytes: &[u8], opts: &DecodeOptions) -> Result<String, Refused> {
-    let (mut key, mut counts) = (buffers::for_text(bytes), [0; 3]);
+    let (mut key, mut counts) = (vec![0; text_room(bytes)], [0; 3]);
     loop {
         match ffi::key(opts.call(bytes), &mut key, &mut counts) {
             0 => return Ok(written(key, counts[1])),

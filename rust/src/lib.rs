@@ -22,9 +22,10 @@
 //!
 //! Beside what isdb-text has: [`code_with`] gives the gap, a bound on how much shorter any other
 //! coding of the text could be; [`key_with`] gives the key of a title; [`clean_with`] says whether
-//! a title reads without issue, and stops at the first; [`try_decode_with`] says which question an
-//! input fails instead of panicking; [`Issue::position`] is an issue's place in the text, which a
-//! program that spells out an [`Issue`] has to name too.
+//! a title reads without issue, and stops at the first; [`measure_with`] says how long a text is,
+//! how many issues it has and what its macros charge, and keeps neither text nor issues;
+//! [`try_decode_with`] says which question an input fails instead of panicking; [`Issue::position`]
+//! is an issue's place in the text, which a program that spells out an [`Issue`] has to name too.
 
 mod buffers;
 mod cells;
@@ -34,6 +35,7 @@ pub mod encode;
 #[doc(hidden)]
 pub mod ffi;
 pub mod key;
+pub mod measure;
 pub mod sets;
 
 pub use clean::clean_with;
@@ -42,6 +44,7 @@ pub use decode::{
 };
 pub use encode::{Coded, EncodeError, EncodeOptions, code_with, encode, encode_with};
 pub use key::key_with;
+pub use measure::{Measured, measure_with};
 pub use sets::{GraphicSet, InitialState};
 
 /// The bytes of an eight-unit string, as they are sent.

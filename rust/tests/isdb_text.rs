@@ -40,7 +40,7 @@ fn options_and_issues() {
     assert_eq!(read.text, "あ");
 }
 
-/// Text and issues that outgrow the first buffers.
+/// Text, issues, and both that outgrow the first buffers.
 #[test]
 fn buffers_grow() {
     let repeated = [0x98, 0x7F, 0xA2].repeat(100);
@@ -50,6 +50,10 @@ fn buffers_grow() {
     );
     let read = decode_with(&[0xFF; 1_000], &DecodeOptions::default());
     assert_eq!(read.issues.len(), 1_000);
+    let both = [0x98, 0x7F, 0xA2, 0xA0].repeat(100);
+    let read = decode_with(&both, &DecodeOptions::default());
+    assert_eq!(read.text, "あ".repeat(6_300));
+    assert_eq!(read.issues.len(), 100);
 }
 
 /// A text whose search outgrows the first store.
