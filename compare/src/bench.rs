@@ -1,11 +1,15 @@
-//! `compare bench`: the Rust and the subject on the same bytes.
+//! `compare bench`: the Rust and the subject on the same bytes, and decoding and measuring.
 
+mod case;
 mod cases;
+mod inputs;
 mod only;
 mod side;
 mod table;
+mod times;
 
-pub use cases::{CASES, Case, Ready, Work};
+pub use case::{Case, Ready, Work};
 pub use only::{list, only};
 pub use side::Side;
-pub use table::print;
+pub use table::{Column, Table, tables};
+pub use times::print;

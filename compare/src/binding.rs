@@ -7,14 +7,15 @@ mod texts;
 mod types;
 
 use ours::{
-    AribString, Coded, DecodeOptions, Decoded, EncodeError, EncodeOptions, Refused, clean_with,
-    code_with, decode_with, encode_with, key_with, try_decode_with,
+    AribString, Coded, DecodeOptions, Decoded, EncodeError, EncodeOptions, Measured, Refused,
+    clean_with, code_with, decode_with, encode_with, key_with, measure_with, try_decode_with,
 };
 
 use crate::runs::{self, Part};
 
 pub use hold::Holder;
 pub use tally::Tally;
+pub use types::decode_options;
 
 /// How the runs are done.
 pub type Runs = runs::Runs<Holder, Amount>;
@@ -51,6 +52,7 @@ pub struct Calls {
     pub try_decode: fn(&[u8], &DecodeOptions) -> Result<Decoded, Refused>,
     pub key: fn(&[u8], &DecodeOptions) -> Result<String, Refused>,
     pub clean: fn(&[u8], &DecodeOptions) -> Result<bool, Refused>,
+    pub measure: fn(&[u8], &DecodeOptions) -> Result<Measured, Refused>,
     pub encode: fn(&str, &EncodeOptions) -> Result<AribString, EncodeError>,
     pub code: fn(&str, &EncodeOptions) -> Result<Coded, EncodeError>,
 }
@@ -61,6 +63,7 @@ pub const CALLS: Calls = Calls {
     try_decode: try_decode_with,
     key: key_with,
     clean: clean_with,
+    measure: measure_with,
     encode: encode_with,
     code: code_with,
 };

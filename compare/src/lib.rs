@@ -1,6 +1,6 @@
-//! Decoding, keys, clean titles and coding by the static library of crates/text, and by the crate
-//! in rust/ over it, held against the Rust and against a model of docs/01-scope.md ("01"), and
-//! measured against the Rust.
+//! Decoding, keys, clean titles, measuring and coding by the static library of crates/text, and by
+//! the crate in rust/ over it, held against the Rust and against a model of docs/01-scope.md
+//! ("01"), and measured against the Rust.
 
 pub mod bench;
 #[cfg(feature = "library")]

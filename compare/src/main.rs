@@ -20,7 +20,7 @@ compare vectors N
 compare encode-vectors N
 compare bench [--subject model]
 compare bench --list
-compare bench --only rust|subject|question CASE PASSES [--subject model]";
+compare bench --only rust|subject|exact|question CASE PASSES [--subject model]";
 
 fn main() -> ExitCode {
     let mut words = Words::of_program();

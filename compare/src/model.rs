@@ -31,6 +31,13 @@ pub struct Reading {
     pub charge: usize,
 }
 
+impl Reading {
+    /// The counts of a call that gives it: place, bytes of text, issues, charge.
+    pub fn counts(&self) -> [usize; 4] {
+        [0, self.text.len(), self.issues.len(), self.charge]
+    }
+}
+
 /// Decodes `input` into `reading`. The cell table has 8,836 numbers; an option that is not 1
 /// counts as 0.
 pub fn read(cells: &[u16], initial: u32, width: u32, input: &[u8], reading: &mut Reading) {

@@ -39,6 +39,10 @@ pub trait Subject: Sync {
     /// `arib_clean`: the refusal's number, or 0. The first two counts are the place, and 1 for a
     /// reading without issue or 0.
     fn clean(&self, call: Call, counts: &mut [usize]) -> u32;
+
+    /// `arib_measure`: the refusal's number, or 0. The first four counts are those of
+    /// `arib_decode` in buffers that are large enough.
+    fn measure(&self, call: Call, counts: &mut [usize]) -> u32;
 }
 
 /// The model, which is always there.

@@ -1,35 +1,26 @@
 //! A subject with a fault in `arib_clean` is found out.
 
+mod asked;
 mod faulty;
 mod found;
 
-use compare::call::{Call, LONGEST, Rooms, under_all};
-use compare::decode::Holder;
-use compare::decode::hold::AMPLE;
+use asked::{GOOD, MARK, TRUNCATED, call, change, leave, let_through, refused, refused_calls};
+use compare::call::{Call, under_all};
+use compare::decode::{AMPLE, Holder};
 use compare::model::Reading;
 use compare::runs::Worker;
 use compare::subject::model;
 use compare::{cells, inputs};
-use faulty::{Clean, Faulty, SOUND};
-
-const SOUND_CLEAN: Clean = SOUND.clean;
-
-/// あ and い; あ, Truncated; あ and a mark without base.
-const GOOD: [u8; 2] = [0xA2, 0xA4];
-const TRUNCATED: [u8; 2] = [0x24, 0xA2];
-const MARK: [u8; 3] = [0xA2, 0x21, 0x2D];
+use faulty::{Asked, Faulty, SOUND};
 
 /// The first difference on this input, held against the Rust.
-fn run(clean: Clean, input: &[u8]) -> Option<String> {
-    let subject = Faulty { clean, ..SOUND };
-    let call = Call { cells: cells::rusts(), initial: 0, width: 0, input };
-    Holder::new(&subject).read_both(call).err().map(|difference| difference.to_string())
+fn run(clean: Asked, input: &[u8]) -> Option<String> {
+    asked::read(&Faulty { clean, ..SOUND }, input)
 }
 
 /// Leaves the place and this answer.
 fn answer(counts: &mut [usize], clean: usize) -> u32 {
-    counts.iter_mut().zip([0, clean]).for_each(|(count, n)| *count = n);
-    0
+    leave(counts, [0, clean])
 }
 
 fn yes(_: Call, counts: &mut [usize]) -> u32 {
@@ -43,9 +34,7 @@ fn no(_: Call, counts: &mut [usize]) -> u32 {
 /// The model's answer, with another number in one of the counts, if it is lent.
 fn then(call: Call, counts: &mut [usize], (index, n): (usize, usize)) -> u32 {
     let number = model().clean(call, counts);
-    if let Some(count) = counts.get_mut(index) {
-        *count = n;
-    }
+    change(counts, index, n);
     number
 }
 
@@ -62,23 +51,21 @@ fn forgets_bodies(call: Call, counts: &mut [usize]) -> u32 {
     answer(counts, usize::from(reading.charge > 0 || reading.issues.is_empty()))
 }
 
-/// Puts no question: it takes the Rust's table, other options, and as much as may be read.
+/// Puts no question.
 fn refuses_nothing(call: Call, counts: &mut [usize]) -> u32 {
-    let input = &call.input[..call.input.len().min(LONGEST)];
-    let (initial, width) = (call.initial.min(1), call.width.min(1));
-    model().clean(Call { cells: cells::rusts(), initial, width, input }, counts)
+    model().clean((1..=3).fold(call, let_through), counts)
 }
 
 #[test]
 fn no_fault() {
     for input in [&GOOD[..], &TRUNCATED, &MARK] {
-        assert_eq!(run(SOUND_CLEAN, input), None);
+        assert_eq!(run(SOUND.clean, input), None);
     }
 }
 
 #[test]
 fn faults_where_there_is_no_issue() {
-    let faults: [Clean; 6] = [
+    let faults: [Asked; 6] = [
         no,
         |_, counts| answer(counts, 2),
         |_, counts| answer(counts, 1) + 10,
@@ -91,7 +78,7 @@ fn faults_where_there_is_no_issue() {
 
 #[test]
 fn faults_where_there_is_an_issue() {
-    let faults: [Clean; 3] = [yes, |_, counts| answer(counts, 0) + 10, |_, _| 0];
+    let faults: [Asked; 3] = [yes, |_, counts| answer(counts, 0) + 10, |_, _| 0];
     found::each(faults, "input 2 bytes: 24A2\n", |fault| run(fault, &TRUNCATED));
 }
 
@@ -114,45 +101,30 @@ fn faults_among_the_corners() {
             holder.clean(call, AMPLE).is_err()
         })
     };
-    assert!(!found(SOUND_CLEAN));
+    assert!(!found(SOUND.clean));
     assert!([yes, no, forgets_marks, forgets_bodies].into_iter().all(found));
-}
-
-/// A call that one of questions 1 to 3 refuses with this number.
-fn refused(clean: Clean, call: Call, number: u32) -> Option<String> {
-    let subject = Faulty { clean, ..SOUND };
-    let rooms = Rooms { text: 10, issues: 7 };
-    let refused = Holder::new(&subject).refused(call, rooms, number);
-    refused.err().map(|difference| difference.to_string())
 }
 
 #[test]
 fn faults_in_a_refused_call() {
-    let long = [0xA2; LONGEST + 1];
-    let call = Call { cells: cells::rusts(), initial: 0, width: 0, input: &GOOD };
-    let calls = [
-        (Call { cells: &cells::rusts()[1..], initial: 2, ..call }, 1),
-        (Call { initial: 2, input: &long, ..call }, 2),
-        (Call { width: 2, ..call }, 2),
-        (Call { input: &long, ..call }, 3),
-    ];
-    let faults: [Clean; 4] = [
+    let faults: [Asked; 4] = [
         refuses_nothing,
         |_, counts| answer(counts, 0) + 4,
         |call, counts| then(call, counts, (1, 1)),
         |call, _| model().clean(call, &mut []),
     ];
-    for (call, number) in calls {
-        assert_eq!(refused(SOUND_CLEAN, call, number), None);
-        found::each(faults, "difference: clean: ", |fault| refused(fault, call, number));
+    for (call, number) in refused_calls() {
+        assert_eq!(refused(&SOUND, call, number), None);
+        found::each(faults, "difference: clean: ", |clean| {
+            refused(&Faulty { clean, ..SOUND }, call, number)
+        });
     }
 }
 
 /// Counts that do not fit are not written.
 #[test]
 fn fewer_counts() {
-    let subject = Faulty { clean: no, ..SOUND };
-    let call = Call { cells: cells::rusts(), initial: 0, width: 0, input: &GOOD };
+    let (subject, call) = (Faulty { clean: no, ..SOUND }, call(&GOOD));
     for room in 0..=AMPLE {
         let mut holder = Holder::new(&SOUND);
         holder.read(call);

@@ -8,7 +8,8 @@ use compare::call::under_all;
 use compare::cells;
 use compare::runs::Worker;
 use ours::{
-    AribString, Coded, Decoded, EncodeError, EncodeOptions, GraphicSet, IssueKind, Refused,
+    AribString, Coded, Decoded, EncodeError, EncodeOptions, GraphicSet, IssueKind, Measured,
+    Refused,
 };
 
 /// The first difference on this input under Si and CharacterSize.
@@ -118,11 +119,44 @@ fn faults_in_clean() {
     assert!(read(refused, &[0xA2]).is_some());
 }
 
+/// The crate with a fault in what it measures.
+macro_rules! measuring {
+    ($($fault:expr,)*) => {
+        [$(Calls {
+            measure: |bytes, options| {
+                let mut found = (CALLS.measure)(bytes, options)?;
+                let fault: fn(&mut Measured) = $fault;
+                fault(&mut found);
+                Ok(found)
+            },
+            ..CALLS
+        }),*]
+    };
+}
+
+#[test]
+fn faults_in_what_is_measured() {
+    let faulty = measuring![
+        |found| found.text -= 1,
+        |found| found.text += 1,
+        |found| found.issues -= 1,
+        |found| found.issues *= 5,
+        |found| found.charged += 1,
+    ];
+    found::each(faulty, "input 7 bytes: A229211B2140A4\n", |calls| read(calls, &INPUT));
+    let refused = Calls { measure: |_, _| Err(Refused { number: 8, place: 0 }), ..CALLS };
+    assert!(read(refused, &INPUT).is_some());
+    assert!(read(refused, &[0xA2]).is_some());
+}
+
 /// Marks that wait at the end, which a character behind them would take.
 #[test]
 fn marks_that_are_forgotten() {
     let clean = |bytes: &[u8], options: &_| (CALLS.clean)(&[bytes, &[0xA2]].concat(), options);
     let calls = Calls { clean, ..CALLS };
+    assert_eq!(read(calls, &[0xA2]), None);
+    assert!(read(calls, &[0xA2, 0x21, 0x2D]).is_some());
+    let [calls] = measuring![|found| (found.text, found.issues) = (3, 0),];
     assert_eq!(read(calls, &[0xA2]), None);
     assert!(read(calls, &[0xA2, 0x21, 0x2D]).is_some());
 }
@@ -169,5 +203,6 @@ fn faults_in_what_is_too_long() {
     assert!(too_long(Calls { try_decode: |_, _| Ok(Decoded::default()), ..CALLS }));
     assert!(too_long(Calls { key: |_, _| Err(Refused { number: 8, place: 0 }), ..CALLS }));
     assert!(too_long(Calls { clean: |_, _| Ok(true), ..CALLS }));
+    assert!(too_long(Calls { measure: |_, _| Ok(Measured::default()), ..CALLS }));
     assert!(too_long(Calls { encode: |_, _| Ok(AribString::default()), ..CALLS }));
 }

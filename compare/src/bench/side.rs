@@ -7,16 +7,20 @@ use isdb_text::{decode_with, encode_with};
 use super::{Ready, Work};
 use crate::call::Call;
 use crate::key::key;
+use crate::model::ISSUE;
 use crate::subject::{CodingLent, Lent, Subject};
 
 /// Who does the work of a case.
 #[derive(Clone, Copy, PartialEq, Eq)]
 pub enum Side {
-    /// isdb-text. It has no call for keys or for clean titles: it decodes, and the key is made of
-    /// its text, or its list of issues is empty or not.
+    /// isdb-text. It has no call for keys, for clean titles or for measuring: it decodes, and the
+    /// key is made of its text, or its list of issues is empty or not.
     Rust,
-    /// The subject, question 1 included.
+    /// The subject, question 1 included. Of the crate's cases the crate in rust/.
     Subject,
+    /// The subject's `arib_decode`, question 1 included, in buffers just as large as
+    /// `arib_measure` says.
+    Exact,
     /// `arib_decode` with no buffers and an option that question 2 refuses: question 1 alone.
     Question,
 }
@@ -29,6 +33,7 @@ impl Side {
         match name {
             "rust" => Some(Side::Rust),
             "subject" => Some(Side::Subject),
+            "exact" => Some(Side::Exact),
             "question" => Some(Side::Question),
             _ => None,
         }
@@ -40,6 +45,7 @@ impl Side {
         match self {
             Side::Rust => rust(case),
             Side::Subject => own(subject, case),
+            Side::Exact => exact(subject, case),
             Side::Question => question(subject, case),
         }
     }
@@ -49,7 +55,7 @@ fn rust(case: &Ready) -> Runner<'_> {
     let options = case.call.options();
     let (decoding, coding) = (options.into(), options.into());
     match case.work {
-        Work::Decode(_) => {
+        Work::Decode(_) | Work::Measure | Work::Crate => {
             each(&case.inputs, move |input| drop(black_box(decode_with(input, &decoding))))
         }
         Work::Key(_) => each(&case.inputs, move |input| {
@@ -87,6 +93,10 @@ fn own<'a>(subject: &'a dyn Subject, case: &'a Ready) -> Runner<'a> {
         Work::Clean => each(&case.inputs, move |input| {
             assert_eq!(subject.clean(Call { input, ..call }, &mut [0; 2]), 0);
         }),
+        Work::Measure => each(&case.inputs, move |input| {
+            assert_eq!(subject.measure(Call { input, ..call }, &mut [0; 4]), 0);
+        }),
+        Work::Crate => by_crate(case),
         Work::Code => {
             let (mut store, mut coding) = (vec![0; first], vec![0; second]);
             each(&case.inputs, move |input| {
@@ -96,6 +106,35 @@ fn own<'a>(subject: &'a dyn Subject, case: &'a Ready) -> Runner<'a> {
             })
         }
     }
+}
+
+/// The crate in rust/.
+#[cfg(feature = "library")]
+fn by_crate(case: &Ready) -> Runner<'_> {
+    let options = crate::binding::decode_options(&case.call);
+    each(&case.inputs, move |input| drop(black_box(ours::decode_with(input, &options))))
+}
+
+#[cfg(not(feature = "library"))]
+fn by_crate(_: &Ready) -> Runner<'_> {
+    unreachable!("no table has its cases")
+}
+
+fn exact<'a>(subject: &'a dyn Subject, case: &'a Ready) -> Runner<'a> {
+    let call = case.call;
+    let measured = |input: &Vec<u8>| {
+        let mut counts = [0; 4];
+        assert_eq!(subject.measure(Call { input, ..call }, &mut counts), 0);
+        let [_, text, issues, _] = counts;
+        (vec![0; text], vec![0; ISSUE * issues])
+    };
+    let mut buffers: Vec<_> = case.inputs.iter().map(measured).collect();
+    Box::new(move || {
+        for (input, (text, issues)) in case.inputs.iter().zip(&mut buffers) {
+            let lent = Lent { text, issues, counts: &mut [0; 4] };
+            assert_eq!(subject.decode(Call { input, ..call }, lent), 0);
+        }
+    })
 }
 
 fn question<'a>(subject: &'a dyn Subject, case: &'a Ready) -> Runner<'a> {

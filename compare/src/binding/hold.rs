@@ -1,11 +1,11 @@
 //! One call of the crate held: against isdb-text, and what that does not answer against 01 (the
-//! key) and the models (the issues' positions, the gap).
+//! key) and the models (the issues' positions, the charge, the gap).
 
 use std::fmt::Debug;
 use std::panic::{AssertUnwindSafe, catch_unwind};
 
 use isdb_text::{decode_with, encode_with};
-use ours::{Coded, Decoded, EncodeError, Refused};
+use ours::{Coded, Decoded, EncodeError, Measured, Refused};
 
 use super::types::{coded, decode_options, decoded, encode_options};
 use super::{Calls, Tally};
@@ -45,7 +45,8 @@ impl Holder {
         self.reading(call).map(drop)
     }
 
-    /// Text, issues with all their fields and positions, the key, and whether there is no issue.
+    /// Text, issues with all their fields and positions, the key, whether there is no issue, and
+    /// how many bytes and issues there are, with the charge.
     fn reading(&mut self, call: Call) -> Result<Decoded, Difference> {
         let (calls, own) = (self.calls, decode_options(&call));
         call.read(&mut self.reading);
@@ -59,6 +60,9 @@ impl Holder {
         same("key", &call, &key, || (calls.key)(call.input, &own))?;
         let clean = Ok(reading.issues.is_empty());
         same("clean", &call, &clean, || (calls.clean)(call.input, &own))?;
+        let (text, issues) = (reading.text.len(), reading.issues.len());
+        let measured = Ok(Measured { text, issues, charged: self.reading.charge });
+        same("measure", &call, &measured, || (calls.measure)(call.input, &own))?;
         self.tally.readings += 1;
         self.tally.issues += reading.issues.len() as u64;
         self.tally.positions.see(reading.issues.iter().map(|issue| issue.position as u32));
@@ -94,6 +98,7 @@ impl Holder {
         same("reading", &call, &refused(3), || (calls.try_decode)(call.input, &own))?;
         same("key", &call, &refused(3), || (calls.key)(call.input, &own))?;
         same("clean", &call, &refused(3), || (calls.clean)(call.input, &own))?;
+        same("measure", &call, &refused(3), || (calls.measure)(call.input, &own))?;
         let (call, own) = (Call { input: text.as_bytes(), ..call }, encode_options(&call));
         same("coding", &call, &Err(EncodeError::TooLong), || (calls.encode)(text, &own))?;
         same("coding with its gap", &call, &Err(EncodeError::TooLong), || (calls.code)(text, &own))

@@ -1,4 +1,4 @@
-//! Inputs that are decoded, keyed and asked for issues, under all options unless said.
+//! Inputs that are decoded, keyed, asked for issues and measured, under all options unless said.
 
 use super::{Found, Holder, Runs};
 use crate::call::under_all;

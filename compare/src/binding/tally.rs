@@ -6,7 +6,7 @@ use crate::tally::{Positions, tally};
 
 tally! {
     pub struct Tally {
-        /// Inputs decoded, keyed and asked for issues, once for each pair of options.
+        /// Inputs decoded, keyed, asked for issues and measured, once for each pair of options.
         pub readings: u64,
         /// Their issues, and how many have a key: those that are clean.
         pub issues: u64,

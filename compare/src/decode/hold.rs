@@ -2,12 +2,14 @@
 //! subject is held against both.
 
 mod clean;
+mod counts;
 mod key;
+mod measure;
 mod rust;
 
 use oracle::reading;
 
-use super::lent::{Buffers, issues};
+use super::lent::{AMPLE, Buffers, issues};
 use super::tally::Tally;
 use crate::call::{Call, Rooms, question};
 use crate::difference::{Held, digits, held};
@@ -15,7 +17,7 @@ use crate::model::Reading;
 use crate::runs::Worker;
 use crate::subject::Subject;
 
-pub use clean::{AMPLE, COUNTS};
+pub use counts::COUNTS;
 
 /// What a thread keeps from call to call.
 pub struct Holder<'a> {
@@ -60,9 +62,10 @@ impl Holder<'_> {
     }
 
     /// Reads with the model and with the Rust: text, issues with their fields, and the bytes of
-    /// unknown escapes as the subject hands them back. Then `arib_clean`, by the Rust's issues.
-    /// The table is the Rust's. The issues' positions, which the Rust has not, are the model's:
-    /// `run` holds the subject to them.
+    /// unknown escapes as the subject hands them back. Then `arib_clean`, by the Rust's issues, and
+    /// `arib_measure`, by the Rust's text and issues and the model's charge. The table is the
+    /// Rust's. The issues' positions, which the Rust has not, are the model's: `run` holds the
+    /// subject to them.
     pub fn read_both(&mut self, call: Call) -> Held {
         self.read(call);
         self.tally.rust += 1;
@@ -73,7 +76,9 @@ impl Holder<'_> {
         held(fault, &call, |difference| {
             difference.line("rust", rust::words(&rust)).line("model", words(&self.reading))
         })?;
-        self.clean_answer(call, AMPLE, Ok(rust.issues.is_empty()))
+        self.clean_answer(call, AMPLE, Ok(rust.issues.is_empty()))?;
+        let sizes = [rust.text.len(), rust.issues.len(), self.reading.charge];
+        self.measure_answer(call, AMPLE, Ok(sizes))
     }
 
     /// `arib_decode` with these rooms, after a reading.
@@ -81,13 +86,13 @@ impl Holder<'_> {
         self.decode(call, rooms, rooms.questions(&self.reading))
     }
 
-    /// `arib_decode`, `arib_key` and `arib_clean` on a call that one of questions 1 to 3 refuses
-    /// with this number.
+    /// `arib_decode`, `arib_key`, `arib_clean` and `arib_measure` on a call that one of questions 1
+    /// to 3 refuses with this number.
     pub fn refused(&mut self, call: Call, rooms: Rooms, number: u32) -> Held {
         assert_eq!(call.questions(), number, "the model's own answer");
         self.decode(call, rooms, number)?;
         self.key_answer(call, rooms.text, number)?;
-        COUNTS.into_iter().try_for_each(|room| self.clean_answer(call, room, Err(number)))
+        COUNTS.into_iter().try_for_each(|room| self.ask_refused(call, room, number))
     }
 
     /// `arib_unknown_escape`: the part of the input, or the empty part at its beginning.

@@ -6,28 +6,31 @@ use crate::lent::{Buffer, answer_fault};
 use crate::model::{ISSUE, Reading};
 use crate::subject::Lent;
 
+/// How many counts are lent at most: two more than any call leaves.
+pub const AMPLE: usize = 6;
+
 /// Buffers that are used again from call to call.
 #[derive(Default)]
 pub struct Buffers {
     text: Buffer<u8>,
     issues: Buffer<u32>,
-    counts: [usize; 4],
+    counts: [usize; AMPLE],
 }
 
 impl Buffers {
     /// Buffers of these lengths, filled with the pattern.
     pub fn lend(&mut self, rooms: Rooms) -> Lent<'_> {
-        self.counts = [usize::MAX; 4];
+        self.counts = [usize::MAX; AMPLE];
         Lent {
             text: self.text.lend(rooms.text),
             issues: self.issues.lend(rooms.issues),
-            counts: &mut self.counts,
+            counts: self.counts.first_chunk_mut().expect("fewer than are ample"),
         }
     }
 
     /// So many counts, and no buffers.
     pub fn lend_counts(&mut self, room: usize) -> &mut [usize] {
-        self.counts = [usize::MAX; 4];
+        self.counts = [usize::MAX; AMPLE];
         &mut self.counts[..room]
     }
 
@@ -35,34 +38,33 @@ impl Buffers {
     pub fn fault(&self, given: u32, answer: Answer<Reading>) -> Option<String> {
         let nothing = Reading::default();
         let (refusal, reading) = numbered(answer, &nothing);
-        let counts = [0, reading.text.len(), reading.issues.len(), reading.charge];
-        answer_fault((given, refusal.number), &self.counts, &counts)
+        self.counts_fault((given, refusal.number), AMPLE, &reading.counts())
             .or_else(|| self.text.fault("text byte", &reading.text))
             .or_else(|| self.issues.fault("issue number", reading.issues.as_flattened()))
     }
 
-    /// The same of a key in the place of the text. It has three counts: the fourth stays.
+    /// The same of a key in the place of the text.
     pub fn key_fault(&self, numbers: (u32, u32), key: &[u8], charge: usize) -> Option<String> {
-        answer_fault(numbers, &self.counts, &[0, key.len(), charge, usize::MAX])
+        self.counts_fault(numbers, AMPLE, &[0, key.len(), charge])
             .or_else(|| self.text.fault("text byte", key))
     }
 
-    /// The same of a call that was lent so many counts and leaves two: those that do not fit are
-    /// not written, and the others stay.
+    /// The same of the counts alone, of which there was room for so many: those that do not fit
+    /// are not written, and what is behind them stays.
     pub fn counts_fault(
         &self,
         numbers: (u32, u32),
         room: usize,
-        counts: [usize; 2],
+        counts: &[usize],
     ) -> Option<String> {
-        let mut expected = [usize::MAX; 4];
-        expected[..room].iter_mut().zip(counts).for_each(|(count, n)| *count = n);
+        let mut expected = [usize::MAX; AMPLE];
+        expected[..room].iter_mut().zip(counts).for_each(|(count, &n)| *count = n);
         answer_fault(numbers, &self.counts, &expected)
     }
 
     /// What the call left, in words.
     pub fn words(&self, given: u32) -> String {
-        let [place, text, count, charge] = self.counts;
+        let [place, text, count, charge, ..] = self.counts;
         format!(
             "refusal {given} place {place} text {text} issues {count} charged {charge}: {}{}",
             digits(self.text.lent()),
@@ -72,7 +74,8 @@ impl Buffers {
 
     /// The same of a key.
     pub fn key_words(&self, given: u32) -> String {
-        format!("refusal {given} counts {:?}: {}", self.counts, digits(self.text.lent()))
+        let ([place, length, charge, ..], key) = (self.counts, digits(self.text.lent()));
+        format!("refusal {given} place {place} length {length} charged {charge}: {key}")
     }
 }
 

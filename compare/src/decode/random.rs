@@ -2,13 +2,13 @@
 
 use super::rooms::{all_rooms, ample};
 use super::{Found, Holder, Runs};
-use crate::call::{Call, OPTIONS, Rooms, under_all};
+use crate::call::{Call, OPTIONS, under_all};
 use crate::inputs::{self, long};
 use crate::random::Random;
 use crate::tally::Sum;
 use crate::{cells, titles};
 
-/// Random inputs under all options with ample rooms, and under one of them in all rooms.
+/// Random inputs under all options with ample and exact rooms, and under one of them in all rooms.
 pub fn random(runs: &Runs) -> Found {
     let titles = titles::all();
     runs.each(runs.amount.random, |holder, index| {
@@ -18,9 +18,7 @@ pub fn random(runs: &Runs) -> Found {
         for (n, call) in under_all(cells::rusts(), &input).into_iter().enumerate() {
             holder.read_both(call)?;
             holder.run(call, ample(holder, &mut random))?;
-            if n == tight {
-                all_rooms(holder, call)?;
-            }
+            if n == tight { all_rooms(holder, call)? } else { holder.exact(call)? }
         }
         Ok(())
     })
@@ -41,7 +39,7 @@ pub fn long(runs: &Runs) -> Found {
         let one = |holder: &mut Holder, input: &Vec<u8>| {
             let call = Call { cells: cells::rusts(), initial: 1, width: 0, input };
             holder.read_both(call)?;
-            holder.run(call, Rooms::exact(holder.reading()))
+            holder.exact(call)
         };
         sum.add(&runs.each(1, |holder, _| list.iter().try_for_each(|input| one(holder, input)))?);
     }

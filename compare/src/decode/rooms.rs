@@ -13,17 +13,16 @@ pub fn ample(holder: &Holder, random: &mut Random) -> Rooms {
     Rooms { text: text + random.below(40), issues: issues + random.below(3 * ISSUE) }
 }
 
-/// `arib_decode` in exact rooms; with the greatest remainder of the issue buffer; with one byte,
-/// one number and one issue less. For two issues a number less is nine, of which four are a
-/// remainder. Then `arib_key` and `arib_clean`.
+/// `arib_decode` in exact rooms and with one byte or one issue less; with the greatest remainder of
+/// the issue buffer; with half the text; with one number less. For two issues a number less is
+/// nine, of which four are a remainder. Then `arib_key`, `arib_clean` and `arib_measure`.
 pub fn all_rooms(holder: &mut Holder, call: Call) -> Held {
     let Rooms { text, issues } = Rooms::exact(holder.reading());
     let rooms = |text, issues| Rooms { text, issues };
-    holder.run(call, rooms(text, issues))?;
+    holder.exact(call)?;
     holder.run(call, rooms(text + 1, issues + ISSUE - 1))?;
     holder.run(call, rooms(text, issues + 2 * ISSUE - 1))?;
     if text > 0 {
-        holder.run(call, rooms(text - 1, issues))?;
         holder.run(call, rooms(text / 2, issues + ISSUE))?;
     }
     if issues > 0 {
@@ -34,7 +33,7 @@ pub fn all_rooms(holder: &mut Holder, call: Call) -> Held {
         holder.run(call, rooms(text - 1, issues - 1))?;
     }
     key_rooms(holder, call)?;
-    clean_rooms(holder, call)
+    count_rooms(holder, call)
 }
 
 /// `arib_key` in a buffer for the text before removal: one byte less, exactly full, with more.
@@ -44,7 +43,7 @@ pub fn key_rooms(holder: &mut Holder, call: Call) -> Held {
     less.chain([text, text + 5]).try_for_each(|room| holder.key(call, room))
 }
 
-/// `arib_clean` with each number of counts.
-pub fn clean_rooms(holder: &mut Holder, call: Call) -> Held {
-    COUNTS.into_iter().try_for_each(|room| holder.clean(call, room))
+/// `arib_clean` and `arib_measure` with each number of counts.
+pub fn count_rooms(holder: &mut Holder, call: Call) -> Held {
+    COUNTS.into_iter().try_for_each(|room| holder.ask(call, room))
 }

@@ -29,6 +29,7 @@ pub fn to_two(runs: &Runs) -> Found {
         for call in under_all(cells::rusts(), &inputs::to_two(index)) {
             holder.read_both(call)?;
             holder.run(call, SMALL)?;
+            holder.exact(call)?;
             key_rooms(holder, call)?;
         }
         Ok(())
@@ -42,6 +43,7 @@ pub fn three(runs: &Runs) -> Found {
         for call in under_all(cells::rusts(), &inputs::numbered(index * every, 3)[..3]) {
             holder.read_both(call)?;
             holder.run(call, SMALL)?;
+            holder.exact(call)?;
         }
         Ok(())
     })

@@ -1,8 +1,8 @@
 //! Other cell tables that question 1 lets through, against the model.
 
-use super::rooms::{all_rooms, clean_rooms, key_rooms};
+use super::rooms::{all_rooms, count_rooms, key_rooms};
 use super::{Found, Holder, Runs};
-use crate::call::{Call, OPTIONS, Rooms};
+use crate::call::{Call, OPTIONS};
 use crate::difference::Held;
 use crate::random::Random;
 use crate::{cells, inputs, titles};
@@ -35,9 +35,9 @@ fn every_cell(holder: &mut Holder, cells: &[u16]) -> Held {
     for input in [kanji, plane_1] {
         let call = Call { cells, initial: 0, width: 0, input: &input };
         holder.read(call);
-        holder.run(call, Rooms::exact(holder.reading()))?;
+        holder.exact(call)?;
         key_rooms(holder, call)?;
-        clean_rooms(holder, call)?;
+        count_rooms(holder, call)?;
     }
     Ok(())
 }

@@ -2,6 +2,7 @@
 
 use std::fmt::{Display, Formatter, Result};
 
+use crate::model::ISSUE;
 use crate::tally::{Greatest, Positions, by_number, tally};
 
 tally! {
@@ -25,6 +26,10 @@ tally! {
         /// Calls of `arib_clean`, likewise, and how many of them on inputs without issue.
         pub asked: [u64; 4],
         pub clean: u64,
+        /// Calls of `arib_measure`, likewise; calls of `arib_decode` with an issue less than it
+        /// says, by the remainder of the issue buffer.
+        pub measured: [u64; 4],
+        pub remainders: [u64; ISSUE],
         /// Bytes of the longest text, and the greatest charge.
         pub longest: Greatest,
         pub charge: Greatest,
@@ -41,15 +46,13 @@ impl Display for Tally {
         )?;
         writeln!(f, "  longest text {longest}, greatest charge {charge}")?;
         write!(f, "  calls by number:{}", by_number(&self.answers))?;
-        let keys = self.keys.iter().sum::<u64>();
-        write!(f, "\n  {keys} calls for keys, by number:{}", by_number(&self.keys))?;
-        let Tally { asked, clean, .. } = self;
-        let calls = asked.iter().sum::<u64>();
-        write!(
-            f,
-            "\n  {calls} calls of clean, {clean} without issue, by number:{}",
-            by_number(asked)
-        )?;
+        let Tally { keys, asked, clean, measured, remainders, .. } = self;
+        let calls = |of: &[u64]| format!("{} calls", of.iter().sum::<u64>());
+        write!(f, "\n  {} for keys, by number:{}", calls(keys), by_number(keys))?;
+        write!(f, "\n  {} of clean, {clean} without issue, by number:", calls(asked))?;
+        write!(f, "{}", by_number(asked))?;
+        write!(f, "\n  {} of measure, by number:{}", calls(measured), by_number(measured))?;
+        write!(f, "\n  calls with an issue less, by remainder:{}", by_number(remainders))?;
         write!(f, "\n  issues by kind:{}\n  {}", by_number(&self.kinds), self.positions)
     }
 }

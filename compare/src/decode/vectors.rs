@@ -38,7 +38,7 @@ fn put(out: &mut Vec<u8>, case: &Case, answer: Answer<Reading>) {
     let Rooms { text, issues } = case.rooms;
     let nothing = Reading::default();
     let (refusal, reading) = numbered(answer, &nothing);
-    let counts = [reading.text.len(), reading.issues.len(), reading.charge];
+    let [_, counts @ ..] = reading.counts();
     case.put(out, [text, issues], refusal, &counts);
     out.extend_from_slice(&reading.text);
     numbers(out, reading.issues.as_flattened().iter().copied());

@@ -49,7 +49,7 @@ impl<'a> Holder<'a> {
         self.by_model(call);
         self.again(call, |reader, call| {
             reader.read(call);
-            reader.clean(call, hold::AMPLE)
+            reader.ask(call, decode::AMPLE)
         })
     }
 

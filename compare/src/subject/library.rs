@@ -28,6 +28,10 @@ impl Subject for Library {
     fn clean(&self, call: Call, counts: &mut [usize]) -> u32 {
         ffi::clean(given(call), counts)
     }
+
+    fn measure(&self, call: Call, counts: &mut [usize]) -> u32 {
+        ffi::measure(given(call), counts)
+    }
 }
 
 fn given(Call { cells, initial, width, input }: Call) -> ffi::Call {

@@ -18,7 +18,7 @@ impl Subject for StandIn {
         let (number, reading) = read(call, |reading| rooms.questions(reading));
         write(lent.text, &reading.text);
         write(lent.issues, reading.issues.as_flattened());
-        *lent.counts = [0, reading.text.len(), reading.issues.len(), reading.charge];
+        *lent.counts = reading.counts();
         number
     }
 
@@ -41,14 +41,20 @@ impl Subject for StandIn {
         let (number, reading) = read(call, |reading| key::questions(buffer.len(), reading));
         let (key, charge) = key::of(number, &reading);
         write(buffer, key.as_bytes());
-        counts[..3].copy_from_slice(&[0, key.len(), charge]);
+        leave(counts, [0, key.len(), charge]);
         number
     }
 
     fn clean(&self, call: Call, counts: &mut [usize]) -> u32 {
         let (number, reading) = read(call, |_| 0);
         let clean = number == 0 && reading.issues.is_empty();
-        counts.iter_mut().zip([0, clean.into()]).for_each(|(count, n)| *count = n);
+        leave(counts, [0, clean.into()]);
+        number
+    }
+
+    fn measure(&self, call: Call, counts: &mut [usize]) -> u32 {
+        let (number, reading) = read(call, |_| 0);
+        leave(counts, reading.counts());
         number
     }
 }
@@ -58,6 +64,11 @@ fn write<T: Copy + Default>(buffer: &mut [T], result: &[T]) {
     let (written, unused) = buffer.split_at_mut(result.len());
     written.copy_from_slice(result);
     unused.fill(T::default());
+}
+
+/// As many counts as there is room for; what is behind them stays.
+fn leave<const N: usize>(room: &mut [usize], counts: [usize; N]) {
+    room.iter_mut().zip(counts).for_each(|(count, n)| *count = n);
 }
 
 /// Questions 1 to 3, then the others, which a reading answers: the refusal's number and an empty

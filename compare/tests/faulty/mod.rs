@@ -8,17 +8,20 @@ pub struct Faulty {
     /// Of decoding, and of keys, which have no issues.
     pub reading: fn(&mut Lent, &mut u32),
     pub coding: fn(&mut CodingLent, &mut u32),
-    /// The whole of `arib_clean`.
-    pub clean: Clean,
+    /// The whole of `arib_clean`, and of `arib_measure`.
+    pub clean: Asked,
+    pub measure: Asked,
 }
 
-pub type Clean = fn(Call, &mut [usize]) -> u32;
+/// A call that is lent counts and nothing else.
+pub type Asked = fn(Call, &mut [usize]) -> u32;
 
 /// The model but for the parts.
 pub const SOUND: Faulty = Faulty {
     reading: |_, _| {},
     coding: |_, _| {},
     clean: |call, counts| model().clean(call, counts),
+    measure: |call, counts| model().measure(call, counts),
 };
 
 impl Subject for Faulty {
@@ -49,5 +52,9 @@ impl Subject for Faulty {
 
     fn clean(&self, call: Call, counts: &mut [usize]) -> u32 {
         (self.clean)(call, counts)
+    }
+
+    fn measure(&self, call: Call, counts: &mut [usize]) -> u32 {
+        (self.measure)(call, counts)
     }
 }

@@ -1,12 +1,8 @@
 //! One call of `arib_clean` held against a list of issues.
 
-use super::{Holder, words};
+use super::Holder;
 use crate::call::Call;
-use crate::difference::{Held, held};
-
-/// How many counts are lent: none, the place alone, both, two more.
-pub const COUNTS: [usize; 4] = [0, 1, 2, AMPLE];
-pub const AMPLE: usize = 4;
+use crate::difference::Held;
 
 impl Holder<'_> {
     /// `arib_clean` with so many counts, after a reading.
@@ -25,13 +21,6 @@ impl Holder<'_> {
         self.tally.asked[number as usize] += 1;
         self.tally.clean += u64::from(clean);
         let given = self.subject.clean(call, self.buffers.lend_counts(room));
-        let fault = self.buffers.counts_fault((given, number), room, [0, clean.into()]);
-        held(fault.map(|what| format!("clean: {what}")), &call, |difference| {
-            let difference = difference.line("counts lent", room);
-            if number != 0 {
-                return difference;
-            }
-            difference.line("model", words(&self.reading))
-        })
+        self.counts_held("clean", call, room, (given, number), &[0, clean.into()])
     }
 }

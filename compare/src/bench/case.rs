@@ -1,0 +1,71 @@
+//! What a case of the benchmark is.
+
+use crate::call::{Call, CodingRooms, Rooms};
+use crate::cells;
+use crate::coding::Coder;
+
+/// What is done with an input.
+#[derive(Clone, Copy, PartialEq, Eq)]
+pub enum Work {
+    Decode(Rooms),
+    /// With room for so many bytes of the text before removal.
+    Key(usize),
+    /// Whether there is an issue. It is lent nothing.
+    Clean,
+    /// What decoding takes. It is lent nothing.
+    Measure,
+    /// In one store and one buffer that serve all texts of the case.
+    Code,
+    /// Decoding by the crate in rust/, which allocates what it answers, as the Rust does.
+    Crate,
+}
+
+/// Inputs that are taken one after another, under CharacterSize, with the Rust's table.
+pub struct Case {
+    pub name: &'static str,
+    pub work: Work,
+    pub initial: u32,
+    pub inputs: fn() -> Vec<Vec<u8>>,
+    /// How often the case is run to count its instructions; 0 if the Rust is too slow for that.
+    pub passes: u32,
+}
+
+/// A case with its inputs, and the call that each of them goes into.
+pub struct Ready {
+    pub work: Work,
+    pub call: Call<'static>,
+    pub inputs: Vec<Vec<u8>>,
+}
+
+impl Case {
+    pub fn ready(&self) -> Ready {
+        let call = Call { cells: cells::rusts(), initial: self.initial, width: 0, input: &[] };
+        Ready { work: self.work, call, inputs: (self.inputs)() }
+    }
+}
+
+impl Ready {
+    /// The lengths of what is lent: text and issues, the key alone, nothing, or store and coding.
+    pub fn rooms(&self) -> [usize; 2] {
+        match self.work {
+            Work::Decode(Rooms { text, issues }) => [text, issues],
+            Work::Key(text) => [text, 0],
+            Work::Clean | Work::Measure | Work::Crate => [0, 0],
+            Work::Code => {
+                let CodingRooms { store, coding } = self.greatest();
+                [store, coding]
+            }
+        }
+    }
+
+    /// The greatest need of any text.
+    fn greatest(&self) -> CodingRooms {
+        let mut model = Coder::default();
+        let codings = self.inputs.iter().map(|input| model.code(&Call { input, ..self.call }));
+        let exact = codings.map(|coding| CodingRooms::exact(&coding.expect("no refusal")));
+        exact.fold(CodingRooms::default(), |most, rooms| CodingRooms {
+            store: most.store.max(rooms.store),
+            coding: most.coding.max(rooms.coding),
+        })
+    }
+}
