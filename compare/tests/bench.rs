@@ -23,7 +23,9 @@ fn issues(name: &str) -> Vec<usize> {
 #[test]
 fn damaged_inputs_have_issues() {
     assert!(issues("crate-titles").iter().all(|&issues| issues == 0));
-    assert!(issues("crate-damaged").iter().all(|&issues| issues > 16));
+    let damaged = issues("crate-damaged");
+    assert_eq!((damaged.iter().min(), damaged.iter().max()), (Some(&27), Some(&80)));
+    assert_eq!(damaged.iter().filter(|&&issues| issues > 64).count(), 11);
     assert_eq!(issues("crate-damaged-long"), [8_191]);
 }
 

@@ -5,8 +5,8 @@ pub fn text_room(bytes: &[u8]) -> usize {
     4 * bytes.len() + 64
 }
 
-/// How many issues the first buffer for them holds.
-pub const ISSUE_ROOM: usize = 16;
+/// How many issues the first buffer for them holds, which is not allocated.
+pub const ISSUE_ROOM: usize = 64;
 
 /// Four times as much.
 pub fn larger<T: Clone + Default>(buffer: &[T]) -> Vec<T> {

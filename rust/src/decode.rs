@@ -150,25 +150,25 @@ pub fn decode_with(bytes: &[u8], opts: &DecodeOptions) -> Decoded {
 /// assert_eq!(refused.number, 3);
 /// ```
 pub fn try_decode_with(bytes: &[u8], opts: &DecodeOptions) -> Result<Decoded, Refused> {
-    match decode_in(text_room(bytes), ISSUE_ROOM, bytes, opts) {
+    let mut issues = [0; ISSUE_NUMBERS * ISSUE_ROOM];
+    match decode_in(text_room(bytes), &mut issues, bytes, opts) {
         Err(Refused { number: 8 | 9, .. }) => {
             let Measured { text, issues, .. } = measure_with(bytes, opts)?;
-            decode_in(text, issues, bytes, opts)
+            decode_in(text, &mut vec![0; ISSUE_NUMBERS * issues], bytes, opts)
         }
         answer => answer,
     }
 }
 
-/// Decodes a string with room for so many bytes of text and so many issues.
+/// Decodes a string with room for so many bytes of text, and for the issues that this buffer holds.
 fn decode_in(
     text: usize,
-    issues: usize,
+    issues: &mut [u32],
     bytes: &[u8],
     opts: &DecodeOptions,
 ) -> Result<Decoded, Refused> {
-    let (mut text, mut issues) = (vec![0; text], vec![0; ISSUE_NUMBERS * issues]);
-    let mut counts = [0; 4];
-    let number = ffi::decode(opts.call(bytes), &mut text, &mut issues, &mut counts);
+    let (mut text, mut counts) = (vec![0; text], [0; 4]);
+    let number = ffi::decode(opts.call(bytes), &mut text, issues, &mut counts);
     if number != 0 {
         return Err(Refused::new(number, &counts));
     }
