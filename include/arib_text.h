@@ -132,8 +132,9 @@ uint32_t arib_clean(const uint16_t *cells, size_t cells_len, uint32_t initial, u
 /* How much room a string takes: the counts of arib_decode in buffers that are large enough. counts:
  * place, bytes of text, issues, charge. In buffers of just those sizes, ARIB_ISSUE_NUMBERS numbers
  * an issue, arib_decode never answers 8 or 9; with a byte of text less it answers 8, with an issue
- * less 9, whatever remainder its buffer has. Needs no buffers, since neither text nor issues are
- * kept. Questions 1, 2, 3. Takes at most some 12,000 bytes of stack, as arib_decode does. */
+ * less 9, whatever remainder its buffer has. The bytes of text are also what the buffer of arib_key
+ * must hold. Needs no buffers, since neither text nor issues are kept. Questions 1, 2, 3. Takes at
+ * most some 12,000 bytes of stack, as arib_decode does. */
 uint32_t arib_measure(const uint16_t *cells, size_t cells_len, uint32_t initial, uint32_t width,
                       const uint8_t *input, size_t input_len, size_t *counts, size_t counts_len);
 
