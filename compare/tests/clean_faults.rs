@@ -1,16 +1,16 @@
 //! A subject with a fault in `arib_clean` is found out.
 
 mod asked;
+mod corners;
 mod faulty;
 mod found;
 
-use asked::{GOOD, MARK, TRUNCATED, call, change, leave, let_through, refused, refused_calls};
-use compare::call::{Call, under_all};
-use compare::decode::{AMPLE, Holder};
+use asked::{GOOD, MARK, TRUNCATED, change, leave, let_through, refused, refused_calls};
+use compare::call::Call;
+use compare::cells;
+use compare::decode::AMPLE;
 use compare::model::Reading;
-use compare::runs::Worker;
 use compare::subject::model;
-use compare::{cells, inputs};
 use faulty::{Asked, Faulty, SOUND};
 
 /// The first difference on this input, held against the Rust.
@@ -92,14 +92,9 @@ fn marks_that_are_forgotten() {
 /// What answers wrongly is found among the corners, by the model's issues too.
 #[test]
 fn faults_among_the_corners() {
-    let corners = inputs::every_corner();
     let found = |clean| {
         let subject = Faulty { clean, ..SOUND };
-        let mut holder = Holder::new(&subject);
-        corners.iter().flat_map(|input| under_all(cells::zeros(), input)).any(|call| {
-            holder.read(call);
-            holder.clean(call, AMPLE).is_err()
-        })
+        corners::differ(&subject, cells::zeros(), |holder, call| holder.clean(call, AMPLE))
     };
     assert!(!found(SOUND.clean));
     assert!([yes, no, forgets_marks, forgets_bodies].into_iter().all(found));
@@ -121,16 +116,8 @@ fn faults_in_a_refused_call() {
     }
 }
 
-/// Counts that do not fit are not written.
 #[test]
 fn fewer_counts() {
-    let (subject, call) = (Faulty { clean: no, ..SOUND }, call(&GOOD));
-    for room in 0..=AMPLE {
-        let mut holder = Holder::new(&SOUND);
-        holder.read(call);
-        assert!(holder.clean(call, room).is_ok());
-        let mut holder = Holder::new(&subject);
-        holder.read(call);
-        assert_eq!(holder.clean(call, room).is_err(), room > 1);
-    }
+    let subject = Faulty { clean: no, ..SOUND };
+    asked::fewer_counts(&subject, |holder, call, room| holder.clean(call, room));
 }

@@ -1,15 +1,16 @@
 //! A subject with a fault is found out.
 
+mod corners;
 mod faulty;
 mod found;
 
-use compare::call::{Call, Rooms, under_all};
+use compare::call::{Call, Rooms};
+use compare::cells;
 use compare::decode::Holder;
 use compare::model::ISSUE;
 use compare::runs::Worker;
 use compare::subject::Lent;
 use compare::tally::Positions;
-use compare::{cells, inputs};
 use faulty::{Faulty, SOUND};
 
 type Fault = fn(&mut Lent, &mut u32);
@@ -119,13 +120,9 @@ fn positions(lent: &mut Lent, place: fn(u32, usize, &str) -> usize) {
 /// The same faults throughout are found among the corners.
 #[test]
 fn faults_in_positions_among_the_corners() {
-    let corners = inputs::every_corner();
     let found = |reading: Fault| {
-        let subject = Faulty { reading, ..SOUND };
-        let mut holder = Holder::new(&subject);
-        corners.iter().flat_map(|input| under_all(cells::rusts(), input)).any(|call| {
-            holder.read(call);
-            holder.run(call, Rooms::exact(holder.reading())).is_err()
+        corners::differ(&Faulty { reading, ..SOUND }, cells::rusts(), |holder, call| {
+            holder.run(call, Rooms::exact(holder.reading()))
         })
     };
     assert!(!found(|lent, _| positions(lent, |_, at, _| at)));

@@ -2,16 +2,17 @@
 //! as `arib_measure` says, is found out.
 
 mod asked;
+mod corners;
 mod faulty;
 mod found;
 
 use asked::{GOOD, MARK, TRUNCATED, call, change, leave, let_through, refused, refused_calls};
-use compare::call::{Call, under_all};
+use compare::call::Call;
+use compare::cells;
 use compare::decode::{AMPLE, Holder};
 use compare::model::{ISSUE, Reading};
 use compare::runs::Worker;
 use compare::subject::{Lent, model};
-use compare::{cells, inputs};
 use faulty::{Asked, Faulty, SOUND};
 
 /// The first difference on this input, held against the Rust.
@@ -148,14 +149,9 @@ fn marks_that_are_forgotten() {
 /// What answers wrongly is found among the corners, by the model's reading too.
 #[test]
 fn faults_among_the_corners() {
-    let corners = inputs::every_corner();
     let found = |measure| {
         let subject = Faulty { measure, ..SOUND };
-        let mut holder = Holder::new(&subject);
-        corners.iter().flat_map(|input| under_all(cells::zeros(), input)).any(|call| {
-            holder.read(call);
-            holder.measure(call, AMPLE).is_err()
-        })
+        corners::differ(&subject, cells::zeros(), |holder, call| holder.measure(call, AMPLE))
     };
     let faults: [Asked; 7] = [
         marks_not_written,
@@ -206,18 +202,10 @@ fn a_question_that_is_not_put() {
     }
 }
 
-/// Counts that do not fit are not written.
 #[test]
 fn fewer_counts() {
-    let (subject, call) = (Faulty { measure: characters, ..SOUND }, call(&GOOD));
-    for room in 0..=AMPLE {
-        let mut holder = Holder::new(&SOUND);
-        holder.read(call);
-        assert!(holder.measure(call, room).is_ok());
-        let mut holder = Holder::new(&subject);
-        holder.read(call);
-        assert_eq!(holder.measure(call, room).is_err(), room > 1);
-    }
+    let subject = Faulty { measure: characters, ..SOUND };
+    asked::fewer_counts(&subject, |holder, call, room| holder.measure(call, room));
 }
 
 type Fault = fn(&mut Lent, &mut u32);
@@ -261,14 +249,9 @@ fn takes(lent: &Lent, number: &mut u32, remainder: usize) {
 /// Every remainder comes round among the corners.
 #[test]
 fn a_remainder_that_is_taken_for_an_issue() {
-    let corners = inputs::every_corner();
     let found = |reading: Fault| {
         let subject = Faulty { reading, ..SOUND };
-        let mut holder = Holder::new(&subject);
-        corners.iter().flat_map(|input| under_all(cells::rusts(), input)).any(|call| {
-            holder.read(call);
-            holder.exact(call).is_err()
-        })
+        corners::differ(&subject, cells::rusts(), |holder, call| holder.exact(call))
     };
     let faults: [Fault; ISSUE] = [
         |lent, number| takes(lent, number, 0),

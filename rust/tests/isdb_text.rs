@@ -56,6 +56,21 @@ fn buffers_grow() {
     assert_eq!(read.issues.len(), 100);
 }
 
+/// The first buffers just full, and one byte or one issue past: 4 bytes for each byte of the input
+/// and 64, and 64 issues. RPC writes 26 of the characters.
+#[test]
+fn first_buffers_are_full() {
+    let options = DecodeOptions::default();
+    let text = |bytes: &[u8]| decode_with(bytes, &options).text;
+    assert_eq!(text(&[0x98, 0x5A, 0xA2, 0xA2, 0xA2]), "あ".repeat(28));
+    assert_eq!(text(&[0x98, 0x5A, 0xA2, 0xA2]), "あ".repeat(27));
+    for count in [63, 64, 65] {
+        let read = decode_with(&vec![0xA0; count], &options);
+        assert_eq!((read.text.as_str(), read.issues.len()), ("", count));
+        assert!(read.issues.iter().map(|issue| issue.offset).eq(0..count));
+    }
+}
+
 /// A text whose search outgrows the first store.
 #[test]
 fn store_grows() {
