@@ -16,7 +16,7 @@ pub enum CleanAnswer {
 }
 
 /// The answer, by how many issues there are.
-fn verdict(issues: usize) -> CleanAnswer
+fn verdict(issues: u32) -> CleanAnswer
     ensures { λ r. ⌜ r ≡ verdictOf issues ⌝ }
 {
     if issues == 0 {

@@ -18,7 +18,7 @@ use Rattle.decode_read.specs.declared.Counts.{Counts}
 use Rattle.decode_read.specs.Contracts.{Counted, Read}
 use Rattle.decode.specs.declared.call.Answer.{Answer}
 use Rattle.decode.specs.declared.call.Answer.the-variants.{Decoded}
-use Rattle.decode.specs.Answers.{fitsIn, numberOf, placeOf, textOf, issuesOf, chargedOf, lent, Refuses, Answers, Answered}
+use Rattle.decode.specs.Answers.{fitsIn, numberOf, placeOf, textOf, issuesOf, chargedOf, privateUseOf, lent, Refuses, Answers, Answered}
 
 -- ---- the answer, from what was written
 
@@ -41,6 +41,7 @@ module _ (s : State) (t₀ i₀ : List ℕ) (n : Counts) (t i : List ℕ) (h : C
       ap textOf (v .answer),
       ap issuesOf (v .answer),
       ap chargedOf (v .answer),
+      ap privateUseOf (v .answer),
       v .text ∙ ap (λ (n : ℕ). padded n []) as-long,
       v .issues ∙ ap (λ (n : ℕ). padded n []) as-many,
     );
@@ -64,7 +65,7 @@ module _ (s : State) (t₀ i₀ : List ℕ) (n : Counts) (t i : List ℕ) (h : C
 
   -- both fit
   pub finish-0 : (t′ i′ : List ℕ) → n .text ≤ length t → n .issues * numbers ≤ length i → t′ ≡ cleared t (n .text) → i′ ≡ cleared i (n .issues * numbers)
-      → Answers s (length t₀) (length i₀) (Decoded (n .text) (n .issues) (n .charged)) t′ i′
+      → Answers s (length t₀) (length i₀) (Decoded (n .text) (n .issues) (n .charged) (n .private_use)) t′ i′
   unfolding fitsIn
   finish-0 t′ i′ k l x y =
       let p : length (utf8s (s .out .text)) ≤ length t₀ = omega (arith, k, h .text, as-long) in
@@ -78,6 +79,7 @@ module _ (s : State) (t₀ i₀ : List ℕ) (n : Counts) (t i : List ℕ) (h : C
           h .text,
           h .issues,
           h .charged,
+          h .private-use,
           x ∙ rw (h .written, h .text) (clear-past t₀ (utf8s (s .out .text)) p),
           y ∙ rw (h .listed, e) (clear-past i₀ (issuesNumbers (s .out .issues)) q),
         );
@@ -106,8 +108,9 @@ answered c r t i z v = go (fitsIn (length (utf8s (reading c .out .text))) (lengt
           counted = w .0 ∙ sym (ap (λ (z : Outcome). z .text) x);
           reported = w .1 ∙ sym (ap (λ (z : Outcome). z .issues) x);
           charged = w .2 ∙ sym (ap (λ (z : Outcome). z .charged) x);
-          written = w .3 ∙ sym (ap (λ (z : Outcome). z .textBuffer) x);
-          listed = w .4 ∙ sym (ap (λ (z : Outcome). z .issueBuffer) x);
+          private-use = w .3 ∙ sym (ap (λ (z : Outcome). z .privateUse) x);
+          written = w .4 ∙ sym (ap (λ (z : Outcome). z .textBuffer) x);
+          listed = w .5 ∙ sym (ap (λ (z : Outcome). z .issueBuffer) x);
         }
     go (suc q) e =
         let n : numberOf r ≡ suc q = v .number ∙ e in
@@ -120,8 +123,9 @@ answered c r t i z v = go (fitsIn (length (utf8s (reading c .out .text))) (lengt
           counted = w .0 ∙ sym (ap (λ (z : Outcome). z .text) x);
           reported = w .1 ∙ sym (ap (λ (z : Outcome). z .issues) x);
           charged = w .2 ∙ sym (ap (λ (z : Outcome). z .charged) x);
-          written = w .3 ∙ sym (ap (λ (z : Outcome). z .textBuffer) x);
-          listed = w .4 ∙ sym (ap (λ (z : Outcome). z .issueBuffer) x);
+          private-use = w .3 ∙ sym (ap (λ (z : Outcome). z .privateUse) x);
+          written = w .4 ∙ sym (ap (λ (z : Outcome). z .textBuffer) x);
+          listed = w .5 ∙ sym (ap (λ (z : Outcome). z .issueBuffer) x);
         }
 
 -- one of questions 1 to 3 fails
@@ -139,6 +143,7 @@ refused c (suc q) r ti ii t i z k a b v =
       counted = ap textOf (v .answer) ∙ sym (ap (λ (y : Outcome). y .text) x);
       reported = ap issuesOf (v .answer) ∙ sym (ap (λ (y : Outcome). y .issues) x);
       charged = ap chargedOf (v .answer) ∙ sym (ap (λ (y : Outcome). y .charged) x);
+      private-use = ap privateUseOf (v .answer) ∙ sym (ap (λ (y : Outcome). y .privateUse) x);
       written = v .text ∙ ap (λ (n : ℕ). padded n []) a ∙ sym (ap (λ (y : Outcome). y .textBuffer) x);
       listed = v .issues ∙ ap (λ (n : ℕ). padded n []) b ∙ sym (ap (λ (y : Outcome). y .issueBuffer) x);
     }

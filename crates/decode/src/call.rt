@@ -11,13 +11,14 @@ ghost use Rattle.reading.specs.Call.{escapePart};
 ghost use Rattle.decode_read.specs.Contracts.{Counted};
 ghost use Rattle.decode.specs.Answers.{lent, Refuses, Answers, Answered};
 
-/// What a decoding call answers: the text's bytes, the issues and the charge, or the number of the
-/// first question that it fails, with its place.
+/// What a decoding call answers: the text's bytes, the issues, the charge and the private-use
+/// characters, or the number of the first question that it fails, with its place.
 pub enum Answer {
     Decoded {
         text: usize,
         issues: usize,
         charged: usize,
+        private_use: usize,
     },
     Refused {
         number: u32,
@@ -55,6 +56,7 @@ fn finish(counts: Counts, text: &mut [u8], issues: &mut [u32]) -> Answer
         text: n,
         issues: k,
         charged: counts.charged,
+        private_use: counts.private_use,
     }
 }
 

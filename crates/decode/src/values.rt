@@ -1,7 +1,7 @@
 // The values of an answer by case: 0 where the case has none.
 use crate::call::Answer;
 ghost use mathlib.Core.Path.{_≡_};
-ghost use Rattle.decode.specs.Answers.{numberOf, placeOf, textOf, issuesOf, chargedOf};
+ghost use Rattle.decode.specs.Answers.{numberOf, placeOf, textOf, issuesOf, chargedOf, privateUseOf};
 
 /// The number of the refusal.
 pub fn number(answer: Answer) -> u32
@@ -12,6 +12,7 @@ pub fn number(answer: Answer) -> u32
             text: _,
             issues: _,
             charged: _,
+            private_use: _,
         } => 0,
         Answer::Refused { number, place: _ } => number,
     }
@@ -26,6 +27,7 @@ pub fn place(answer: Answer) -> usize
             text: _,
             issues: _,
             charged: _,
+            private_use: _,
         } => 0,
         Answer::Refused { number: _, place } => place,
     }
@@ -40,6 +42,7 @@ pub fn text(answer: Answer) -> usize
             text,
             issues: _,
             charged: _,
+            private_use: _,
         } => text,
         Answer::Refused {
             number: _,
@@ -57,6 +60,7 @@ pub fn issues(answer: Answer) -> usize
             text: _,
             issues,
             charged: _,
+            private_use: _,
         } => issues,
         Answer::Refused {
             number: _,
@@ -74,7 +78,26 @@ pub fn charged(answer: Answer) -> usize
             text: _,
             issues: _,
             charged,
+            private_use: _,
         } => charged,
+        Answer::Refused {
+            number: _,
+            place: _,
+        } => 0,
+    }
+}
+
+/// The private-use characters.
+pub fn private_use(answer: Answer) -> usize
+    ensures { λ r. ⌜ r ≡ privateUseOf answer ⌝ }
+{
+    match answer {
+        Answer::Decoded {
+            text: _,
+            issues: _,
+            charged: _,
+            private_use,
+        } => private_use,
         Answer::Refused {
             number: _,
             place: _,

@@ -64,7 +64,7 @@ pub record Grown (n e : ℕ) (c r : Core) : Type 0 where
   pub gr : r .gr < 4
   pub enough : r .enough ≡ c .enough
   pub within : r .charged ≤ n
-  pub ordered : r .out .len ≤ r .out .end
+  pub ordered : output.Ordered (r .out)
   pub repeat : r .out .repeat ≤ 63
   pub text : r .out .end + 256 * (n - r .charged) ≤ c .out .end + 256 * (n - c .charged + e)
   pub issues : r .out .issues + (n - r .charged) ≤ c .out .issues + (n - c .charged + e)

@@ -3,8 +3,11 @@ use decode_state::Core;
 use issues::IssueKind;
 use tables::Cell;
 ghost use Prim.Native.Nat.{ℕ};
+ghost use mathlib.Core.Path.{_≡_};
+ghost use mathlib.Core.Bool.{true, false};
 ghost use mathlib.Core.List.{List};
-ghost use Rattle.tables.specs.Kanji.{CellReads};
+ghost use Rattle.private_use.specs.PrivateUse.{isPrivateUse};
+ghost use Rattle.tables.specs.Kanji.{CellReads, Classed};
 ghost use Rattle.decode_output.specs.Output.{emit, mark};
 ghost use Rattle.reading.specs.State.{issue, placeholder, writes};
 ghost use Rattle.reading.specs.Characters.{emitOr, cellOr, mosaic};
@@ -42,9 +45,10 @@ pub fn report_placeholder(
     r
 }
 
-/// A character.
+/// An ordinary character.
 fn show(c: u32, s: Core, text: &mut [u8]) -> Core
     requires { ⌜ MayTake 1 s ⌝ }
+    requires { ⌜ isPrivateUse c ≡ false ⌝ }
     ensures { λ r. ⌜ ((cells i : List ℕ) → Did cells (λ g. writes (emit c)) s (now (text .entry)) i r (now (text .exit)) i) ⌝ }
 {
     let out = s.out;
@@ -54,9 +58,23 @@ fn show(c: u32, s: Core, text: &mut [u8]) -> Core
     r
 }
 
+/// A private-use character, which is counted.
+fn show_private_use(c: u32, s: Core, text: &mut [u8]) -> Core
+    requires { ⌜ MayTake 1 s ⌝ }
+    requires { ⌜ isPrivateUse c ≡ true ⌝ }
+    ensures { λ r. ⌜ ((cells i : List ℕ) → Did cells (λ g. writes (emit c)) s (now (text .entry)) i r (now (text .exit)) i) ⌝ }
+{
+    let out = s.out;
+    let shown = decode_output::emit_private_use(out, c, text);
+    let mut r = s;
+    r.out = shown;
+    r
+}
+
 /// A mark waits for its base. 7.1.1.4.
 fn wait(c: u32, at: u32, s: Core, text: &mut [u8]) -> Core
     requires { ⌜ MayTake 1 s ⌝ }
+    requires { ⌜ isPrivateUse c ≡ false ⌝ }
     ensures { λ r. ⌜ ((cells i : List ℕ) → Did cells (λ g. writes (mark c at)) s (now (text .entry)) i r (now (text .exit)) i) ⌝ }
 {
     let out = s.out;
@@ -84,7 +102,7 @@ pub fn report_mosaic(set: u8, c: u8, at: u32, s: Core, issues: &mut [u32]) -> Co
     r
 }
 
-/// A character, 0 for none.
+/// An ordinary character, 0 for none.
 pub fn emit_or(
     c: u32,
     kind: IssueKind,
@@ -94,6 +112,7 @@ pub fn emit_or(
     issues: &mut [u32],
 ) -> Core
     requires { ⌜ MayTake 1 s ⌝ }
+    requires { ⌜ isPrivateUse c ≡ false ⌝ }
     ensures { λ r. ⌜ ((cells : List ℕ) → Did cells (λ g. emitOr kind c at) s (now (text .entry)) (now (issues .entry)) r (now (text .exit)) (now (issues .exit))) ⌝ }
 {
     if c == 0 {
@@ -102,7 +121,7 @@ pub fn emit_or(
     show(c, s, text)
 }
 
-/// What a cell reads as: a mark waits, another character is written.
+/// What a cell reads as: a mark waits, another character is written, and counted where it is private-use.
 pub fn cell_or(
     cell: Cell,
     kind: IssueKind,
@@ -112,6 +131,7 @@ pub fn cell_or(
     issues: &mut [u32],
 ) -> Core
     requires { ⌜ MayTake 1 s ⌝ }
+    requires { ⌜ Classed cell ⌝ }
     ensures { λ r. ⌜ ((cells : List ℕ) (x : ℕ) → CellReads cell x → Did cells (λ g. cellOr kind x at) s (now (text .entry)) (now (issues .entry)) r (now (text .exit))
         (now (issues .exit))) ⌝ }
 {
@@ -122,6 +142,7 @@ pub fn cell_or(
             }
             show(c, s, text)
         }
+        Cell::PrivateUse(c) => show_private_use(c, s, text),
         Cell::Undefined => report_placeholder(at, kind, s, text, issues),
     }
 }

@@ -1,7 +1,7 @@
 -- The definitions of reading/specs/Characters by cases: what reading a code and writing its character have in common. Assumes nothing.
 use Prim.Native.Nat.{ℕ, zero, suc, _+_, _-_, _*_, _/_, _%_, _≤_, _<_}
 use mathlib.Core.Path.{_≡_, refl, sym, ap, _∙_}
-use mathlib.Core.Bool.{Bool, true, false, cond, _&&_, _||_}
+use mathlib.Core.Bool.{Bool, true, false, false≢true, cond, _&&_, _||_}
 use mathlib.Core.List.{List}
 use native.Mathlib.Omega.{arith}
 use borrow.Author.Tests.{eqb-true, leb-true, ne-eqb, lt-leb}
@@ -138,3 +138,27 @@ module _ (g : Given) (left : ℕ) (R : Run) (z x : ℕ) (rest : List ℕ) (at : 
   pub graphic-one : eqb (bytesPerChar z) 2 ≡ false → graphicOf g left R z x rest at s ≡ took 1 (char1 g left R z (x % 128) at s)
   unfolding graphicOf
   graphic-one e = rw e
+
+-- ---- which table a two-byte set reads
+
+module _ (cells : List ℕ) (z row cell : ℕ) where
+  pub cell-kanji : (eqb z 0 || (eqb z 12 && leb row 84)) ≡ true → cellAt cells z row cell ≡ kanjiAt cells row cell
+  unfolding cellAt
+  cell-kanji = go (eqb z 0) refl (eqb z 12) refl
+    where
+      go : (a : Bool) → eqb z 0 ≡ a → (b : Bool) → eqb z 12 ≡ b → (a || (b && leb row 84)) ≡ true → cellAt cells z row cell ≡ kanjiAt cells row cell
+      go true p b q h = rw p
+      go false p true q h = rw (p, ne-eqb z 14 (λ e. omega (arith, e, eqb-true z 12 q)), q, h)
+      go false p false q h = absurd (false≢true h)
+
+  pub cell-symbol : z ≡ 14 → cellAt cells z row cell ≡ symbol row cell
+  unfolding cellAt
+  cell-symbol e = rw e
+
+  pub cell-none : (eqb z 0 || (eqb z 12 && leb row 84)) ≡ false → (z ≡ 14 → ⊥) → cellAt cells z row cell ≡ 0
+  unfolding cellAt
+  cell-none h f = go (eqb z 0) refl h
+    where
+      go : (a : Bool) → eqb z 0 ≡ a → (a || (eqb z 12 && leb row 84)) ≡ false → cellAt cells z row cell ≡ 0
+      go true p k = absurd (false≢true (sym k))
+      go false p k = rw (p, ne-eqb z 14 f, k)

@@ -6,7 +6,7 @@ use tables_onebyte::OneByteChar;
 ghost use mathlib.Core.Path.{_≡_};
 ghost use mathlib.Core.Bool.{_||_, _&&_};
 ghost use Prim.Native.Nat.{ℕ, _+_, _*_, _/_};
-ghost use lib.Dec.{eqb};
+ghost use lib.Dec.{eqb, leb};
 ghost use Rattle.sets.specs.Sets.{bytesPerChar};
 ghost use Rattle.tables.specs.Kanji.{CellReads};
 ghost use Rattle.tables_onebyte.specs.OneByte.{OneByteReads};
@@ -93,26 +93,28 @@ pub fn letter_at(narrow: bool, set: u8, c: u8) -> u32
     }
 }
 
-/// The cell of JIS compatible Kanji plane 1, of which rows 1 to 84 are those of the Kanji set. 7.1.1.3.
-fn plane1(cells: &[u16], row: u8, cell: u8) -> Cell
-    ensures { λ r. ⌜ CellReads r (cellAt (now (cells .entry)) 12 row cell) ⌝ }
+/// Whether a set reads as the Kanji set at a row: of JIS compatible Kanji plane 1 the rows 1 to 84 do. 7.1.1.3.
+fn reads_kanji(set: u8, row: u8) -> bool
+    ensures { λ r. ⌜ r ≡ (eqb set 0 || (eqb set 12 && leb row 84)) ⌝ }
 {
-    if row <= 84 {
-        return tables::kanji(cells, row, cell);
+    match set {
+        0 => true,
+        12 => row <= 84,
+        _ => false,
     }
-    Cell::Undefined
 }
 
 /// The cell of a two-byte set at a row and a cell. Tables 7-4, 7-10, 7-11.
 pub fn cell_at(cells: &[u16], set: u8, row: u8, cell: u8) -> Cell
     ensures { λ r. ⌜ CellReads r (cellAt (now (cells .entry)) set row cell) ⌝ }
 {
-    match set {
-        0 => tables::kanji(cells, row, cell),
-        12 => plane1(cells, row, cell),
-        14 => tables::additional_symbols(row, cell),
-        _ => Cell::Undefined,
+    if reads_kanji(set, row) {
+        return tables::kanji(cells, row, cell);
     }
+    if set == 14 {
+        return tables::additional_symbols(row, cell);
+    }
+    Cell::Undefined
 }
 
 /// The two bytes of a code as 16 bits.

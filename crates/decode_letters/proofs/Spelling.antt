@@ -26,10 +26,15 @@ use Rattle.utf8.specs.Utf8.{utf8}
 use Rattle.utf8.proofs.Bytes.{row1, row2, row3, length-utf8}
 use Rattle.tables.proofs.KanjiLaws.{on-grid, rows-3-89}
 use Rattle.tables.proofs.MarkLaws.{no-mark}
+use Rattle.private_use.specs.PrivateUse.{isPrivateUse}
+use Rattle.private_use.proofs.Laws.{below}
+use Rattle.tables.specs.declared.Cell.{Cell}
+use Rattle.tables.specs.declared.Cell.the-variants.{Char, PrivateUse, Undefined}
 use Rattle.decode_codes.specs.Codes.{cellAt, issueOf}
+use Rattle.decode_codes.proofs.Letters.{letter-ordinary}
 use Rattle.decode_codes.proofs.Laws.{in-area, emit-some, char2-as, char1-letter, graphic2-pair, graphic-two, graphic-one}
 use Rattle.decode_letters.specs.declared.Invoked.{Invoked}
-use Rattle.decode_letters.specs.Contracts.{Pair, Ideograph, Sees, Spells, Reads}
+use Rattle.decode_letters.specs.Contracts.{LetterCell, Pair, PairReads, Ideograph, Sees, Spells, Reads, Takes}
 
 -- ---- a byte of GL or GR reads through the set there
 
@@ -152,6 +157,10 @@ module _ (z c : ℕ) where
 pub letter-of : {z c l : ℕ} (narrow : Bool) → l ≡ letter narrow z c → (l ≡ 0 → ⊥) → c < 128 → Letter z c l
 letter-of {z} {c} narrow e f h = subst (Letter z c) (sym e) (letter-found z c h narrow (λ q. f (e ∙ q)))
 
+-- none is private-use
+pub letter-plain : (narrow : Bool) (z c : ℕ) {l : ℕ} → l ≡ letter narrow z c → isPrivateUse l ≡ false
+letter-plain narrow z c e = ap isPrivateUse e ∙ letter-ordinary narrow z c
+
 -- ---- their bytes
 
 pub three-bytes : (c : ℕ) → 0x800 ≤ c → c < 0x10000 → 3 ≡ length (utf8 c)
@@ -247,35 +256,50 @@ three-most c h = go (ltb c 0x800) refl
 
 module _ (cells b : List ℕ) (j to : ℕ) (v : Invoked) (inside : j < to) where
   module _ {z : ℕ} (byte : getD b j 0 < 256) (e : z ≡ cond (ltb (getD b j 0) 128) (v .gl) (v .gr)) where
-    pub reads-letter : {l : ℕ} → l ≡ letter (v .narrow) z (getD b j 0 % 128) → (l ≡ 0 → ⊥) → Reads cells b j to v 1 l
+    reads-letter : {l : ℕ} → l ≡ letter (v .narrow) z (getD b j 0 % 128) → (l ≡ 0 → ⊥) → Reads cells b j to v 1 l
     reads-letter q f =
         let w = letter-of (v .narrow) q f (omega arith) in
         record { some = omega arith; within = omega arith; most = three-most _ (w .small); spells = spells-letter cells b j v byte e q f w }
 
-    pub reads-pair : {c : ℕ} → eqb (bytesPerChar z) 2 ≡ true → j + 1 < to → Pair cells b j z c → Reads cells b j to v 2 c
+    reads-pair : {c : ℕ} → eqb (bytesPerChar z) 2 ≡ true → j + 1 < to → Pair cells b j z c → Reads cells b j to v 2 c
     reads-pair {c} two h w =
         record { some = omega arith; within = omega arith; most = omega (arith, length-utf8 c .most); spells = spells-pair cells b j v byte e two w }
 
-  in-BMP : (u : Bool) → cond u 0x20 0x3000 < 0x10000
-  in-BMP true = omega arith
-  in-BMP false = omega arith
+    pub takes-letter : {l : ℕ} (x : Cell) → l ≡ letter (v .narrow) z (getD b j 0 % 128) → LetterCell x l → Takes cells b j to v 1 x
+    takes-letter (Char c) q f = let i = sym (f .0) ∙ q in (reads-letter i (f .1), letter-plain (v .narrow) z (getD b j 0 % 128) i)
+    takes-letter (PrivateUse c) q f = absurd f
+    takes-letter Undefined q f = tt
 
-  pub reads-space : {l : ℕ} → getD b j 0 ≡ SP → l ≡ cond (v .narrow) 0x20 0x3000 → Reads cells b j to v 1 l
-  reads-space {l} e q =
-      let h : l < 0x10000 = omega (arith, in-BMP (v .narrow)) in
-      record { some = omega arith; within = omega arith; most = three-most l h; spells = spells-space cells b j v e q }
+    pub takes-pair : (x : Cell) → eqb (bytesPerChar z) 2 ≡ true → PairReads cells b j to z x → Takes cells b j to v 2 x
+    takes-pair (Char c) two w = (reads-pair two (w .0) (w .1), w .2)
+    takes-pair (PrivateUse c) two w = (reads-pair two (w .0) (w .1), w .2)
+    takes-pair Undefined two w = tt
 
-  pub reads-newline : getD b j 0 ≡ APR → Reads cells b j to v 1 0x0A
-  reads-newline e = record { some = omega arith; within = omega arith; most = three-most 0x0A (omega arith); spells = spells-newline cells b j v e }
+  low-space : (u : Bool) → cond u 0x20 0x3000 < 0xE000
+  low-space true = omega arith
+  low-space false = omega arith
+
+  pub takes-space : {l : ℕ} → getD b j 0 ≡ SP → l ≡ cond (v .narrow) 0x20 0x3000 → Takes cells b j to v 1 (Char l)
+  takes-space {l} e q =
+      let h : l < 0xE000 = omega (arith, low-space (v .narrow)) in
+      let k : l < 0x10000 = omega arith in
+      (record { some = omega arith; within = omega arith; most = three-most l k; spells = spells-space cells b j v e q }, below l h)
+
+  pub takes-newline : getD b j 0 ≡ APR → Takes cells b j to v 1 (Char 0x0A)
+  takes-newline e = (
+    record { some = omega arith; within = omega arith; most = three-most 0x0A (omega arith); spells = spells-newline cells b j v e },
+    below 0x0A (omega arith),
+  )
 
 -- ---- ideographs
 
 -- the Kanji set's rows 3 to 84, and the place of a cell in the lent table
 module _ (cells b : List ℕ) (i : ℕ) (first : getD b i 0 < 256) (second : getD b (i + 1) 0 < 256) where
   pub ideograph : let x = getD b i 0 % 128 in let y = getD b (i + 1) 0 % 128 in let c = getD cells ((x - 0x21) * 94 + (y - 0x21)) 0 in i + 1 < length b
-      → getD b i 0 / 128 ≡ getD b (i + 1) 0 / 128 → 0x23 ≤ x → x ≤ 0x74 → 0x21 ≤ y → y ≤ 0x7E → 0x3000 ≤ c → c < 0x10000 → Ideograph cells b i c
+      → getD b i 0 / 128 ≡ getD b (i + 1) 0 / 128 → 0x23 ≤ x → x ≤ 0x74 → 0x21 ≤ y → y ≤ 0x7E → 0x3000 ≤ c → isPrivateUse c ≡ false → c < 0x10000
+      → Ideograph cells b i c
   unfolding cellAt kanjiAt
-  ideograph h area a d e f low high =
+  ideograph h area a d e f low ordinary high =
       let x = getD b i 0 % 128 in
       let y = getD b (i + 1) 0 % 128 in
       let p : x - 0x20 - 1 ≡ x - 0x21 = omega arith in
@@ -293,6 +317,7 @@ module _ (cells b : List ℕ) (i : ℕ) (first : getD b i 0 < 256) (second : get
               some = λ z. omega arith;
               spacing = no-mark _ (λ _. omega arith);
             };
+        ordinary = ordinary;
         low = low;
         high = high;
       }

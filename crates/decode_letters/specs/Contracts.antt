@@ -5,7 +5,10 @@ use mathlib.Core.Bool.{true, false, _&&_}
 use mathlib.Core.List.{List, []}
 use lib.Dec.{eqb}
 use lib.ListN.{length, drop, getD}
+use Rattle.private_use.specs.PrivateUse.{isPrivateUse}
 use Rattle.tables.specs.Kanji.{nonSpacing, hasCharacter}
+use Rattle.tables.specs.declared.Cell.{Cell}
+use Rattle.tables.specs.declared.Cell.the-variants.{Char, PrivateUse, Undefined}
 use Rattle.utf8.specs.Utf8.{utf8}
 use Rattle.decode_output.specs.Output.{emit}
 use Rattle.reading.specs.State.{Given, State, took, writes, isNarrow}
@@ -15,9 +18,17 @@ use Rattle.reading.specs.Steps.{step}
 use Rattle.decode_codes.specs.Codes.{cellAt}
 use Rattle.decode_letters.specs.declared.Invoked.{Invoked}
 
--- r, where it is not 0, is the character x of a cell, and no mark
-abbrev pub Spacing : ℕ → ℕ → Type 0
-Spacing x r = (r ≡ 0 → ⊥) → (x ≡ r) × (hasCharacter nonSpacing r ≡ false)
+-- an answer, where it is a character, is the character x of a cell, and no mark
+abbrev pub Spacing : ℕ → Cell → Type 0
+Spacing x (Char c) = (x ≡ c) × (c ≡ 0 → ⊥) × (hasCharacter nonSpacing c ≡ false) × (isPrivateUse c ≡ false)
+Spacing x (PrivateUse c) = (x ≡ c) × (c ≡ 0 → ⊥) × (hasCharacter nonSpacing c ≡ false) × (isPrivateUse c ≡ true)
+Spacing x Undefined = Unit {0}
+
+-- an answer of the letter c, 0 for none
+abbrev pub LetterCell : Cell → ℕ → Type 0
+LetterCell (Char c) l = (l ≡ c) × (c ≡ 0 → ⊥)
+LetterCell (PrivateUse c) l = ⊥
+LetterCell Undefined l = l ≡ 0
 
 -- the bytes i and i + 1 of b are a code of a two-byte set ("A two-byte character needs its second byte in the same half"), at which the set z has
 -- the character c, no mark
@@ -29,9 +40,16 @@ pub record Pair (cells b : List ℕ) (i z c : ℕ) : Type 0 where
   pub some : c ≡ 0 → ⊥
   pub spacing : hasCharacter nonSpacing c ≡ false
 
--- such a character of the Kanji set, from U+3000 to U+FFFF: three bytes
+-- an answer, where it is a character, is such a character before the byte `to`
+abbrev pub PairReads : List ℕ → List ℕ → ℕ → ℕ → ℕ → Cell → Type 0
+PairReads cells b i to z (Char c) = (i + 1 < to) × Pair cells b i z c × (isPrivateUse c ≡ false)
+PairReads cells b i to z (PrivateUse c) = (i + 1 < to) × Pair cells b i z c × (isPrivateUse c ≡ true)
+PairReads cells b i to z Undefined = Unit {0}
+
+-- such a character of the Kanji set, from U+3000 to U+FFFF and not private-use: three bytes
 pub record Ideograph (cells b : List ℕ) (i c : ℕ) : Type 0 where
   pub pair : Pair cells b i 0 c
+  pub ordinary : isPrivateUse c ≡ false
   pub low : 0x3000 ≤ c
   pub high : c < 0x10000
 
@@ -55,3 +73,9 @@ pub record Reads (cells b : List ℕ) (j to : ℕ) (v : Invoked) (u l : ℕ) : T
   pub within : j + u ≤ to
   pub most : length (utf8 l) ≤ 3 * u
   pub spells : Spells cells b j v u l
+
+-- an answer of u bytes, where it is a character, is what is read there
+abbrev pub Takes : List ℕ → List ℕ → ℕ → ℕ → Invoked → ℕ → Cell → Type 0
+Takes cells b j to v u (Char c) = Reads cells b j to v u c × (isPrivateUse c ≡ false)
+Takes cells b j to v u (PrivateUse c) = Reads cells b j to v u c × (isPrivateUse c ≡ true)
+Takes cells b j to v u Undefined = Unit {0}

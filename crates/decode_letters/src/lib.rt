@@ -12,7 +12,7 @@ ghost use lib.Seq.{sets};
 ghost use Rattle.utf8.specs.Utf8.{utf8};
 ghost use Rattle.tables.specs.Kanji.{CellReads};
 ghost use Rattle.reading.specs.Characters.{isGraphic, letter};
-ghost use Rattle.decode_letters.specs.Contracts.{Spacing, Pair, Ideograph, Reads};
+ghost use Rattle.decode_letters.specs.Contracts.{Spacing, LetterCell, PairReads, Ideograph, Takes};
 
 /// The sets that are invoked in GL and GR, and whether alphanumerics and SP are narrow.
 pub struct Invoked {
@@ -21,9 +21,9 @@ pub struct Invoked {
     pub narrow: bool,
 }
 
-/// A character, 0 for none, and the bytes that it takes.
+/// A character, or none, and the bytes that it takes.
 pub struct Taken {
-    pub scalar: u32,
+    pub cell: Cell,
     pub used: usize,
 }
 
@@ -37,8 +37,8 @@ pub fn set_of(x: u8, gl: u8, gr: u8) -> u8
     gr
 }
 
-/// The character of the Kanji set at the bytes `i` and `i + 1`, of rows 3 to 84, which the lent table alone decides, and
-/// from U+3000 on; 0 for any other.
+/// The character of the Kanji set at the bytes `i` and `i + 1`, of rows 3 to 84, which the lent table alone decides, from
+/// U+3000 on and before the private-use ones; 0 for any other.
 pub fn kanji_at(cells: &[u16], b: &[u8], i: usize) -> u32
     requires { ⌜ (i < length (now b)) × (8836 ≤ length (now cells)) ⌝ }
     ensures { λ r. ⌜ ((r ≡ 0 → ⊥) → Ideograph (now (cells .entry)) (now (b .entry)) i r) ⌝ }
@@ -66,10 +66,10 @@ pub fn kanji_at(cells: &[u16], b: &[u8], i: usize) -> u32
         return 0;
     }
     let c = cells[(row - 0x21) * 94 + (cell - 0x21)] as u32;
-    if c < 0x3000 {
-        return 0;
+    match c {
+        0x3000..=0xDFFF => c,
+        _ => 0,
     }
-    c
 }
 
 /// The letter of the alphanumeric, the hiragana or the katakana set, with which a reading begins; 0 for any other.
@@ -94,28 +94,39 @@ pub fn put3(text: &mut [u8], at: usize, c: u32)
     text[at + 2] = (0x80 + c % 64) as u8;
 }
 
-/// The character of a cell, 0 for none and for a mark.
-fn spacing(cell: Cell) -> u32
+/// What a cell reads as, none for a mark.
+fn spacing(cell: Cell) -> Cell
     ensures { λ r. ⌜ ((x : ℕ) → CellReads cell x → Spacing x r) ⌝ }
 {
     match cell {
         Cell::Char(c) => {
             if tables::is_non_spacing(c).mark {
-                return 0;
+                return Cell::Undefined;
             }
-            c
+            Cell::Char(c)
         }
-        Cell::Undefined => 0,
+        Cell::PrivateUse(c) => Cell::PrivateUse(c),
+        Cell::Undefined => Cell::Undefined,
     }
 }
 
-/// The character of a two-byte set at the bytes `i` and `i + 1`, before the byte `to`; 0 for any other.
-fn pair_at(cells: &[u16], b: &[u8], i: usize, to: usize, set: u8) -> u32
+/// A letter, 0 for none, as a cell.
+fn letter(c: u32) -> Cell
+    ensures { λ r. ⌜ LetterCell r c ⌝ }
+{
+    if c == 0 {
+        return Cell::Undefined;
+    }
+    Cell::Char(c)
+}
+
+/// The character of a two-byte set at the bytes `i` and `i + 1`, before the byte `to`; none for a mark.
+fn pair_at(cells: &[u16], b: &[u8], i: usize, to: usize, set: u8) -> Cell
     requires { ⌜ (i < to) × (to ≤ length (now b)) × (isGraphic (getD (now b) i 0) ≡ true) ⌝ }
-    ensures { λ r. ⌜ ((r ≡ 0 → ⊥) → (i + 1 < to) × Pair (now (cells .entry)) (now (b .entry)) i set r) ⌝ }
+    ensures { λ r. ⌜ PairReads (now (cells .entry)) (now (b .entry)) i to set r ⌝ }
 {
     if i + 1 >= to {
-        return 0;
+        return Cell::Undefined;
     }
     let x = b[i];
     let y = b[i + 1];
@@ -124,24 +135,24 @@ fn pair_at(cells: &[u16], b: &[u8], i: usize, to: usize, set: u8) -> u32
         let cell = y % 128 - 0x20;
         return spacing(decode_codes::cell_at(cells, set, row, cell));
     }
-    0
+    Cell::Undefined
 }
 
 /// The character of a set in GL or GR at the byte `i`.
 fn graphic(cells: &[u16], b: &[u8], i: usize, to: usize, sets: Invoked) -> Taken
     requires { ⌜ (i < to) × (to ≤ length (now b)) × (isGraphic (getD (now b) i 0) ≡ true) ⌝ }
-    ensures { λ r. ⌜ ((r .scalar ≡ 0 → ⊥) → Reads (now (cells .entry)) (now (b .entry)) i to sets (r .used) (r .scalar)) ⌝ }
+    ensures { λ r. ⌜ Takes (now (cells .entry)) (now (b .entry)) i to sets (r .used) (r .cell) ⌝ }
 {
     let x = b[i];
     let set = set_of(x, sets.gl, sets.gr);
     if decode_codes::two_bytes(set) {
         return Taken {
-            scalar: pair_at(cells, b, i, to, set),
+            cell: pair_at(cells, b, i, to, set),
             used: 2,
         };
     }
     Taken {
-        scalar: decode_codes::letter_at(sets.narrow, set, x % 128),
+        cell: letter(decode_codes::letter_at(sets.narrow, set, x % 128)),
         used: 1,
     }
 }
@@ -156,19 +167,22 @@ fn space(narrow: bool) -> u32
 /// The character at the byte `i`, SP and APR among them.
 pub fn character(cells: &[u16], b: &[u8], i: usize, to: usize, sets: Invoked) -> Taken
     requires { ⌜ (i < to) × (to ≤ length (now b)) ⌝ }
-    ensures { λ r. ⌜ ((r .scalar ≡ 0 → ⊥) → Reads (now (cells .entry)) (now (b .entry)) i to sets (r .used) (r .scalar)) ⌝ }
+    ensures { λ r. ⌜ Takes (now (cells .entry)) (now (b .entry)) i to sets (r .used) (r .cell) ⌝ }
 {
     match b[i] {
         SP => Taken {
-            scalar: space(sets.narrow),
+            cell: Cell::Char(space(sets.narrow)),
             used: 1,
         },
         APR => Taken {
-            scalar: 0x0A,
+            cell: Cell::Char(0x0A),
             used: 1,
         },
         0x21..=0x7E => graphic(cells, b, i, to, sets),
         0xA1..=0xFE => graphic(cells, b, i, to, sets),
-        _ => Taken { scalar: 0, used: 1 },
+        _ => Taken {
+            cell: Cell::Undefined,
+            used: 1,
+        },
     }
 }

@@ -4,6 +4,7 @@ use mathlib.Core.Path.{_≡_, refl, sym, subst}
 use mathlib.Core.List.{List}
 use native.Mathlib.Omega.{arith}
 use lib.ListN.{length}
+use Rattle.private_use.specs.PrivateUse.{privateUse}
 use Rattle.utf8.specs.Utf8.{utf8s}
 use Rattle.decode_output.specs.Output.{nothing}
 use Rattle.decode_output.specs.Contracts as output
@@ -19,14 +20,14 @@ use Rattle.decode_outer.specs.Contracts.{TopRan}
 module _ (input : List ℕ) {c : Core} (initial width : ℕ) (enough : ℕ) (h : length input ≤ 65535) (e : c ≡ startOf initial width enough) where
   -- there is room for all steps
   pub ready-start : Ready (limit input) (length input) c
-  unfolding limit nothing utf8s
+  unfolding limit nothing utf8s privateUse
   ready-start =
       rw e
       (record {
         gl = omega arith;
         gr = omega arith;
         within = omega arith;
-        room = record { ordered = omega arith; repeat = omega arith; text = omega arith; issues = omega arith };
+        room = record { ordered = (omega arith, omega arith); repeat = omega arith; text = omega arith; issues = omega arith };
       })
 
   module _ {cells t i : List ℕ} {r : Core} {t′ i′ : List ℕ} (v : TopRan cells input c t i r t′ i′) where

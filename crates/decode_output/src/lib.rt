@@ -4,13 +4,16 @@
 use issues::IssueKind;
 use issues::NUMBERS;
 ghost use mathlib.Core.Path.{_≡_};
+ghost use mathlib.Core.Bool.{true, false};
 ghost use Prim.Native.Nat.{ℕ, _≤_};
 ghost use mathlib.Core.List.{List};
 ghost use lib.ListN.{length, take, set, replicate};
 ghost use lib.Seq.{sets};
+ghost use Rattle.private_use.specs.PrivateUse.{isPrivateUse, privateUse};
 ghost use Rattle.utf8.specs.Utf8.{utf8s};
 ghost use Rattle.decode_output.specs.Output.{
   nothing,
+  times,
   emitTimes,
   emit,
   mark,
@@ -18,7 +21,7 @@ ghost use Rattle.decode_output.specs.Output.{
   release,
   newline,
 };
-ghost use Rattle.decode_output.specs.Contracts.{outOf, Room, Wrote};
+ghost use Rattle.decode_output.specs.Contracts.{outOf, counted, Room, Wrote};
 
 pub struct Out {
     /// Bytes of the text without the waiting marks.
@@ -30,7 +33,9 @@ pub struct Out {
     /// The waiting repeat, 0 where none waits.
     pub repeat: u32,
     /// Issues reported.
-    pub issues: usize,
+    pub issues: u32,
+    /// Private-use characters written.
+    pub private_use: u32,
 }
 
 /// Nothing is written, and nothing waits.
@@ -43,6 +48,7 @@ pub fn start() -> Out
         first: 0,
         repeat: 0,
         issues: 0,
+        private_use: 0,
     }
 }
 
@@ -82,11 +88,12 @@ fn insert(part: &mut [u8], m: usize, c: u32, n: u32, d: usize)
     put_times(part, c, n);
 }
 
-/// Writes a character n times, and moves the waiting marks behind it. §7.1.1.4.
+/// Writes a character n times, and moves the waiting marks behind it; private-use characters are not counted yet.
+/// §7.1.1.4.
 fn emit_times(o: Out, c: u32, n: u32, text: &mut [u8]) -> Out
     requires { ⌜ Room 1 0 o ⌝ }
     requires { ⌜ (1 ≤ n) × (n ≤ 63) ⌝ }
-    ensures { λ r. ⌜ ((i : List ℕ) → Wrote 1 0 (emitTimes n c) o (now (text .entry)) i r (now (text .exit)) i) ⌝ }
+    ensures { λ r. ⌜ ((i : List ℕ) → Wrote 1 0 (emitTimes n c) o (now (text .entry)) i (counted (privateUse (replicate n c)) r) (now (text .exit)) i) ⌝ }
 {
     let len = o.len;
     let end = o.end;
@@ -98,6 +105,7 @@ fn emit_times(o: Out, c: u32, n: u32, text: &mut [u8]) -> Out
         first: 0,
         repeat: 0,
         issues: o.issues,
+        private_use: o.private_use,
     };
     if len <= text.len() {
         insert(&mut text[len..], end - len, c, n, d);
@@ -107,10 +115,11 @@ fn emit_times(o: Out, c: u32, n: u32, text: &mut [u8]) -> Out
     }
 }
 
-/// Writes a character as often as the waiting repeat says, then the waiting marks. §7.1.1.4.
-pub fn emit(o: Out, c: u32, text: &mut [u8]) -> Out
+/// Writes a character as often as the waiting repeat says, then the waiting marks; private-use characters are not counted
+/// yet. §7.1.1.4.
+fn emit_uncounted(o: Out, c: u32, text: &mut [u8]) -> Out
     requires { ⌜ Room 1 0 o ⌝ }
-    ensures { λ r. ⌜ ((i : List ℕ) → Wrote 1 0 (emit c) o (now (text .entry)) i r (now (text .exit)) i) ⌝ }
+    ensures { λ r. ⌜ ((i : List ℕ) → Wrote 1 0 (emit c) o (now (text .entry)) i (counted (privateUse (replicate (times (o .repeat)) c)) r) (now (text .exit)) i) ⌝ }
 {
     if o.repeat != 0 {
         return emit_times(o, c, o.repeat, text);
@@ -126,12 +135,45 @@ pub fn emit(o: Out, c: u32, text: &mut [u8]) -> Out
         first: 0,
         repeat: 0,
         issues: o.issues,
+        private_use: o.private_use,
     }
+}
+
+/// Writes an ordinary character.
+pub fn emit(o: Out, c: u32, text: &mut [u8]) -> Out
+    requires { ⌜ Room 1 0 o ⌝ }
+    requires { ⌜ isPrivateUse c ≡ false ⌝ }
+    ensures { λ r. ⌜ ((i : List ℕ) → Wrote 1 0 (emit c) o (now (text .entry)) i r (now (text .exit)) i) ⌝ }
+{
+    emit_uncounted(o, c, text)
+}
+
+/// How often the next character is written.
+fn times(repeat: u32) -> u32
+    ensures { λ r. ⌜ r ≡ times repeat ⌝ }
+{
+    if repeat == 0 {
+        return 1;
+    }
+    repeat
+}
+
+/// Writes a private-use character, and counts each repeat.
+pub fn emit_private_use(o: Out, c: u32, text: &mut [u8]) -> Out
+    requires { ⌜ Room 1 0 o ⌝ }
+    requires { ⌜ isPrivateUse c ≡ true ⌝ }
+    ensures { λ r. ⌜ ((i : List ℕ) → Wrote 1 0 (emit c) o (now (text .entry)) i r (now (text .exit)) i) ⌝ }
+{
+    let n = times(o.repeat);
+    let mut r = emit_uncounted(o, c, text);
+    r.private_use = r.private_use + n;
+    r
 }
 
 /// A non-spacing character waits for the character that it combines with. §7.1.1.4.
 pub fn mark(o: Out, m: u32, at: u32, text: &mut [u8]) -> Out
     requires { ⌜ Room 1 0 o ⌝ }
+    requires { ⌜ isPrivateUse m ≡ false ⌝ }
     ensures { λ r. ⌜ ((i : List ℕ) → Wrote 1 0 (mark m at) o (now (text .entry)) i r (now (text .exit)) i) ⌝ }
 {
     let end = o.end;
@@ -159,7 +201,7 @@ pub fn issue(o: Out, at: u32, kind: IssueKind, issues: &mut [u32]) -> Out
     ensures { λ r. ⌜ ((t : List ℕ) → Wrote 0 1 (report at kind) o t (now (issues .entry)) r t (now (issues .exit))) ⌝ }
 {
     let n = kind.numbers();
-    let k = o.issues * NUMBERS;
+    let k = o.issues as usize * NUMBERS;
     put32(issues, k, at);
     put32(issues, k + 1, n.kind);
     put32(issues, k + 2, n.first);

@@ -1,11 +1,12 @@
 -- From the start, by all steps and the release of the marks, to the counts. Assumes nothing.
 use Prim.Native.Nat.{ℕ, _≤_}
 use mathlib.Core.Path.{_≡_, ap, _∙_}
-use mathlib.Core.List.{List, [], append-nil}
+use mathlib.Core.List.{List, [], _++_, append-nil}
 use mathlib.Core.Logic.{inl, inr}
 use native.Mathlib.Omega.{arith}
 use lib.ListN.{length}
 use lib.Seq.{sets}
+use Rattle.private_use.specs.PrivateUse.{privateUse}
 use Rattle.utf8.specs.Utf8.{utf8s}
 use Rattle.decode_output.specs.declared.Out.{Out}
 use Rattle.decode_output.specs.Output.{release}
@@ -22,14 +23,17 @@ use Rattle.decode_read.specs.Contracts.{Counted, Read}
 
 -- where no mark waits, the struct counts the text and the issues
 counted : {t₀ i₀ t i : List ℕ} (s : State) (charge : ℕ) {o : Out} → s .out .marks ≡ [] → charge ≡ s .charged → output.Holds t₀ i₀ (s .out) o t i
-    → Counted s t₀ i₀ (record { text = o .len; issues = o .issues; charged = charge }) t i
-counted {t₀ = t₀} s charge m e h = record {
-  text = ap (λ (z : Out). z .len) (h .state);
-  issues = ap (λ (z : Out). z .issues) (h .state);
-  charged = e;
-  written = h .text ∙ ap (λ (l : List ℕ). sets t₀ 0 (utf8s l)) (rw m (append-nil (s .out .text)));
-  listed = h .issues;
-}
+    → Counted s t₀ i₀ (record { text = o .len; issues = o .issues; charged = charge; private_use = o .private_use }) t i
+counted {t₀ = t₀} s charge m e h =
+    let whole : s .out .text ++ s .out .marks ≡ s .out .text = rw m (append-nil (s .out .text)) in
+    record {
+      text = ap (λ (z : Out). z .len) (h .state);
+      issues = ap (λ (z : Out). z .issues) (h .state);
+      charged = e;
+      private-use = ap (λ (z : Out). z .private_use) (h .state) ∙ ap privateUse whole;
+      written = h .text ∙ ap (λ (l : List ℕ). sets t₀ 0 (utf8s l)) whole;
+      listed = h .issues;
+    }
 
 module _ (cells : List ℕ) (initial width : ℕ) (input : List ℕ) {t i : List ℕ} {c r : Core} {t₁ i₁ : List ℕ} {o : Out} {i₂ : List ℕ}
     (short : length input ≤ 65535) (e : c ≡ startOf initial width 0xFFFFFFFF) (top : TopRan cells input c t i r t₁ i₁)
@@ -43,7 +47,7 @@ module _ (cells : List ℕ) (initial width : ℕ) (input : List ℕ) {t i : List
   uncut (inl h) = h
   uncut (inr q) = absurd (omega (arith, enough-end input initial width 0xFFFFFFFF short e top, issues-end input initial width 0xFFFFFFFF short e top, q .ends))
 
-  pub read : Read cells initial width input t i (record { text = o .len; issues = o .issues; charged = r .charged }) t₁ i₂
+  pub read : Read cells initial width input t i (record { text = o .len; issues = o .issues; charged = r .charged; private_use = o .private_use }) t₁ i₂
   unfolding decode writes
   read =
       let h = uncut (ran-start input initial width 0xFFFFFFFF short e top) in

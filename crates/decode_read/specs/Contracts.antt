@@ -4,6 +4,7 @@ use mathlib.Core.Path.{_≡_}
 use mathlib.Core.List.{List}
 use lib.ListN.{length}
 use lib.Seq.{sets}
+use Rattle.private_use.specs.PrivateUse.{privateUse}
 use Rattle.utf8.specs.Utf8.{utf8s}
 use Rattle.issues.specs.Issue.{issuesNumbers}
 use Rattle.reading.specs.State.{State, given}
@@ -15,6 +16,7 @@ pub record Counted (s : State) (t i : List ℕ) (r : Counts) (t′ i′ : List �
   pub text : r .text ≡ length (utf8s (s .out .text))
   pub issues : r .issues ≡ length (s .out .issues)
   pub charged : r .charged ≡ s .charged
+  pub private-use : r .private_use ≡ privateUse (s .out .text)
   pub written : t′ ≡ sets t 0 (utf8s (s .out .text))
   pub listed : i′ ≡ sets i 0 (issuesNumbers (s .out .issues))
 

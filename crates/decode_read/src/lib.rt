@@ -4,11 +4,12 @@ ghost use Prim.Native.Nat.{_≤_};
 ghost use lib.ListN.{length};
 ghost use Rattle.decode_read.specs.Contracts.{Read};
 
-/// What a reading comes to: the text's bytes, the issues and the charge.
+/// What a reading comes to: the text's bytes, the issues, the charge and the private-use characters.
 pub struct Counts {
     pub text: usize,
     pub issues: usize,
     pub charged: usize,
+    pub private_use: usize,
 }
 
 /// Reads a string. What does not fit a buffer is counted and not written.
@@ -27,10 +28,13 @@ pub fn read(
     let core = decode_outer::top(cells, input, start, text, issues);
     let out = core.out;
     let flushed = decode_output::flush_dangling(out, issues);
+    let reported = flushed.issues as usize;
     let charged = core.charged as usize;
+    let private_use = flushed.private_use as usize;
     Counts {
         text: flushed.len,
-        issues: flushed.issues,
+        issues: reported,
         charged,
+        private_use,
     }
 }

@@ -5,6 +5,8 @@ use mathlib.Core.Bool.{Bool, true, false, _||_}
 use mathlib.Core.List.{List}
 use lib.Dec.{eqb}
 use lib.ListN.{length, take, getD}
+use lib.Seq.{sets}
+use Rattle.utf8.specs.Utf8.{utf8}
 use Rattle.decode_output.specs.declared.Out.{Out}
 use Rattle.reading.specs.State.{Given}
 use Rattle.reading.specs.Macros.{Run}
@@ -12,6 +14,7 @@ use Rattle.decode_state.specs.declared.Core.{Core}
 use Rattle.decode_state.specs.Contracts.{whole, Goes}
 use Rattle.decode_letters.specs.declared.Invoked.{Invoked}
 use Rattle.decode_settings.specs.Contracts.{Settings}
+use Rattle.decode_runs.specs.declared.Reached.{Reached}
 
 -- ---- runs of characters
 
@@ -21,9 +24,9 @@ pub record Space (fits : Bool) (n m room : ℕ) : Type 0 where
   pub behind : fits ≡ false → room ≤ n
   pub small : fits ≡ false → n + 3 * m ≤ 0x10000000000
 
--- the struct where n bytes are written and nothing waits
-abbrev pub withText : Core → ℕ → Core
-withText c n =
+-- the struct where n bytes are written, p characters of them private-use, and nothing waits
+abbrev pub withText : Core → ℕ → ℕ → Core
+withText c n p =
     record {
       sets = c .sets;
       gl = c .gl;
@@ -32,35 +35,45 @@ withText c n =
       annex = c .annex;
       enough = c .enough;
       charged = c .charged;
-      out = record { len = n; end = n; first = 0; repeat = 0; issues = c .out .issues };
+      out = record { len = n; end = n; first = 0; repeat = 0; issues = c .out .issues; private_use = p };
     }
 
--- the sets in GL and GR are those of v, it says whether alphanumerics are narrow, n bytes are written, and nothing waits
-pub record Plain (v : Invoked) (n : ℕ) (c : Core) : Type 0 where
+-- the sets in GL and GR are those of v, it says whether alphanumerics are narrow, n bytes are written, p characters of them private-use,
+-- and nothing waits
+pub record Plain (v : Invoked) (n p : ℕ) (c : Core) : Type 0 where
   pub gl : v .gl ≡ getD (c .sets) (c .gl) 0
   pub gr : v .gr ≡ getD (c .sets) (c .gr) 0
   pub narrow : v .narrow ≡ (c .annex || c .narrow)
-  pub text : c ≡ withText c n
+  pub text : c ≡ withText c n p
 
--- from the byte j of b to the byte j′ by characters that were written, of at most three bytes each, where n bytes were written before and n′ after
-pub record Letters (cells b : List ℕ) (j : ℕ) (v : Invoked) (n : ℕ) (t : List ℕ) (j′ n′ : ℕ) (t′ : List ℕ) : Type 0 where
+-- from the byte j of b to the byte j′ by characters that were written, of at most three bytes each, where n bytes were written before and n′ after, and
+-- p characters private-use before and p′ after
+pub record Letters (cells b : List ℕ) (j : ℕ) (v : Invoked) (n p : ℕ) (t : List ℕ) (j′ n′ p′ : ℕ) (t′ : List ℕ) : Type 0 where
   pub past : j ≤ j′
   pub within : j′ ≤ length b
   pub most : n′ ≤ n + 3 * (j′ - j)
-  pub goes : (g : Given) → g .cells ≡ cells → (left : ℕ) (R : Run) (base origin : ℕ) (i starts lens : List ℕ) (c : Core) → Plain v n c
-      → Goes g left R base origin b j (whole c starts lens) t i j′ (whole (withText c n′) starts lens) t′ i
+  pub few : p′ + n ≤ p + n′
+  pub goes : (g : Given) → g .cells ≡ cells → (left : ℕ) (R : Run) (base origin : ℕ) (i starts lens : List ℕ) (c : Core) → Plain v n p c
+      → Goes g left R base origin b j (whole c starts lens) t i j′ (whole (withText c n′ p′) starts lens) t′ i
 
 -- the same run in every text that ends before it, whose bytes stay
-pub record Counted (cells b : List ℕ) (j to : ℕ) (v : Invoked) (n j′ n′ : ℕ) : Type 0 where
-  pub letters : (t : List ℕ) → length t ≤ n → Letters cells b j v n t j′ n′ t
+pub record Counted (cells b : List ℕ) (j to : ℕ) (v : Invoked) (n p j′ n′ p′ : ℕ) : Type 0 where
+  pub letters : (t : List ℕ) → length t ≤ n → Letters cells b j v n p t j′ n′ p′ t
   pub more : n ≤ n′
   pub room : n′ + 3 * (to - j′) ≤ n + 3 * (to - j)
 
+-- a character c of u bytes behind what was reached, of which q are private-use
+pub record Behind (from : Reached) (c u q : ℕ) (t : List ℕ) (r : Reached) (t′ : List ℕ) : Type 0 where
+  pub at : r .at ≡ from .at + u
+  pub len : r .len ≡ from .len + length (utf8 c)
+  pub private-use : r .private_use ≡ from .private_use + q
+  pub text : t′ ≡ sets t (from .len) (utf8 c)
+
 -- ---- runs of characters and controls
 
--- the struct with these settings, where n bytes are written and nothing waits
-abbrev pub coreAt : List ℕ → ℕ → Core → Core
-coreAt l n c =
+-- the struct with these settings, where n bytes are written, p characters of them private-use, and nothing waits
+abbrev pub coreAt : List ℕ → ℕ → ℕ → Core → Core
+coreAt l n p c =
     record {
       sets = take 4 l;
       gl = getD l 4 0;
@@ -69,17 +82,18 @@ coreAt l n c =
       annex = c .annex;
       enough = c .enough;
       charged = c .charged;
-      out = record { len = n; end = n; first = 0; repeat = 0; issues = c .out .issues };
+      out = record { len = n; end = n; first = 0; repeat = 0; issues = c .out .issues; private_use = p };
     }
 
 -- the same by characters and by controls that turned the settings l into l′
-pub record RunsTo (cells b : List ℕ) (j : ℕ) (annex : Bool) (l : List ℕ) (n : ℕ) (t : List ℕ) (j′ : ℕ) (l′ : List ℕ) (n′ : ℕ) (t′ : List ℕ) : Type 0 where
+pub record RunsTo (cells b : List ℕ) (j : ℕ) (annex : Bool) (l : List ℕ) (n p : ℕ) (t : List ℕ) (j′ : ℕ) (l′ : List ℕ) (n′ p′ : ℕ) (t′ : List ℕ) : Type 0 where
   pub past : j ≤ j′
   pub within : j′ ≤ length b
   pub most : n′ ≤ n + 3 * (j′ - j)
+  pub few : p′ + n ≤ p + n′
   pub settings : Settings l′
   pub goes : (g : Given) → g .cells ≡ cells → (left : ℕ) (R : Run) (base origin : ℕ) (i starts lens : List ℕ) (c : Core) → c .annex ≡ annex
-      → Goes g left R base origin b j (whole (coreAt l n c) starts lens) t i j′ (whole (coreAt l′ n′ c) starts lens) t′ i
+      → Goes g left R base origin b j (whole (coreAt l n p c) starts lens) t i j′ (whole (coreAt l′ n′ p′ c) starts lens) t′ i
 
 -- where a run may begin: nothing waits, and a table has its 8,836 cells
 pub record Begins (o : Out) (cells : ℕ) : Type 0 where

@@ -8,19 +8,21 @@ use decode_settings::GR;
 use decode_settings::NARROW;
 use decode_state::Core;
 use decode_state::Far;
+use tables::Cell;
 ghost use mathlib.Core.Path.{_≡_};
 ghost use mathlib.Core.Bool.{true};
-ghost use Prim.Native.Nat.{ℕ, _+_, _-_, _*_, _≤_, _<_};
+ghost use Prim.Native.Nat.{ℕ, _+_, _-_, _*_, _^_, _≤_, _<_};
 ghost use mathlib.Core.List.{List};
 ghost use lib.ListN.{length};
 ghost use Rattle.decode_state.specs.Contracts.{MayTake, Stretch};
 ghost use Rattle.decode_settings.specs.Contracts.{Settings};
-ghost use Rattle.decode_runs.specs.Contracts.{Space, withText, Letters, Counted, coreAt, RunsTo, Begins};
+ghost use Rattle.decode_runs.specs.Contracts.{Space, withText, Letters, Counted, Behind, coreAt, RunsTo, Begins};
 
-/// A place in the input, and the bytes of text that there are then.
+/// A place in the input, the bytes of text that there are then, and how many of its characters are private-use.
 struct Reached {
     at: usize,
     len: usize,
+    private_use: u32,
 }
 
 /// How far a run goes: before the byte `to`, and whether what it writes fits. Where the text is at its end nothing does,
@@ -33,7 +35,7 @@ struct Limit {
 /// The bytes of a character of the Kanji set.
 const KANJI: usize = 2;
 
-/// A run of ideographs, kana and ASCII before the byte `to`.
+/// A run of ideographs, kana and ASCII before the byte `to`, of which none is private-use.
 fn letters_from(
     cells: &[u16],
     b: &[u8],
@@ -43,24 +45,34 @@ fn letters_from(
     text: &mut [u8],
 ) -> Reached
     requires { ⌜ (from .at ≤ length (now b)) × (to ≤ length (now b)) × (8836 ≤ length (now cells)) × (from .len + 3 * (to - from .at) ≤ length (now text)) ⌝ }
-    ensures run { λ r. ⌜ Letters (now (cells .entry)) (now (b .entry)) (from .at) sets (from .len) (now (text .entry)) (r .at) (r .len) (now (text .exit)) ⌝ }
+    ensures run { λ r. ⌜ Letters (now (cells .entry)) (now (b .entry)) (from .at) sets (from .len) (from .private_use) (now (text .entry)) (r .at) (r .len)
+        (r .private_use) (now (text .exit)) ⌝ }
     ensures room { λ r. ⌜ r .len + 3 * (to - r .at) ≤ length (now (text .exit)) ⌝ }
 {
     let gl = sets.gl;
     let gr = sets.gr;
     let narrow = sets.narrow;
+    let private_use = from.private_use;
     let mut i = from.at;
     let mut m = from.len;
     loop {
         if i >= to {
-            return Reached { at: i, len: m };
+            return Reached {
+                at: i,
+                len: m,
+                private_use,
+            };
         }
         let x = b[i];
         let set = decode_letters::set_of(x, gl, gr);
         if set == 0 {
             let c = decode_letters::kanji_at(cells, b, i);
             if c == 0 {
-                return Reached { at: i, len: m };
+                return Reached {
+                    at: i,
+                    len: m,
+                    private_use,
+                };
             }
             decode_letters::put3(text, m, c);
             m += 3;
@@ -75,10 +87,18 @@ fn letters_from(
             continue;
         }
         if c == 0 {
-            return Reached { at: i, len: m };
+            return Reached {
+                at: i,
+                len: m,
+                private_use,
+            };
         }
         if c >= 0x80 {
-            return Reached { at: i, len: m };
+            return Reached {
+                at: i,
+                len: m,
+                private_use,
+            };
         }
         text[m] = c as u8;
         m += 1;
@@ -89,22 +109,31 @@ fn letters_from(
 /// The same run behind the end of the text: it is counted and not written.
 fn count_from(cells: &[u16], b: &[u8], from: Reached, to: usize, sets: Invoked) -> Reached
     requires { ⌜ (from .at ≤ length (now b)) × (to ≤ length (now b)) × (8836 ≤ length (now cells)) × (from .len + 3 * (to - from .at) ≤ 0x10000000000) ⌝ }
-    ensures { λ r. ⌜ Counted (now (cells .entry)) (now (b .entry)) (from .at) to sets (from .len) (r .at) (r .len) ⌝ }
+    ensures { λ r. ⌜ Counted (now (cells .entry)) (now (b .entry)) (from .at) to sets (from .len) (from .private_use) (r .at) (r .len) (r .private_use) ⌝ }
 {
     let gl = sets.gl;
     let gr = sets.gr;
     let narrow = sets.narrow;
+    let private_use = from.private_use;
     let mut i = from.at;
     let mut m = from.len;
     loop {
         if i >= to {
-            return Reached { at: i, len: m };
+            return Reached {
+                at: i,
+                len: m,
+                private_use,
+            };
         }
         let x = b[i];
         let set = decode_letters::set_of(x, gl, gr);
         if set == 0 {
             if decode_letters::kanji_at(cells, b, i) == 0 {
-                return Reached { at: i, len: m };
+                return Reached {
+                    at: i,
+                    len: m,
+                    private_use,
+                };
             }
             m += 3;
             i += KANJI;
@@ -112,7 +141,11 @@ fn count_from(cells: &[u16], b: &[u8], from: Reached, to: usize, sets: Invoked) 
         }
         let c = decode_letters::initial_at(narrow, set, x % 128);
         if c == 0 {
-            return Reached { at: i, len: m };
+            return Reached {
+                at: i,
+                len: m,
+                private_use,
+            };
         }
         m += utf8::width(c);
         i += 1;
@@ -130,13 +163,30 @@ fn run_from(
 ) -> Reached
     requires { ⌜ (from .at ≤ length (now b)) × (limit .to ≤ length (now b)) × (8836 ≤ length (now cells)) ⌝ }
     requires { ⌜ Space (limit .fits) (from .len) (limit .to - from .at) (length (now text)) ⌝ }
-    ensures run { λ r. ⌜ Letters (now (cells .entry)) (now (b .entry)) (from .at) sets (from .len) (now (text .entry)) (r .at) (r .len) (now (text .exit)) ⌝ }
+    ensures run { λ r. ⌜ Letters (now (cells .entry)) (now (b .entry)) (from .at) sets (from .len) (from .private_use) (now (text .entry)) (r .at) (r .len)
+        (r .private_use) (now (text .exit)) ⌝ }
     ensures room { λ r. ⌜ Space (limit .fits) (r .len) (limit .to - r .at) (length (now (text .exit))) ⌝ }
 {
     if limit.fits {
         return letters_from(cells, b, from, limit.to, sets, text);
     }
     count_from(cells, b, from, limit.to, sets)
+}
+
+/// A character behind what was read, of which so many are private-use: 1 or 0.
+fn behind(from: Reached, c: u32, used: usize, private_use: u32, text: &mut [u8]) -> Reached
+    requires { ⌜ (from .at + used < 2 ^ 63) × (from .len < 2 ^ 63) × (from .private_use + private_use ≤ 0xFFFFFFFF) ⌝ }
+    ensures { λ r. ⌜ Behind from c used private_use (now (text .entry)) r (now (text .exit)) ⌝ }
+{
+    let width = utf8::put(text, from.len, c);
+    let at = from.at + used;
+    let len = from.len + width;
+    let counted = from.private_use + private_use;
+    Reached {
+        at,
+        len,
+        private_use: counted,
+    }
 }
 
 /// A character that `letters_from` leaves, if there is one.
@@ -148,26 +198,23 @@ fn other(
     sets: Invoked,
     text: &mut [u8],
 ) -> Reached
-    requires { ⌜ (from .at ≤ length (now b)) × (limit .to ≤ length (now b)) ⌝ }
+    requires { ⌜ (from .at ≤ length (now b)) × (limit .to ≤ length (now b)) × (from .private_use + 3 * (limit .to - from .at) ≤ 0xFFFFFFFF) ⌝ }
     requires { ⌜ Space (limit .fits) (from .len) (limit .to - from .at) (length (now text)) ⌝ }
-    ensures run { λ r. ⌜ Letters (now (cells .entry)) (now (b .entry)) (from .at) sets (from .len) (now (text .entry)) (r .at) (r .len) (now (text .exit)) ⌝ }
+    ensures run { λ r. ⌜ Letters (now (cells .entry)) (now (b .entry)) (from .at) sets (from .len) (from .private_use) (now (text .entry)) (r .at) (r .len)
+        (r .private_use) (now (text .exit)) ⌝ }
     ensures room { λ r. ⌜ Space (limit .fits) (r .len) (limit .to - r .at) (length (now (text .exit))) ⌝ }
 {
-    let i = from.at;
-    let n = from.len;
-    let to = limit.to;
-    if i >= to {
+    if from.at >= limit.to {
         return from;
     }
-    let c = decode_letters::character(cells, b, i, to, sets);
-    let scalar = c.scalar;
-    if scalar == 0 {
-        return from;
+    let taken = decode_letters::character(cells, b, from.at, limit.to, sets);
+    let cell = taken.cell;
+    let used = taken.used;
+    match cell {
+        Cell::Char(c) => behind(from, c, used, 0, text),
+        Cell::PrivateUse(c) => behind(from, c, used, 1, text),
+        Cell::Undefined => from,
     }
-    let width = utf8::put(text, n, scalar);
-    let at = i + c.used;
-    let len = n + width;
-    Reached { at, len }
 }
 
 /// How many characters fit: at most three bytes each in `room`, and no more than `left`.
@@ -208,11 +255,13 @@ fn runs_from(
     text: &mut [u8],
 ) -> Reached
     requires { ⌜ (from .at ≤ length (now b)) × (8836 ≤ length (now cells)) × (from .len + 3 * (length (now b) - from .at) ≤ 0x10000000000) × Settings (now settings) ⌝ }
-    ensures { λ r. ⌜ RunsTo (now (cells .entry)) (now (b .entry)) (from .at) annex (now (settings .entry)) (from .len) (now (text .entry)) (r .at) (now (settings .exit))
-        (r .len) (now (text .exit)) ⌝ }
+    requires { ⌜ from .private_use + 3 * (length (now b) - from .at) ≤ 0xFFFFFFFF ⌝ }
+    ensures { λ r. ⌜ RunsTo (now (cells .entry)) (now (b .entry)) (from .at) annex (now (settings .entry)) (from .len) (from .private_use) (now (text .entry)) (r .at)
+        (now (settings .exit)) (r .len) (r .private_use) (now (text .exit)) ⌝ }
 {
     let mut i = from.at;
     let mut m = from.len;
+    let mut private_use = from.private_use;
     let limit = limit_of(from, b.len(), text.len());
     loop {
         let left = settings[GL] as usize;
@@ -221,13 +270,23 @@ fn runs_from(
         let gr = settings[right];
         let narrow = decode_codes::is_narrow(annex, settings[NARROW] == 1);
         let sets = Invoked { gl, gr, narrow };
-        let w = run_from(cells, b, Reached { at: i, len: m }, limit, sets, text);
+        let reached = Reached {
+            at: i,
+            len: m,
+            private_use,
+        };
+        let w = run_from(cells, b, reached, limit, sets, text);
         let stop = w.at;
         let o = other(cells, b, w, limit, sets, text);
         m = o.len;
+        private_use = o.private_use;
         i = decode_settings::controls(b, o.at, settings);
         if i == stop {
-            return Reached { at: i, len: m };
+            return Reached {
+                at: i,
+                len: m,
+                private_use,
+            };
         }
     }
 }
@@ -253,7 +312,7 @@ fn may_begin(out: Out, cells: usize) -> bool
 fn settings_of(s: Core) -> [u8; 7]
     requires { ⌜ (s .gl < 4) × (s .gr < 4) ⌝ }
     ensures settings { λ r. ⌜ Settings r ⌝ }
-    ensures same { λ r. ⌜ ((n : ℕ) → coreAt r n s ≡ withText s n) ⌝ }
+    ensures same { λ r. ⌜ ((n p : ℕ) → coreAt r n p s ≡ withText s n p) ⌝ }
 {
     let sets = s.sets;
     [
@@ -267,9 +326,9 @@ fn settings_of(s: Core) -> [u8; 7]
     ]
 }
 
-/// The state with these settings, where `len` bytes are written and nothing waits.
-fn with_settings(s: Core, settings: [u8; 7], len: usize) -> Core
-    ensures { λ r. ⌜ r ≡ coreAt settings len s ⌝ }
+/// The state with these settings, where `len` bytes are written, so many characters are private-use and nothing waits.
+fn with_settings(s: Core, settings: [u8; 7], len: usize, private_use: u32) -> Core
+    ensures { λ r. ⌜ r ≡ coreAt settings len private_use s ⌝ }
 {
     let sets = [settings[0], settings[1], settings[2], settings[3]];
     let out = Out {
@@ -278,6 +337,7 @@ fn with_settings(s: Core, settings: [u8; 7], len: usize) -> Core
         first: 0,
         repeat: 0,
         issues: s.out.issues,
+        private_use,
     };
     Core {
         sets,
@@ -302,10 +362,11 @@ pub fn letters(cells: &[u16], b: &[u8], from: usize, s: Core, text: &mut [u8]) -
         let start = Reached {
             at: from,
             len: out.len,
+            private_use: out.private_use,
         };
         let mut settings = settings_of(s);
         let w = runs_from(cells, b, start, s.annex, &mut settings, text);
-        let core = with_settings(s, settings, w.len);
+        let core = with_settings(s, settings, w.len, w.private_use);
         return Far { at: w.at, core };
     }
     Far { at: from, core: s }

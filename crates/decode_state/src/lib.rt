@@ -71,10 +71,10 @@ pub fn start(initial: u32, width: u32, enough: u32) -> Core
 }
 
 /// Whether a reading is over before the end of its bytes: it has enough issues.
-pub fn ended(enough: u32, issues: usize) -> bool
+pub fn ended(enough: u32, issues: u32) -> bool
     ensures { λ r. ⌜ (r ≡ true → Ends enough issues) × (r ≡ false → Ends enough issues → ⊥) ⌝ }
 {
-    if issues >= enough as usize {
+    if issues >= enough {
         return true;
     }
     false

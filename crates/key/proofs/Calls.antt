@@ -5,9 +5,10 @@ use mathlib.Core.Bool.{Bool, true, false, cond}
 use mathlib.Core.List.{List, [], _∷_, _++_}
 use native.Mathlib.Nat.{zero-add, suc-add, sub-zero}
 use native.Mathlib.Omega.{arith}
-use borrow.Author.Tests.{leb-true}
+use borrow.Author.Tests.{leb-true, ne-eqb}
 use lib.Dec.{eqb, leb, T}
 use lib.ListN.{length, take, drop, getD, length-append}
+use Rattle.private_use.specs.PrivateUse.{privateUse}
 use Rattle.utf8.specs.Utf8.{areScalars, utf8, utf8s, scalars}
 use Rattle.utf8.proofs.Texts.{scalars-utf8s}
 use Rattle.questions.specs.Questions.{firstRefusal, decodeLimit}
@@ -20,12 +21,12 @@ use Rattle.decode.specs.declared.call.Answer.the-variants.{Decoded, Refused}
 use Rattle.decode.specs.Answers as decode
 use Rattle.key.specs.declared.KeyAnswer.{KeyAnswer}
 use Rattle.key.specs.declared.KeyAnswer.the-variants as key
-use Rattle.key.specs.Key.{Lent, decodingOf, reading, textBytes, keyBytes, questionOf, refusal, Outcome, outcomeOf, outcome}
+use Rattle.key.specs.Key.{Lent, decodingOf, reading, textBytes, keyBytes, questionOf, eleventh, refusal, Outcome, outcomeOf, outcome}
 use Rattle.laws_scalars.proofs.Scalars.{text-scalars}
 use Rattle.key_text.specs.KeyText.{keyChar, kept, keyText}
 use Rattle.key_text.specs.Contracts.{Removed}
 use Rattle.key_text.proofs.Characters.{no-longer, first-bytes}
-use Rattle.key.specs.Contracts.{Decodes, lent, Answered}
+use Rattle.key.specs.Contracts.{Decodes, lent, Answered, FromText}
 
 -- ---- the buffer
 
@@ -47,7 +48,7 @@ drop-padded (suc n) (v ∷ vs) h = drop-padded n vs (omega arith) ∙ ap (λ (k 
 
 -- which case an answer is
 abbrev variant : Answer → ℕ
-variant (Decoded text issues charge) = 0
+variant (Decoded text issues charge private) = 0
 variant (Refused q place) = 1
 
 -- a key has no more bytes than its text
@@ -71,9 +72,13 @@ module _ (c : Lent) where
       go (suc q) = refl
 
   -- both outcomes by the decoding's number
-  outcome-as : (q : ℕ) → number ≡ q → outcome c ≡ outcomeOf (questionOf q) c
+  outcome-as : (q : ℕ) → number ≡ suc q → outcome c ≡ outcomeOf (questionOf (suc q)) c
   unfolding outcome refusal
-  outcome-as q e = ap (λ (n : ℕ). outcomeOf (questionOf n) c) e
+  outcome-as q e = rw e
+
+  outcome-0 : number ≡ 0 → (q : ℕ) → eleventh c ≡ q → outcome c ≡ outcomeOf q c
+  unfolding outcome refusal
+  outcome-0 e q f = rw (e, f)
 
   decoded-as : (q : ℕ) → number ≡ q → decoding.outcome (decodingOf c) ≡ decoding.outcomeOf q (decodingOf c)
   unfolding decoding.outcome
@@ -94,7 +99,7 @@ module _ (c : Lent) where
       go (suc q) e = absurd (omega (arith, rw e at z))
 
   -- what was accepted
-  module _ (text issues charge : ℕ) (b : List ℕ) (d : Decodes c (Decoded text issues charge) b) where
+  module _ (text issues charge private : ℕ) (b : List ℕ) (d : Decodes c (Decoded text issues charge private) b) where
     accepted : number ≡ 0
     accepted = sym number-of ∙ sym (d .answered .number)
 
@@ -109,6 +114,10 @@ module _ (c : Lent) where
     charges : charge ≡ reading c .charged
     unfolding decoding.outcomeOf reading
     charges = d .answered .charged ∙ ap (λ (o : decoding.Outcome). o .charged) (decoded-as 0 accepted)
+
+    privates : private ≡ privateUse (reading c .out .text)
+    unfolding decoding.outcomeOf reading
+    privates = d .answered .private-use ∙ ap (λ (o : decoding.Outcome). o .privateUse) (decoded-as 0 accepted)
 
     -- the text, and its key
     text-part : take text b ≡ textBytes c
@@ -129,10 +138,10 @@ module _ (c : Lent) where
         ap₂ _++_ e (ap₂ drop counted written ∙ drop-padded (c .room) (textBytes c) h)
         ∙ (padded-more (length (textBytes c)) (c .room - length (textBytes c)) (keyBytes c) key-fits ∙ ap (λ (m : ℕ). padded m (keyBytes c)) n)
 
-    pub keyed : (len : ℕ) (part : List ℕ) → Removed (take text b) len part → Answered c (key.Keyed len charge) (part ++ drop text b)
-    unfolding outcomeOf
-    keyed len part r =
-        let o = outcome-as 0 accepted in
+    pub keyed : private ≡ 0 → (len : ℕ) (part : List ℕ) → Removed (take text b) len part → Answered c (key.Keyed len charge) (part ++ drop text b)
+    unfolding outcomeOf eleventh
+    keyed n len part r =
+        let o = outcome-0 accepted 0 (rw (sym privates, n)) in
         let p : part ≡ padded (length (textBytes c)) (keyBytes c) = r .bytes ∙ ap₂ padded (ap length text-part) key-part in
         record {
           number = sym (ap (λ (x : Outcome). x .refused) o);
@@ -141,6 +150,20 @@ module _ (c : Lent) where
           counted = r .len ∙ (ap length key-part ∙ sym (ap (λ (x : Outcome). x .len) o));
           charged = charges ∙ sym (ap (λ (x : Outcome). x .charged) o);
           written = buffer-as part p ∙ sym (ap (λ (x : Outcome). x .buffer) o);
+        }
+
+    -- it has private-use characters
+    pub refused-11 : (private ≡ 0 → ⊥) → (z : List ℕ) → z ≡ padded (c .room) [] → Answered c (key.Refused 11 0) z
+    unfolding outcomeOf eleventh
+    refused-11 n z e =
+        let o = outcome-0 accepted 11 (rw (sym privates, ne-eqb private 0 n)) in
+        record {
+          number = sym (ap (λ (x : Outcome). x .refused) o);
+          case = λ y. absurd (omega arith);
+          place = refl;
+          counted = sym (ap (λ (x : Outcome). x .len) o);
+          charged = sym (ap (λ (x : Outcome). x .charged) o);
+          written = e ∙ sym (ap (λ (x : Outcome). x .buffer) o);
         }
 
     -- the text lies in the buffer
@@ -164,7 +187,7 @@ module _ (c : Lent) where
       refused-more : (m : ℕ) → questionOf q ≡ suc m → Answered c (key.Refused (questionOf q) place) b
       unfolding outcomeOf
       refused-more m f =
-          let o : outcome c ≡ outcomeOf (suc m) c = outcome-as q same ∙ ap (λ (k : ℕ). outcomeOf k c) f in
+          let o : outcome c ≡ outcomeOf (suc m) c = outcome-as n (same ∙ e) ∙ ap (λ (k : ℕ). outcomeOf k c) (ap questionOf (sym e) ∙ f) in
           record {
             number = f ∙ sym (ap (λ (x : Outcome). x .refused) o);
             case = λ z. absurd (omega (arith, f, z));
@@ -191,8 +214,8 @@ module _ (c : Lent) where
 -- ---- the same of an answer that is known by an equation
 
 module _ (c : Lent) (r : Answer) (b : List ℕ) (d : Decodes c r b) where
-  pub keyed-as : (text issues charge len : ℕ) (part : List ℕ) → r ≡ Decoded text issues charge → Removed (take text b) len part → Answered c (key.Keyed len charge) (part ++ drop text b)
-  keyed-as text issues charge len part e = keyed c text issues charge b (subst (λ (x : Answer). Decodes c x b) e d) len part
+  pub keyed-as : (text issues charge private : ℕ) (k : KeyAnswer) (z : List ℕ) → r ≡ Decoded text issues charge private → FromText text charge private b k z → Answered c k z
+  keyed-as text issues charge private k z e f = f c issues (subst (λ (x : Answer). Decodes c x b) e d)
 
   pub refused-as : (q place : ℕ) (k : KeyAnswer) → r ≡ Refused q place → k ≡ key.Refused (questionOf q) place → Answered c k b
   refused-as q place k e f = subst (λ (x : KeyAnswer). Answered c x b) (sym f) (refused c q place b (subst (λ (x : Answer). Decodes c x b) e d))
@@ -202,7 +225,7 @@ module _ (c : Lent) (r : Answer) (b : List ℕ) (d : Decodes c r b) where
   text-inside = go r refl
     where
       go : (x : Answer) → r ≡ x → decode.textOf x ≤ length b
-      go (Decoded text issues charge) e = inside c text issues charge b (subst (λ (y : Answer). Decodes c y b) e d)
+      go (Decoded text issues charge private) e = inside c text issues charge private b (subst (λ (y : Answer). Decodes c y b) e d)
       go (Refused q place) e = omega arith
 
 -- ---- a key lies in the buffer
@@ -211,15 +234,16 @@ pub len-inside : (c : Lent) → outcome c .len ≤ c .room
 unfolding outcome outcomeOf keyBytes textBytes refusal
 len-inside c = go (refusal c) refl
   where
-    none : (q : ℕ) → questionOf q ≡ 0 → q ≡ 0
-    none q e = by (eqb q 9) e
+    none : (q : ℕ) → decoding.refusal (decodingOf c) ≡ q → refusal c ≡ 0 → decoding.refusal (decodingOf c) ≡ 0
+    none zero e f = e
+    none (suc q) e f = absurd (by (eqb (suc q) 9) (rw e at f))
       where
-        by : (t : Bool) → cond t 10 q ≡ 0 → q ≡ 0
-        by true f = absurd (omega arith)
-        by false f = f
+        by : (t : Bool) → _≡_ {A = ℕ} (cond t 10 (suc q)) 0 → ⊥
+        by true f = omega arith
+        by false f = omega arith
 
     go : (m : ℕ) → refusal c ≡ m → outcomeOf m c .len ≤ c .room
-    go zero e = omega (arith, passed-0 c (none (decoding.refusal (decodingOf c)) e) .1, key-shorter (reading c .out .text))
+    go zero e = omega (arith, passed-0 c (none (decoding.refusal (decodingOf c)) refl e) .1, key-shorter (reading c .out .text))
     go (suc m) e = omega arith
 
 -- and stands at its beginning

@@ -1,5 +1,5 @@
 -- The questions of a key call in the paper's words: specs/Laws.antt states them. Assumes nothing.
-use Prim.Native.Nat.{ℕ, suc, _≤_}
+use Prim.Native.Nat.{ℕ, zero, suc, _≤_}
 use mathlib.Core.Path.{_≡_, refl, sym, _∙_}
 use mathlib.Core.Bool.{Bool, true, false, cond, _&&_}
 use mathlib.Core.List.{List, [], _∷_}
@@ -10,7 +10,7 @@ use lib.ListN.{length}
 use Rattle.questions.specs.Questions.{cellsHold, firstRefusal, decodeLimit}
 use Rattle.issues.specs.Issue.{Issue, issueNumbers, issuesNumbers}
 use Rattle.reading.specs.Call as decoding
-use Rattle.key.specs.Key.{Lent, decodingOf, reading, textBytes, questionOf, refusal}
+use Rattle.key.specs.Key.{Lent, decodingOf, reading, textBytes, questionOf, eleventh, refusal}
 use Rattle.key.specs.Laws.{firstOf, KeyQuestions}
 
 -- each issue has numbers
@@ -32,20 +32,16 @@ first-few t initial width limit len = go (cellsHold t) (leb initial 1 && leb wid
 
 module _ (c : Lent) where
   -- a decoding with no room for issues
-  fits-as : questionOf (decoding.fits (decodingOf c)) ≡ cond (leb (length (textBytes c)) (c .room)) (cond (eqb (length (reading c .out .issues)) 0) 0 10) 8
-  unfolding decoding.fits textBytes reading decoding.textBytes decoding.issueList
-  fits-as =
-      rw (none-counted (decoding.reading (decodingOf c) .out .issues))
+  none-fails : firstOf c ≡ 0 → refusal c ≡ cond (leb (length (textBytes c)) (c .room)) (cond (eqb (length (reading c .out .issues)) 0) (eleventh c) 10) 8
+  unfolding refusal decoding.refusal decoding.fits textBytes reading decoding.textBytes decoding.issueList
+  none-fails e =
+      rw (e, none-counted (decoding.reading (decodingOf c) .out .issues))
       (go (leb (length (decoding.textBytes (decodingOf c))) (c .room)) (eqb (length (decoding.reading (decodingOf c) .out .issues)) 0))
     where
-      go : (a b : Bool) → _≡_ {A = ℕ} (questionOf (cond a (cond b 0 9) 8)) (cond a (cond b 0 10) 8)
+      go : (a b : Bool) → _≡_ {A = ℕ} (elim (cond a (cond {A = ℕ} b 0 9) 8) [ zero ↦ eleventh c | suc q ↦ questionOf (suc q) ]) (cond a (cond b (eleventh c) 10) 8)
       go true true = refl
       go true false = refl
       go false b = refl
-
-  none-fails : firstOf c ≡ 0 → refusal c ≡ questionOf (decoding.fits (decodingOf c))
-  unfolding refusal decoding.refusal
-  none-fails e = rw e
 
   one-fails : (q : ℕ) → firstOf c ≡ suc q → refusal c ≡ suc q
   unfolding refusal decoding.refusal
@@ -54,4 +50,5 @@ module _ (c : Lent) where
       rw e (rw (ne-eqb (suc q) 9 (λ z. omega arith)))
 
 pub key-questions : KeyQuestions
-key-questions c = record { first = one-fails c; rest = λ e. none-fails c e ∙ fits-as c }
+unfolding eleventh
+key-questions c = record { first = one-fails c; rest = none-fails c }

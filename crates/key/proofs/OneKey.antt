@@ -7,6 +7,7 @@ use native.Mathlib.Omega.{arith}
 use borrow.Author.Tests.{le-leb}
 use lib.Dec.{eqb}
 use lib.ListN.{length}
+use Rattle.private_use.specs.PrivateUse.{privateUse}
 use Rattle.utf8.specs.Utf8.{utf8s}
 use Rattle.questions.specs.Questions.{firstRefusal}
 use Rattle.questions.specs.Buffer.{padded}
@@ -43,13 +44,13 @@ module _ (c : Lent) (text key : List ℕ) (r : Reads (reading c) text) (k : utf8
   unfolding keyBytes
   its-key = ap (λ (l : List ℕ). utf8s (keyText l)) (r .text-is) ∙ k
 
-  module _ (h : length (utf8s text) ≤ c .room) where
+  module _ (h : length (utf8s text) ≤ c .room) (none : privateUse text ≡ 0) where
     its-text : textBytes c ≡ utf8s text
     unfolding textBytes reading decoding.textBytes
     its-text = ap utf8s (r .text-is)
 
     accepted : firstOf c ≡ 0 → refusal c ≡ 0
-    accepted f = key-questions c .rest f ∙ rw (its-text, le-leb (length (utf8s text)) (c .room) h, r .no-issue)
+    accepted f = key-questions c .rest f ∙ rw (its-text, le-leb (length (utf8s text)) (c .room) h, r .no-issue, r .text-is, none)
 
     answered : (q : ℕ) → firstOf c ≡ q → outcome c ≡ answer q (c .room) key
     unfolding outcome outcomeOf
@@ -81,6 +82,11 @@ unfolding utf8s keyText halfwidthOf
 letter-key true = refl
 letter-key false = refl
 
+letter-ordinary : (annexE : Bool) → privateUse (letter annexE) ≡ 0
+unfolding privateUse
+letter-ordinary true = refl
+letter-ordinary false = refl
+
 letter-bytes : (annexE : Bool) → length (utf8s (letter annexE)) ≤ 3
 unfolding utf8s
 letter-bytes true = omega arith
@@ -98,5 +104,5 @@ letter-one-key cells initial width room =
     record {
       wide-key = its-key w _ _ wr (letter-key annexE);
       narrow-key = its-key n _ _ nr (letter-key true);
-      one = λ h. answered w _ _ wr (letter-key annexE) (omega arith) (firstOf w) refl ∙ sym (answered n _ _ nr (letter-key true) (omega (arith, letter-bytes true)) (firstOf n) refl);
+      one = λ h. answered w _ _ wr (letter-key annexE) (omega arith) (letter-ordinary annexE) (firstOf w) refl ∙ sym (answered n _ _ nr (letter-key true) (omega (arith, letter-bytes true)) (letter-ordinary true) (firstOf n) refl);
     }

@@ -7,6 +7,7 @@ use lib.ListN.{length}
 use Rattle.utf8.specs.Utf8.{areScalars}
 use Rattle.questions.specs.Questions.{firstRefusal, decodeLimit}
 use Rattle.decode.specs.declared.call.Answer.{Answer}
+use Rattle.decode.specs.declared.call.Answer.the-variants as decoded
 use Rattle.decode.specs.Answers as decode
 use Rattle.key.specs.Key.{Lent, decodingOf, reading, outcome}
 use Rattle.key.specs.declared.KeyAnswer.{KeyAnswer}
@@ -48,3 +49,7 @@ pub record Answered (c : Lent) (r : KeyAnswer) (buffer : List ℕ) : Type 0 wher
   pub counted : lenOf r ≡ outcome c .len
   pub charged : chargedOf r ≡ outcome c .charged
   pub written : buffer ≡ outcome c .buffer
+
+-- the same, from a decoding that was accepted with these counts
+abbrev pub FromText : ℕ → ℕ → ℕ → List ℕ → KeyAnswer → List ℕ → Type 0
+FromText text charged private before r after = (c : Lent) (issues : ℕ) → Decodes c (decoded.Decoded text issues charged private) before → Answered c r after

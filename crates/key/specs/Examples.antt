@@ -36,6 +36,10 @@ record Worked : Type 0 where
   -- あ with an issue; in too little room 8 comes first
   issue : call zeros 0 (0x24 ∷ 0xA2 ∷ []) 3 ≡ refused 10 (replicate 3 0)
   both : call zeros 0 (0x24 ∷ 0xA2 ∷ []) 2 ≡ refused 8 (replicate 2 0)
+  -- 92-26, U+E290: "8 before 10 before 11"; after an issue 10; in too little room 8
+  private-use : call zeros 0 (0x7C ∷ 0x3A ∷ []) 3 ≡ refused 11 (replicate 3 0)
+  private-issue : call zeros 0 (0x7C ∷ 0x3A ∷ 0x24 ∷ 0xA2 ∷ []) 6 ≡ refused 10 (replicate 6 0)
+  private-full : call zeros 0 (0x7C ∷ 0x3A ∷ 0x24 ∷ 0xA2 ∷ []) 5 ≡ refused 8 (replicate 5 0)
   -- a cell that holds U+000A is removed like a newline
   cell : call (set zeros 0 0x0A) 0 (0x21 ∷ 0x21 ∷ 0xA2 ∷ []) 4 ≡ keyed 3 0 (0xE3 ∷ 0x81 ∷ 0x82 ∷ 0 ∷ [])
   -- Caption: a built-in macro, and its charge
@@ -60,6 +64,9 @@ worked =
       full = refl;
       issue = refl;
       both = refl;
+      private-use = refl;
+      private-issue = refl;
+      private-full = refl;
       cell = refl;
       charge = refl;
       spaces = refl;

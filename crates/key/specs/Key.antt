@@ -1,9 +1,10 @@
--- The key call: 01, "Keys" and "The questions, put in this order".
+-- The key call: 01, "Keys" and "The questions, put in this order", and request 6 of docs/REQUESTS.md.
 use Prim.Native.Nat.{ℕ, zero, suc}
 use mathlib.Core.Bool.{cond}
 use mathlib.Core.List.{List, []}
 use lib.Dec.{eqb}
 use lib.ListN.{length}
+use Rattle.private_use.specs.PrivateUse.{privateUse}
 use Rattle.utf8.specs.Utf8.{utf8s}
 use Rattle.questions.specs.Buffer.{padded}
 use Rattle.reading.specs.State.{State}
@@ -41,11 +42,20 @@ keyBytes c = utf8s (keyText (reading c .out .text))
 abbrev pub questionOf : ℕ → ℕ
 questionOf q = cond (eqb q 9) 10 q
 
--- The number of the first question that fails, of 1, 2, 3, 8 and 10; 0 where none does. Question 8 is the decoding's: "for a key, the text before
--- removal". specs/Laws.antt has 8 and 10 in the paper's words.
+-- "A key with any such character is refused after question 10: number 11"
+unfoldable pub eleventh : Lent → ℕ
+unfolding reading privateUse
+eleventh c = cond (eqb (privateUse (reading c .out .text)) 0) 0 11
+
+-- The number of the first question that fails, of 1, 2, 3, 8, 10 and 11; 0 where none does. Question 8 is the decoding's: "for a key, the text before
+-- removal". specs/Laws.antt has 8, 10 and 11 in the papers' words.
 unfoldable pub refusal : Lent → ℕ
-unfolding decoding.refusal
-refusal c = questionOf (decoding.refusal (decodingOf c))
+unfolding decoding.refusal eleventh
+refusal c = first (decoding.refusal (decodingOf c))
+  where
+    first : ℕ → ℕ
+    first zero = eleventh c
+    first (suc q) = questionOf (suc q)
 
 -- What the call gives: the number of the refusal (0: none), the key's length, the charge, and the buffer.
 pub record Outcome : Type 0 where

@@ -6,6 +6,8 @@ use mathlib.Core.List.{List, [], _∷_}
 use lib.Dec.{eqb, leb}
 use lib.ListN.{length}
 use Rattle.questions.specs.Questions.{firstRefusal, decodeLimit}
+use Rattle.private_use.specs.PrivateUse.{privateUse}
+use Rattle.key_text.specs.KeyText.{keyText}
 use Rattle.key_text.specs.Laws.{SameButWidths}
 use Rattle.key.specs.Key.{Lent, reading, textBytes, keyBytes, refusal, outcome}
 
@@ -13,13 +15,19 @@ use Rattle.key.specs.Key.{Lent, reading, textBytes, keyBytes, refusal, o
 abbrev pub firstOf : Lent → ℕ
 firstOf c = firstRefusal (c .cells) (c .initial) (c .width) decodeLimit (length (c .input))
 
--- "Does the whole text .. fit its buffer (for a key, the text before removal)? If no, 8." "For a key, is the decoding free of issues? If no, 10."
+-- "Does the whole text .. fit its buffer (for a key, the text before removal)? If no, 8." "For a key, is the decoding free of issues? If no, 10." "A key
+-- with any such character is refused after question 10: number 11."
 pub record Questions (c : Lent) : Type 0 where
   pub first : (q : ℕ) → firstOf c ≡ suc q → refusal c ≡ suc q
-  pub rest : firstOf c ≡ 0 → refusal c ≡ cond (leb (length (textBytes c)) (c .room)) (cond (eqb (length (reading c .out .issues)) 0) 0 10) 8
+  pub rest : firstOf c ≡ 0 → refusal c ≡
+      cond (leb (length (textBytes c)) (c .room)) (cond (eqb (length (reading c .out .issues)) 0) (cond (eqb (privateUse (reading c .out .text)) 0) 0 11) 10) 8
 
 abbrev pub KeyQuestions : Type 0
 KeyQuestions = (c : Lent) → Questions c
+
+-- no key that is given has a private-use character: removal and folding make none
+abbrev pub KeyOrdinary : Type 0
+KeyOrdinary = (c : Lent) → outcome c .refused ≡ 0 → privateUse (keyText (reading c .out .text)) ≡ 0
 
 -- titles that are read as one text, but for the widths of the 94 alphanumerics, have one key
 abbrev pub ReadingsOneKey : Type 0

@@ -1,5 +1,5 @@
 // The key call: the key of what a title's bytes decode to, or the number of the first question that fails. 01, "Keys" and
-// "The questions, put in this order".
+// "The questions, put in this order", and request 6, "Private-use characters".
 pub mod values;
 
 use decode::call::Answer;
@@ -9,7 +9,7 @@ ghost use lib.ListN.{length};
 ghost use Rattle.questions.specs.Questions.{firstRefusal};
 ghost use Rattle.decode.specs.Answers.{textOf};
 ghost use Rattle.key.specs.Key.{Lent, questionOf};
-ghost use Rattle.key.specs.Contracts.{lent, Decodes, Answered};
+ghost use Rattle.key.specs.Contracts.{lent, Decodes, Answered, FromText};
 
 /// The numbers that issues may take: decoding then refuses with 9 where there is an issue.
 const ISSUES: usize = 0;
@@ -31,6 +31,24 @@ fn refuse(number: u32, place: usize) -> KeyAnswer
     }
 }
 
+/// The key of a text that was decoded into the buffer. One with private-use characters is refused with 11.
+fn from_text(text: usize, charged: usize, private_use: usize, buffer: &mut [u8]) -> KeyAnswer
+    requires { ⌜ text ≤ length (now buffer) ⌝ }
+    ensures { λ k. ⌜ FromText text charged private_use (now (buffer .entry)) k (now (buffer .exit)) ⌝ }
+{
+    if private_use > 0 {
+        questions::clear(buffer, 0);
+        return KeyAnswer::Refused {
+            number: 11,
+            place: 0,
+        };
+    }
+    KeyAnswer::Keyed {
+        len: key_text::remove(&mut buffer[..text]),
+        charged,
+    }
+}
+
 /// The key of what was decoded into the buffer.
 fn finish(r: Answer, buffer: &mut [u8]) -> KeyAnswer
     requires { ⌜ textOf r ≤ length (now buffer) ⌝ }
@@ -39,12 +57,10 @@ fn finish(r: Answer, buffer: &mut [u8]) -> KeyAnswer
     match r {
         Answer::Decoded {
             text,
-            issues,
+            issues: _,
             charged,
-        } => KeyAnswer::Keyed {
-            len: key_text::remove(&mut buffer[..text]),
-            charged,
-        },
+            private_use,
+        } => from_text(text, charged, private_use, buffer),
         Answer::Refused { number, place } => refuse(number, place),
     }
 }

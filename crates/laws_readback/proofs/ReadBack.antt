@@ -8,6 +8,7 @@ use borrow.Author.Tests.{eqb-true, le-leb}
 use lib.Dec.{eqb, leb, leb·zero}
 use lib.ListN.{length}
 use Rattle.tables.specs.Kanji.{nonSpacing, hasCharacter}
+use Rattle.private_use.specs.PrivateUse.{privateUse}
 use Rattle.utf8.specs.Utf8.{scalars, utf8s}
 use Rattle.utf8.proofs.Texts.{utf8s-scalars}
 use Rattle.questions.specs.Questions.{cellsHold, optionsHold}
@@ -113,8 +114,17 @@ number c textRoom =
 
 given-as : coding.Lent → ℕ → ℕ → ℕ → call.Outcome
 given-as c textRoom issueRoom zero =
-    record { refused = 0; text = length (utf8s (scalars (c .text))); issues = 0; charged = 0; textBuffer = padded textRoom (utf8s (scalars (c .text))); issueBuffer = padded issueRoom [] }
-given-as c textRoom issueRoom (suc q) = record { refused = suc q; text = 0; issues = 0; charged = 0; textBuffer = padded textRoom []; issueBuffer = padded issueRoom [] }
+    record {
+      refused = 0;
+      text = length (utf8s (scalars (c .text)));
+      issues = 0;
+      charged = 0;
+      privateUse = privateUse (scalars (c .text));
+      textBuffer = padded textRoom (utf8s (scalars (c .text)));
+      issueBuffer = padded issueRoom [];
+    }
+given-as c textRoom issueRoom (suc q) =
+    record { refused = suc q; text = 0; issues = 0; charged = 0; privateUse = 0; textBuffer = padded textRoom []; issueBuffer = padded issueRoom [] }
 
 module _ (c : coding.Lent) (bs : List ℕ) (textRoom issueRoom : ℕ) (b : Based c) (d : Codes c bs) (h : length bs ≤ 65535) where
   as-read : ReadAs c (call.reading (decoding c bs textRoom issueRoom))

@@ -8,6 +8,7 @@ use mathlib.Core.List.{List, []}
 use mathlib.Core.Option.{none}
 use lib.Dec.{eqb}
 use lib.ListN.{length}
+use Rattle.private_use.specs.PrivateUse.{privateUse}
 use Rattle.utf8.specs.Utf8.{firstFault, scalars}
 use Rattle.utf8.specs.declared.Text.the-variants.{WellFormed}
 use Rattle.questions.specs.Questions.{cellsHold}
@@ -57,19 +58,32 @@ ReadBack = (c : coding.Lent) (bs : List ℕ) → Based c → Codes c bs → Read
 abbrev pub decoding : coding.Lent → List ℕ → ℕ → ℕ → reading.Lent
 decoding c bs textRoom issueRoom = record { cells = c .cells; initial = c .initial; width = c .width; input = bs; textRoom = textRoom; issueRoom = issueRoom }
 
+-- the outcome that gives the text back, with the count of its private-use characters and no issue
+abbrev pub given : coding.Lent → ℕ → ℕ → reading.Outcome
+given c textRoom issueRoom =
+    record {
+      refused = 0;
+      text = length (c .text);
+      issues = 0;
+      charged = 0;
+      privateUse = privateUse (scalars (c .text));
+      textBuffer = padded textRoom (c .text);
+      issueBuffer = padded issueRoom [];
+    }
+
 -- the same of the decoding call, where the coding is within its 65,535 bytes and the text's buffer holds the text; any buffer holds no issue
 abbrev pub CallReadBack : Type 0
 CallReadBack =
     (c : coding.Lent) (bs : List ℕ) (textRoom issueRoom : ℕ) → PassesQuestions c → Codes c bs → length bs ≤ 65535 → length (c .text) ≤ textRoom
     → reading.outcome (decoding c bs textRoom issueRoom)
-    ≡ record { refused = 0; text = length (c .text); issues = 0; charged = 0; textBuffer = padded textRoom (c .text); issueBuffer = padded issueRoom [] }
+    ≡ given c textRoom issueRoom
 
 -- so the coding that a call returns is read as the text that the call accepted
 abbrev pub RoundTrip : Type 0
 RoundTrip =
     (c : coding.Lent) (textRoom issueRoom : ℕ) → coding.outcome c .refused ≡ 0 → length (c .text) ≤ textRoom
     → reading.outcome (decoding c (returned c) textRoom issueRoom)
-    ≡ record { refused = 0; text = length (c .text); issues = 0; charged = 0; textBuffer = padded textRoom (c .text); issueBuffer = padded issueRoom [] }
+    ≡ given c textRoom issueRoom
 
 -- two admissible codings of one text are one to the decoding call, whatever the buffers
 abbrev pub OneOutcome : Type 0

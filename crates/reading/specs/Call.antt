@@ -4,6 +4,7 @@ use mathlib.Core.Bool.{cond}
 use mathlib.Core.List.{List, []}
 use lib.Dec.{leb}
 use lib.ListN.{length}
+use Rattle.private_use.specs.PrivateUse.{privateUse}
 use Rattle.utf8.specs.Utf8.{utf8s}
 use Rattle.questions.specs.Questions.{firstRefusal, decodeLimit}
 use Rattle.questions.specs.Buffer.{padded}
@@ -48,29 +49,41 @@ refusal c = first (firstRefusal (c .cells) (c .initial) (c .width) decodeLimit (
     first zero = fits c
     first (suc q) = suc q
 
--- What the call gives: the number of the refusal (0: none), the lengths of the text and of the issues, the charge, and the buffers.
+-- What the call gives: the number of the refusal (0: none), the lengths of the text and of the issues, the charge, "the private-use characters in its
+-- text, each repeat counted" (request 6 of docs/REQUESTS.md), and the buffers.
 pub record Outcome : Type 0 where
   pub refused : ℕ
   pub text : ℕ
   pub issues : ℕ
   pub charged : ℕ
+  pub privateUse : ℕ
   pub textBuffer : List ℕ
   pub issueBuffer : List ℕ
 
 -- "Acceptance gives the lengths, the charge ..; output past the result is zero." "A refusal gives the number .. with all counts 0 and each output
 -- buffer zero-filled"
 unfoldable pub outcomeOf : ℕ → Lent → Outcome
-unfolding reading textBytes issueList padded
+unfolding reading textBytes issueList privateUse padded
 outcomeOf zero c =
     record {
       refused = 0;
       text = length (textBytes c);
       issues = length (reading c .out .issues);
       charged = reading c .charged;
+      privateUse = privateUse (reading c .out .text);
       textBuffer = padded (c .textRoom) (textBytes c);
       issueBuffer = padded (c .issueRoom) (issueList c);
     }
-outcomeOf (suc q) c = record { refused = suc q; text = 0; issues = 0; charged = 0; textBuffer = padded (c .textRoom) []; issueBuffer = padded (c .issueRoom) [] }
+outcomeOf (suc q) c =
+    record {
+      refused = suc q;
+      text = 0;
+      issues = 0;
+      charged = 0;
+      privateUse = 0;
+      textBuffer = padded (c .textRoom) [];
+      issueBuffer = padded (c .issueRoom) [];
+    }
 
 unfoldable pub outcome : Lent → Outcome
 unfolding outcomeOf refusal

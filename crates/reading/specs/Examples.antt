@@ -1,8 +1,8 @@
--- Worked examples: the eight decoding rows of 01's table of twelve, and corners that "Reading" and request 4 of docs/REQUESTS.md name.
+-- Worked examples: the eight decoding rows of 01's table of twelve, and corners that "Reading" and requests 4 and 6 of docs/REQUESTS.md name.
 use Prim.Native.Nat.{ℕ, _*_}
 use mathlib.Core.Path.{_≡_, refl}
 use mathlib.Core.List.{List, [], _∷_}
-use lib.ListN.{replicate}
+use lib.ListN.{set, replicate}
 use Rattle.questions.specs.Questions.{cellsHold, all}
 use Rattle.issues.specs.Issue.{numbers}
 use Rattle.reading.specs.Call.{Outcome, outcome}
@@ -11,10 +11,15 @@ use Rattle.reading.specs.Call.{Outcome, outcome}
 abbrev pub read : ℕ → List ℕ → Outcome
 read initial input = outcome (record { cells = replicate 8836 0; initial = initial; width = 0; input = input; textRoom = 10; issueRoom = 2 * numbers })
 
--- it is accepted: the lengths of the text and of the issues, the charge, and the buffers, which are zero past
+-- it is accepted: the lengths of the text and of the issues, the charge, no private-use character, and the buffers, which are zero past
 abbrev pub gives : ℕ → ℕ → ℕ → List ℕ → List ℕ → Outcome
 gives text issues charged textBuffer issueBuffer =
-    record { refused = 0; text = text; issues = issues; charged = charged; textBuffer = textBuffer; issueBuffer = issueBuffer }
+    record { refused = 0; text = text; issues = issues; charged = charged; privateUse = 0; textBuffer = textBuffer; issueBuffer = issueBuffer }
+
+-- the private-use characters of the text, where cell 16-1 of the table holds x
+abbrev pub counts : ℕ → List ℕ → ℕ
+counts x input =
+    outcome (record { cells = set (replicate 8836 0) 1410 x; initial = 0; width = 0; input = input; textRoom = 10; issueRoom = 2 * numbers }) .privateUse
 
 -- The eight rows
 pub record Rows : Type 0 where
@@ -71,3 +76,22 @@ corners =
       before-marks = refl;
       while-waiting = refl;
     }
+
+-- Private-use characters
+record PrivateUse : Type 0 where
+  -- U+E000 and U+F8FF themselves, and what stands beside the last
+  first : counts 0xE000 (0x30 ∷ 0x21 ∷ []) ≡ 1
+  last : counts 0xF8FF (0x30 ∷ 0x21 ∷ []) ≡ 1
+  behind : counts 0xF900 (0x30 ∷ 0x21 ∷ []) ≡ 0
+  -- "each repeat counted": RPC 3
+  repeated : counts 0xE000 (0x98 ∷ 0x43 ∷ 0x30 ∷ 0x21 ∷ []) ≡ 3
+  -- from the additional symbols: 92-26, U+E290
+  symbol : counts 0 (0x7C ∷ 0x3A ∷ []) ≡ 1
+  -- an empty cell's U+FFFD is none
+  placeholder : counts 0 (0x30 ∷ 0x21 ∷ []) ≡ 0
+  -- a text that does not fit has no counts: four times
+  refused : counts 0xE000 (0x98 ∷ 0x44 ∷ 0x30 ∷ 0x21 ∷ []) ≡ 0
+
+private-use : PrivateUse
+unfolding outcome cellsHold all
+private-use = record { first = refl; last = refl; behind = refl; repeated = refl; symbol = refl; placeholder = refl; refused = refl }

@@ -23,12 +23,14 @@ fn same_answer(answer: Answer, case: DecodingCase) -> bool {
             text,
             issues,
             charged,
+            private_use,
         } => {
             (case.number == 0)
                 & (case.place == 0)
                 & (text == case.text)
                 & (issues == case.issues)
                 & (charged == case.charged)
+                & (private_use == case.private_use)
         }
         Answer::Refused { number, place } => {
             (number > 0)
@@ -37,6 +39,7 @@ fn same_answer(answer: Answer, case: DecodingCase) -> bool {
                 & (case.text == 0)
                 & (case.issues == 0)
                 & (case.charged == 0)
+                & (case.private_use == 0)
         }
     }
 }
@@ -112,7 +115,7 @@ fn compare(file: &[u8], at: usize, cells: &[u16]) -> Compared
     ensures { λ r. ⌜ r .next ≤ length (now (file .entry)) ⌝ }
 {
     let case = case_at(&file[at..]);
-    let input = at + 44;
+    let input = at + 48;
     let text = input + case.input;
     let issues = text + case.text;
     let next = issues + ISSUE * case.issues;

@@ -18,6 +18,7 @@ pub struct DecodingCase {
     pub text: usize,
     pub issues: usize,
     pub charged: usize,
+    pub private_use: usize,
 }
 
 /// The case at the start of a part of the file.
@@ -36,5 +37,6 @@ pub fn case_at(bytes: &[u8]) -> DecodingCase
         text: count(bytes, 32),
         issues: count(bytes, 36),
         charged: count(bytes, 40),
+        private_use: count(bytes, 44),
     }
 }

@@ -10,6 +10,7 @@ use tables_onebyte::OneByteChar;
 fn character(c: Cell) -> usize {
     match c {
         Cell::Char(x) => wide(x),
+        Cell::PrivateUse(x) => wide(x),
         Cell::Undefined => 0,
     }
 }

@@ -1,5 +1,6 @@
 pub mod CellLaws
 pub mod KanjiLaws
 pub mod MarkLaws
+pub mod Cases
 pub mod Laws
 pub mod ScalarLaws

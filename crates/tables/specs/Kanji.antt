@@ -6,17 +6,26 @@ use mathlib.Core.Option.{Option, none, some}
 use mathlib.Core.Path.{_≡_, refl}
 use lib.Dec.{eqb, leb}
 use lib.ListN.{getD}
+use Rattle.private_use.specs.PrivateUse.{isPrivateUse}
 use Rattle.addsym.specs.Symbols.{symbol}
 use Rattle.tables.specs.declared.Assignment.{Assignment}
 use Rattle.tables.specs.declared.Cell.{Cell}
-use Rattle.tables.specs.declared.Cell.the-variants.{Char, Undefined}
+use Rattle.tables.specs.declared.Cell.the-variants.{Char, PrivateUse, Undefined}
 use Rattle.tables.specs.declared.Place.{Place}
 use Rattle.tables.specs.declared.Place.the-variants.{At, Nowhere}
 
--- what an answer says of the character x of a cell, 0 where the cell has none
+-- what an answer says of the character x of a cell, 0 where the cell has none: "undefined, an ordinary character or a private-use one" (request 6 of
+-- docs/REQUESTS.md)
 abbrev pub CellReads : Cell → ℕ → Type 0
-CellReads (Char c) x = (x ≡ c) × (1 ≤ c)
+CellReads (Char c) x = (x ≡ c) × (1 ≤ c) × (isPrivateUse c ≡ false)
+CellReads (PrivateUse c) x = (x ≡ c) × (isPrivateUse c ≡ true)
 CellReads Undefined x = x ≡ 0
+
+-- the case that an answer names is that of its character
+abbrev pub Classed : Cell → Type 0
+Classed (Char c) = isPrivateUse c ≡ false
+Classed (PrivateUse c) = isPrivateUse c ≡ true
+Classed Undefined = Unit {0}
 
 -- `NON_SPACING`: the seven combining marks (Table E-1)
 abbrev pub nonSpacing : List Assignment

@@ -8,9 +8,10 @@ ghost use Rattle.addsym.specs.Symbols.{symbol};
 ghost use Rattle.tables.specs.Kanji.{CellReads, nonSpacing, kanjiOverrides, assigned, hasCharacter, placeValue, cellWith, tableAt, jisX0208At, gap, kanjiSymbol, kanjiAt};
 ghost use Rattle.tables.specs.Marks.{markTest};
 
-/// What a cell of a two-byte set reads as.
+/// What a cell of a two-byte set reads as: an ordinary character, a private-use one, or none.
 pub enum Cell {
     Char(u32),
+    PrivateUse(u32),
     Undefined,
 }
 
@@ -39,6 +40,9 @@ fn cell_of(c: u32) -> Cell
 {
     if c == 0 {
         return Cell::Undefined;
+    }
+    if private_use::is_private_use(c) {
+        return Cell::PrivateUse(c);
     }
     Cell::Char(c)
 }

@@ -26,13 +26,13 @@ use Rattle.text_counts.specs.Counts.{fronted, escapeStart}
 use Rattle.text.specs.Calls.{counts, Decodes, Escapes, measureCounts, Measures, cleanCounts, Cleans, keyCounts, Keys, codingCounts, Codes}
 
 -- an answer whose numbers were reported
-pub decodes : {c : Lent} {a : Answer} {before after t i : List ℕ} {n p x y z : ℕ} → decoded.Answered c a t i
-    → n ≡ decoded.numberOf a → p ≡ decoded.placeOf a → x ≡ decoded.textOf a → y ≡ decoded.issuesOf a → z ≡ decoded.chargedOf a
-    → after ≡ fronted before (p ∷ x ∷ y ∷ z ∷ []) → Decodes c before n t i after
+pub decodes : {c : Lent} {a : Answer} {before after t i : List ℕ} {n p x y z u : ℕ} → decoded.Answered c a t i
+    → n ≡ decoded.numberOf a → p ≡ decoded.placeOf a → x ≡ decoded.textOf a → y ≡ decoded.issuesOf a → z ≡ decoded.chargedOf a → u ≡ decoded.privateUseOf a
+    → after ≡ fronted before (p ∷ x ∷ y ∷ z ∷ u ∷ []) → Decodes c before n t i after
 unfolding counts
-decodes v n p x y z e = record {
+decodes v n p x y z u e = record {
   number = n ∙ v .number;
-  counted = e ∙ rw (p ∙ v .place, x ∙ v .counted, y ∙ v .reported, z ∙ v .charged) refl;
+  counted = e ∙ rw (p ∙ v .place, x ∙ v .counted, y ∙ v .reported, z ∙ v .charged, u ∙ v .private-use) refl;
   written = v .written;
   listed = v .listed;
 }

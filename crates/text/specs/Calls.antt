@@ -11,10 +11,10 @@ use Rattle.clean.specs.Clean as clean
 use Rattle.key.specs.Key as key
 use Rattle.text_counts.specs.Counts.{fronted, escapeStart}
 
--- The counts of a decoding: place, bytes of text, issues, charge. "A refusal gives the number and the byte place (0 except for 4, 5, 6), with all counts
+-- The counts of a decoding: place, bytes of text, issues, charge, private-use characters. "A refusal gives the number and the byte place (0 except for 4, 5, 6), with all counts
 -- 0"; decoding asks none of 4, 5 and 6.
 unfoldable pub counts : Outcome → List ℕ
-counts o = 0 ∷ o .text ∷ o .issues ∷ o .charged ∷ []
+counts o = 0 ∷ o .text ∷ o .issues ∷ o .charged ∷ o .privateUse ∷ []
 
 -- the number of the refusal as the result (0: none), the counts, and every element of both buffers
 pub record Decodes (c : Lent) (before : List ℕ) (r : ℕ) (text issues after : List ℕ) : Type 0 where

@@ -6,8 +6,8 @@ ghost use Rattle.key.specs.Contracts as keys;
 ghost use Rattle.encode.specs.Answers as codes;
 ghost use Rattle.text.specs.Calls.{Decodes, Escapes, Measures, Cleans, Keys, Codes};
 
-/// `decode_with`: the counts are the place of a refusal, then the text's bytes, the issues and the
-/// charge. Answers the number of the refusal, 0 for none.
+/// `decode_with`: the counts are the place of a refusal, then the text's bytes, the issues, the charge
+/// and the private-use characters. Answers the number of the refusal, 0 for none.
 #[no_mangle]
 pub extern "C" fn arib_decode(
     cells: &[u16],
@@ -26,6 +26,7 @@ pub extern "C" fn arib_decode(
         decode::values::text(answer),
         decode::values::issues(answer),
         decode::values::charged(answer),
+        decode::values::private_use(answer),
     ];
     text_counts::report(counts, decode::values::place(answer), &numbers);
     decode::values::number(answer)

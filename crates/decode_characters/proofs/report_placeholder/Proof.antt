@@ -2,6 +2,7 @@
 use native.Mathlib.Omega.{arith}
 use borrow.Author.Needs.{needs}
 use Rattle.reading.specs.State.{placeholder}
+use Rattle.private_use.proofs.Laws.{behind}
 use Rattle.decode_output.proofs.Callers.{room-left, wrote-then}
 use Rattle.decode_characters.proofs.Did.{did-writes}
 use Rattle.decode_characters.proofs.report_placeholder.Tie as tie
@@ -16,7 +17,7 @@ emit-requires c κs =
     let entry = at-issue .before .before .before .before .before in
     let pre = entry .pre in
     let a = entry .args in
-    room-left (pre .room) (at-issue .issue .ensures (a .text .now) .grew)
+    (room-left (pre .room) (at-issue .issue .ensures (a .text .now) .grew), behind 0xFFFD (omega arith))
 
 same-length : tie.Need-same-length
 same-length c = search needs

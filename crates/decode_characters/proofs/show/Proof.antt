@@ -17,7 +17,7 @@ returns c =
     let entry = at-emit .before .before .before .before in
     let pre = entry .pre in
     let emit = at-emit .emit in
-    λ cells i. did-writes cells (omega arith) (omega arith) (pre) (emit .ensures i)
+    λ cells i. did-writes cells (omega arith) (omega arith) (pre .0) (emit .ensures i)
 
 pub show-spec : {M : Type 1} → statement M
 show-spec = tie.close (tie.spec emit-requires same-length returns)

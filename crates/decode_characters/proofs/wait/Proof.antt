@@ -17,7 +17,7 @@ returns c =
     let entry = at-mark .before .before .before .before in
     let pre = entry .pre in
     let mark = at-mark .mark in
-    λ cells i. did-writes cells (omega arith) (omega arith) (pre) (mark .ensures i)
+    λ cells i. did-writes cells (omega arith) (omega arith) (pre .0) (mark .ensures i)
 
 pub wait-spec : {M : Type 1} → statement M
 wait-spec = tie.close (tie.spec mark-requires same-length returns)

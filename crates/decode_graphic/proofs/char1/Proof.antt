@@ -1,11 +1,13 @@
 -- `char1` meets its contract. Assumes nothing.
 use Prim.Native.Nat.{_≤_, _<_}
 use mathlib.Core.Logic.{⊎-elim}
-use mathlib.Core.Path.{_∙_}
+use mathlib.Core.Path.{ap, _∙_}
 use native.Mathlib.Omega.{arith}
 use borrow.Author.Needs.{needs}
 use Rattle.decode_characters.proofs.Did.{did-as}
+use Rattle.private_use.specs.PrivateUse.{isPrivateUse}
 use Rattle.decode_codes.proofs.Laws.{char1-letter}
+use Rattle.decode_codes.proofs.Letters.{letter-ordinary}
 use Rattle.decode_graphic.proofs.Laws.{char1-mosaic, char1-drcs, letter-narrows}
 use Rattle.decode_graphic.proofs.char1.Tie as tie
 use Rattle.decode_graphic.proofs.char1.Statement.{statement}
@@ -26,7 +28,10 @@ letter-at-requires : tie.Need-letter-at-requires
 letter-at-requires c κs = search needs
 
 emit-or-requires : tie.Need-emit-or-requires
-emit-or-requires c κs = search needs
+emit-or-requires c κs =
+    let at-letter-at = c .before .before in
+    let entry = at-letter-at .before .before .before .before .before in
+    (entry .pre .0, ap isPrivateUse (at-letter-at .letter-at .ensures) ∙ letter-ordinary _ _ _)
 
 same-length : tie.Need-same-length
 same-length c = search needs

@@ -2,6 +2,7 @@
 use Prim.Native.Nat.{_-_}
 use mathlib.Core.Path.{ap, _∙_}
 use borrow.Author.Needs.{needs}
+use Rattle.tables.proofs.Cases.{classed}
 use Rattle.issues.specs.declared.IssueKind.{IssueKind}
 use Rattle.reading.specs.Characters.{cellOr}
 use Rattle.decode_codes.specs.Codes.{cellAt}
@@ -23,7 +24,10 @@ issue-of-requires : tie.Need-issue-of-requires
 issue-of-requires c κs = search needs
 
 cell-or-requires : tie.Need-cell-or-requires
-cell-or-requires c κs = search needs
+cell-or-requires c κs =
+    let at-cell-at = c .before .before .before in
+    let entry = at-cell-at .before .before .before .before .before .before in
+    (entry .pre .0, classed (at-cell-at .cell-at .result) _ (at-cell-at .cell-at .ensures))
 
 same-length : tie.Need-same-length
 same-length c = search needs

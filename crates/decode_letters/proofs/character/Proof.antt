@@ -1,7 +1,6 @@
 -- `character` meets its contract, by the byte. Assumes nothing.
-use mathlib.Core.Path.{refl}
 use native.Mathlib.Omega.{arith}
-use Rattle.decode_letters.proofs.Spelling.{graphic-is, reads-space, reads-newline}
+use Rattle.decode_letters.proofs.Spelling.{graphic-is, takes-space, takes-newline}
 use borrow.Author.Needs.{needs}
 use Rattle.decode_letters.proofs.character.Statement.{statement}
 use Rattle.decode_letters.proofs.character.Tie as tie
@@ -30,13 +29,13 @@ returns c =
     let at-match = c .before in
     let entry = at-match .before .before .before .before in
     let a = entry .args in
-    λ f. reads-space (a .cells .now) (a .b .now) (a .i) (a .to) (a .sets) (entry .pre .0) (at-match .match .keys1) (c .space .ensures)
+    takes-space (a .cells .now) (a .b .now) (a .i) (a .to) (a .sets) (entry .pre .0) (at-match .match .keys1) (c .space .ensures)
 
 returns-2 : tie.Need-returns-2
 returns-2 c =
     let entry = c .before .before .before .before in
     let a = entry .args in
-    λ f. reads-newline (a .cells .now) (a .b .now) (a .i) (a .to) (a .sets) (entry .pre .0) (c .match .keys2)
+    takes-newline (a .cells .now) (a .b .now) (a .i) (a .to) (a .sets) (entry .pre .0) (c .match .keys2)
 
 returns-3 : tie.Need-returns-3
 returns-3 c = search needs
@@ -45,13 +44,13 @@ returns-4 : tie.Need-returns-4
 returns-4 c = search needs
 
 returns-5 : tie.Need-returns-5
-returns-5 c = λ f. absurd (f refl)
+returns-5 c = tt
 
 returns-6 : tie.Need-returns-6
-returns-6 c = λ f. absurd (f refl)
+returns-6 c = tt
 
 returns-7 : tie.Need-returns-7
-returns-7 c = λ f. absurd (f refl)
+returns-7 c = tt
 
 pub character-spec : {M : Type 1} → statement M
 character-spec =

@@ -3,6 +3,7 @@ use Prim.Native.Nat.{_+_, _-_, _*_, _%_, _<_}
 use mathlib.Core.Path.{refl}
 use native.Mathlib.Omega.{arith}
 use lib.ListN.{getD}
+use Rattle.private_use.proofs.Laws.{below}
 use Rattle.decode_letters.proofs.Spelling.{ideograph}
 use borrow.Author.Needs.{needs}
 use Rattle.decode_letters.proofs.kanji_at.Statement.{statement}
@@ -68,22 +69,26 @@ cast-c c =
     omega (arith, c .shared-slice-known3 .given k)
 
 returns-7 : tie.Need-returns-7
-returns-7 c = λ f. absurd (f refl)
-
-returns-8 : tie.Need-returns-8
-returns-8 c =
-    let at-cell = c .before .before in
+returns-7 c =
+    let at-low = c .before in
+    let at-cell = at-low .before .before in
     let at-second = at-cell .before .before in
     let at-end = at-second .before .before in
     let at-row = at-end .before .before in
     let a = at-row .before .before .args in
     λ f.
     let k = (getD (a .b .now) (a .i) 0 % 128 - 0x21) * 94 + (getD (a .b .now) (a .i + 1) 0 % 128 - 0x21) in
-    let small : getD (a .cells .now) k 0 < 0x10000 = omega (arith, c .before .shared-slice-known3 .given k) in
+    let small : getD (a .cells .now) k 0 < 0x10000 = omega (arith, at-low .before .shared-slice-known3 .given k) in
     let x : getD (a .b .now) (a .i) 0 < 256 = omega (arith, at-second .before .shared-slice-known2 .given (a .i)) in
     let y : getD (a .b .now) (a .i + 1) 0 < 256 = omega (arith, at-second .before .shared-slice-known2 .given (a .i + 1)) in
     ideograph (a .cells .now) (a .b .now) (a .i) x y (at-end .if3 .left) (at-second .if4 .left) (at-row .if1 .left) (at-end .before .if2 .left)
-    (at-cell .before .if5 .left) (at-cell .if6 .left) (c .if7 .left) small
+    (at-cell .before .if5 .left) (at-cell .if6 .left) (at-low .if7 .left) (below _ (omega (arith, c .if8 .taken))) small
+
+returns-8 : tie.Need-returns-8
+returns-8 c = λ f. absurd (f refl)
+
+returns-9 : tie.Need-returns-9
+returns-9 c = λ f. absurd (f refl)
 
 pub kanji-at-spec : {M : Type 1} → statement M
 kanji-at-spec =
@@ -108,4 +113,5 @@ kanji-at-spec =
     shared-slice-read-c
     cast-c
     returns-7
-    returns-8)
+    returns-8
+    returns-9)

@@ -1,8 +1,9 @@
 -- `pair_at` meets its contract. Assumes nothing.
 use Prim.Native.Nat.{_+_, _<_}
-use mathlib.Core.Path.{refl, sym, _∙_}
+use mathlib.Core.Path.{sym, _∙_}
 use native.Mathlib.Omega.{arith}
 use lib.ListN.{getD}
+use Rattle.decode_letters.proofs.Pairs.{pair-of}
 use Rattle.decode_codes.proofs.Laws.{and-left, in-area}
 use borrow.Author.Needs.{needs}
 use Rattle.decode_letters.proofs.pair_at.Statement.{statement}
@@ -12,7 +13,7 @@ add-if1 : tie.Need-add-if1
 add-if1 c = search needs
 
 returns : tie.Need-returns
-returns c = λ f. absurd (f refl)
+returns c = tt
 
 shared-slice-read-x : tie.Need-shared-slice-read-x
 shared-slice-read-x c = search needs
@@ -53,22 +54,14 @@ returns-2 : tie.Need-returns-2
 returns-2 c =
     let second = c .before .before .before in
     let first = second .before .before .before in
-    let pre = first .before .before .before .pre in
-    λ f.
-    let w = c .spacing .ensures _ (c .before .cell-at .ensures) f in (
-      first .if1 .left,
-      record {
-        two = omega (arith, first .if1 .left, pre .1);
-        first = pre .2;
-        second = sym (second .is-second .ensures) ∙ c .before .before .if2 .taken;
-        has = w .0;
-        some = f;
-        spacing = w .1;
-      },
-    )
+    let entry = first .before .before .before in
+    let a = entry .args in
+    let pre = entry .pre in
+    pair-of (a .cells .now) (a .b .now) (a .i) (a .to) (a .set) (first .if1 .left) (pre .1) (pre .2)
+    (sym (second .is-second .ensures) ∙ c .before .before .if2 .taken) (c .spacing .result) (c .spacing .ensures _ (c .before .cell-at .ensures))
 
 returns-3 : tie.Need-returns-3
-returns-3 c = λ f. absurd (f refl)
+returns-3 c = tt
 
 pub pair-at-spec : {M : Type 1} → statement M
 pair-at-spec =

@@ -1,91 +1,23 @@
 -- `decode_output::emit` meets its contract. Assumes nothing.
-use mathlib.Core.Path.{ap, sym, _∙_}
-use native.Mathlib.Omega.{arith}
 use Rattle.decode_output.specs.Output.{times}
-use Rattle.utf8.proofs.Bytes.{length-utf8}
-use Rattle.decode_output.proofs.Held.{held-repeat, emit-times, times-some, holds-plain}
+use Rattle.private_use.proofs.Laws.{count-ordinary}
+use Rattle.decode_output.proofs.Callers.{uncounted}
 use borrow.Author.Needs.{needs}
 use Rattle.decode_output.proofs.emit.Statement.{statement}
 use Rattle.decode_output.proofs.emit.Tie as tie
 
-emit-times-requires : tie.Need-emit-times-requires
-emit-times-requires c κs = search needs
+emit-uncounted-requires : tie.Need-emit-uncounted-requires
+emit-uncounted-requires c κs = search needs
 
 same-length : tie.Need-same-length
 same-length c = search needs
 
 returns : tie.Need-returns
 returns c =
-    let at-emit-times = c .before .before in
-    let at-if1 = at-emit-times .before .before in
-    let at-start = at-if1 .before .before .before in
-    let a = at-start .args in
-    λ i.
-    let w = at-emit-times .emit-times .ensures i in
-    record {
-      does = λ t₀ i₀ o h. rw (emit-times o (a .c) (times-some (a .o .repeat) (at-if1 .if1 .taken) ∙ ap times (held-repeat h))) at (w .does t₀ i₀ o h);
-      grew = w .grew;
-    }
-
-emit-times-requires-2 : tie.Need-emit-times-requires-2
-emit-times-requires-2 c κs = search needs
-
-same-length-2 : tie.Need-same-length-2
-same-length-2 c = search needs
-
-returns-2 : tie.Need-returns-2
-unfolding times
-returns-2 c =
-    let at-emit-times2 = c .before .before in
-    let at-if1 = at-emit-times2 .before .before .before .before in
-    let at-start = at-if1 .before .before .before in
-    let a = at-start .args in
-    λ i.
-    let w = at-emit-times2 .emit-times2 .ensures i in
-    record {
-      does = λ t₀ i₀ o h. rw (emit-times o (a .c) (ap times (sym (at-if1 .if1 .left) ∙ held-repeat h))) at (w .does t₀ i₀ o h);
-      grew = w .grew;
-    }
-
-put-requires : tie.Need-put-requires
-put-requires c κs = search needs
-
-add-to : tie.Need-add-to
-add-to c =
-    let at-put = c .before .before in
-    let at-if1 = at-put .before .before .before .before in
-    let at-start = at-if1 .before .before .before in
-    let a = at-start .args in
-    omega (arith, at-put .put .ensures .count, length-utf8 (a .c) .most)
-
-same-length-3 : tie.Need-same-length-3
-same-length-3 c = search needs
-
-returns-3 : tie.Need-returns-3
-returns-3 c =
-    let at-put = c .before .before in
-    let at-if2 = at-put .before .before in
-    let at-if1 = at-if2 .before .before in
-    let at-start = at-if1 .before .before .before in
-    let a = at-start .args in
-    let w = at-put .put .ensures in
-    λ i.
-    record {
-      does = λ t₀ i₀ o h. rw (w .bytes, w .count) (holds-plain h (a .c) (at-if2 .if2 .left) (at-if1 .if1 .left));
-      grew = record { ordered = omega arith; repeat = omega arith; text = omega (arith, length-utf8 (a .c) .most); issues = omega arith };
-    }
+    let at-emit = c .before .before in
+    let start = at-emit .before .before .before in
+    let a = start .args in
+    λ i. uncounted (count-ordinary (times (a .o .repeat)) (a .c) (start .pre .1)) (at-emit .emit-uncounted .ensures i)
 
 pub emit-spec : {M : Type 1} → statement M
-emit-spec =
-    tie.close
-    (tie.spec
-    emit-times-requires
-    same-length
-    returns
-    emit-times-requires-2
-    same-length-2
-    returns-2
-    put-requires
-    add-to
-    same-length-3
-    returns-3)
+emit-spec = tie.close (tie.spec emit-uncounted-requires same-length returns)

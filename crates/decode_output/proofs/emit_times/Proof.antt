@@ -1,7 +1,8 @@
 -- `decode_output::emit_times` meets its contract. Assumes nothing.
 use mathlib.Core.Path.{refl}
 use native.Mathlib.Omega.{arith}
-use Rattle.decode_output.proofs.Counts.{width-times, times-most}
+use Rattle.private_use.proofs.Laws.{count-most}
+use Rattle.decode_output.proofs.Counts.{width-times, times-most, times-least}
 use Rattle.decode_output.proofs.Held.{holds-moved, holds-counted}
 use borrow.Author.Needs.{needs}
 use Rattle.decode_output.proofs.emit_times.Statement.{statement}
@@ -51,17 +52,19 @@ returns c =
     λ i.
     record {
       does = λ t₀ i₀ o h. holds-moved h (a .n) (a .c) e (at-if1 .if1 .taken) refl (at-insert .insert .ensures);
-      grew = record { ordered = omega arith; repeat = omega arith; text = omega (arith, e, times-most (a .n) (a .c)); issues = omega arith };
+      grew = record { ordered = (omega arith, omega (arith, e, times-least (a .n) (a .c), count-most (a .n) (a .c))); repeat = omega arith; text = omega (arith, e, times-most (a .n) (a .c)); issues = omega arith };
     }
 
 returns-2 : tie.Need-returns-2
 returns-2 c =
-    let a = c .before .before .before .args in
-    let e = width-times (a .n) (a .c) (c .before .width .ensures) in
+    let at-width = c .before in
+    let at-start = at-width .before .before in
+    let a = at-start .args in
+    let e = width-times (a .n) (a .c) (at-width .width .ensures) in
     λ i.
     record {
       does = λ t₀ i₀ o h. holds-counted h (a .n) (a .c) e (omega (arith, c .if1 .left));
-      grew = record { ordered = omega arith; repeat = omega arith; text = omega (arith, e, times-most (a .n) (a .c)); issues = omega arith };
+      grew = record { ordered = (omega arith, omega (arith, e, times-least (a .n) (a .c), count-most (a .n) (a .c))); repeat = omega arith; text = omega (arith, e, times-most (a .n) (a .c)); issues = omega arith };
     }
 
 pub emit-times-spec : {M : Type 1} → statement M

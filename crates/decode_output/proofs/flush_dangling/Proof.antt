@@ -22,7 +22,7 @@ returns-2 c =
     let w = c .before .before .issue .ensures t in
     record {
       does = λ t₀ i₀ o h. holds-released h (c .before .before .before .before .if1 .left) (w .does t₀ i₀ o h);
-      grew = record { ordered = omega arith; repeat = w .grew .repeat; text = w .grew .text; issues = w .grew .issues };
+      grew = record { ordered = (omega arith, w .grew .ordered .1); repeat = w .grew .repeat; text = w .grew .text; issues = w .grew .issues };
     }
 
 pub flush-dangling-spec : {M : Type 1} → statement M

@@ -8,6 +8,9 @@ use Rattle.decode_output.proofs.issue.Tie as tie
 numbers-requires : tie.Need-numbers-requires
 numbers-requires c κs = search needs
 
+cast-k : tie.Need-cast-k
+cast-k c = search needs
+
 mul-k : tie.Need-mul-k
 mul-k c = search needs
 
@@ -79,6 +82,7 @@ issue-spec =
     tie.close
     (tie.spec
     numbers-requires
+    cast-k
     mul-k
     put32-requires
     add-put32

@@ -23,12 +23,12 @@ returns c =
     let at-put = c .before .before .before .before in
     let start = at-put .before .before .before in
     let a = start .args in
-    let p = start .pre in
+    let p = start .pre .0 in
     let w = at-put .put .ensures in
     λ i.
     record {
-      does = λ t₀ i₀ o h. rw (w .bytes, w .count) (holds-mark h (a .m) (a .at) (first-none h (a .at) (c .if1 .taken)));
-      grew = record { ordered = omega arith; repeat = p .repeat; text = omega (arith, length-utf8 (a .m) .most); issues = omega arith };
+      does = λ t₀ i₀ o h. rw (w .bytes, w .count) (holds-mark h (a .m) (a .at) (start .pre .1) (first-none h (a .at) (c .if1 .taken)));
+      grew = record { ordered = (omega arith, omega arith); repeat = p .repeat; text = omega (arith, length-utf8 (a .m) .most); issues = omega arith };
     }
 
 same-length-2 : tie.Need-same-length-2
@@ -39,12 +39,12 @@ returns-2 c =
     let at-put = c .before .before .before .before in
     let start = at-put .before .before .before in
     let a = start .args in
-    let p = start .pre in
+    let p = start .pre .0 in
     let w = at-put .put .ensures in
     λ i.
     record {
-      does = λ t₀ i₀ o h. rw (w .bytes, w .count) (holds-mark h (a .m) (a .at) (first-some h (a .at) (c .if1 .left)));
-      grew = record { ordered = omega arith; repeat = p .repeat; text = omega (arith, length-utf8 (a .m) .most); issues = omega arith };
+      does = λ t₀ i₀ o h. rw (w .bytes, w .count) (holds-mark h (a .m) (a .at) (start .pre .1) (first-some h (a .at) (c .if1 .left)));
+      grew = record { ordered = (omega arith, omega arith); repeat = p .repeat; text = omega (arith, length-utf8 (a .m) .most); issues = omega arith };
     }
 
 pub mark-spec : {M : Type 1} → statement M

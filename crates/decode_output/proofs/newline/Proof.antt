@@ -37,7 +37,7 @@ returns c =
     let w = at-put .put .ensures in
     record {
       does = λ t₀ i₀ o h. rw (w .bytes, w .count) (holds-newline o (f .does t₀ i₀ o h));
-      grew = record { ordered = omega arith; repeat = f .grew .repeat; text = omega (arith, length-utf8 0x0A .most, f .grew .text); issues = f .grew .issues };
+      grew = record { ordered = (omega arith, omega (arith, f .grew .ordered .1)); repeat = f .grew .repeat; text = omega (arith, length-utf8 0x0A .most, f .grew .text); issues = f .grew .issues };
     }
 
 pub newline-spec : {M : Type 1} → statement M

@@ -24,8 +24,14 @@ flush-dangling-requires c κs =
     let entry = at-slices .before .before .before in
     room-end (entry .args .input .now) (entry .args .initial) (entry .args .width) _ (entry .pre) (at-start .start .ensures) (at-top .top .ensures)
 
+cast-reported : tie.Need-cast-reported
+cast-reported c = search needs
+
 cast-charged : tie.Need-cast-charged
 cast-charged c = search needs
+
+cast-private-use : tie.Need-cast-private-use
+cast-private-use c = search needs
 
 same-length : tie.Need-same-length
 same-length c = search needs
@@ -35,7 +41,7 @@ same-length-2 c = search needs
 
 returns : tie.Need-returns
 returns c =
-    let at-flush = c .before .before .before in
+    let at-flush = c .before .before .before .before .before in
     let after-top = at-flush .before .before .before in
     let at-top = after-top .before .before .before .before in
     let at-start = at-top .before .before .before in
@@ -45,4 +51,6 @@ returns c =
     read (a .cells .now) (a .initial) (a .width) (a .input .now) (entry .pre) (at-start .start .ensures) (at-top .top .ensures) (at-flush .flush-dangling .ensures _)
 
 pub read-spec : {M : Type 1} → statement M
-read-spec = tie.close (tie.spec start-requires top-requires flush-dangling-requires cast-charged same-length same-length-2 returns)
+read-spec =
+    tie.close
+    (tie.spec start-requires top-requires flush-dangling-requires cast-reported cast-charged cast-private-use same-length same-length-2 returns)

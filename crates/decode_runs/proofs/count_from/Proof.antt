@@ -5,7 +5,7 @@ use native.Mathlib.Omega.{arith}
 use lib.ListN.{length, getD}
 use Rattle.utf8.specs.Utf8.{utf8}
 use Rattle.reading.specs.Characters.{letter}
-use Rattle.decode_letters.proofs.Spelling.{letter-of, three-bytes, three-most, spells-letter, kanji-two, spells-pair}
+use Rattle.decode_letters.proofs.Spelling.{letter-of, letter-plain, three-bytes, three-most, spells-letter, kanji-two, spells-pair}
 use Rattle.decode_runs.specs.Contracts.{Counted}
 use Rattle.decode_runs.proofs.Runs.{counted-start, counted-more}
 use borrow.Author.Needs.{needs}
@@ -13,10 +13,10 @@ use Rattle.decode_runs.proofs.count_from.Statement.{statement}
 use Rattle.decode_runs.proofs.count_from.Tie as tie
 
 abbrev Inv-loop : tie.InvT-loop
-Inv-loop cells b to gl gr narrow i₀ m₀ i m = Counted cells b i₀ to (record { gl = gl; gr = gr; narrow = narrow }) m₀ i m
+Inv-loop cells b to gl gr narrow private i₀ m₀ i m = Counted cells b i₀ to (record { gl = gl; gr = gr; narrow = narrow }) m₀ private i m private
 
 abbrev μ-loop : tie.MeasureT-loop
-μ-loop cells b to gl gr narrow i₀ m₀ i m = to - i
+μ-loop cells b to gl gr narrow private i₀ m₀ i m = to - i
 
 loop-holds : tie.Need-loop-holds Inv-loop μ-loop
 loop-holds c = counted-start (c .before .before .pre .0)
@@ -69,7 +69,7 @@ loop-again c =
     let x : getD b i 0 < 256 = omega (arith, at-bytes .shared-slice-known2 .given i) in
     let two = w .pair .two in
     counted-more 2 _ (turn .loop .inv) (omega arith) (omega arith)
-    (spells-pair _ b i _ x (sym (at-if2 .if2 .taken) ∙ at-set-of .set-of .ensures) kanji-two (w .pair)) (three-bytes _ (omega (arith, w .low)) (w .high)) (omega arith)
+    (spells-pair _ b i _ x (sym (at-if2 .if2 .taken) ∙ at-set-of .set-of .ensures) kanji-two (w .pair)) (w .ordinary) (three-bytes _ (omega (arith, w .low)) (w .high)) (omega arith)
     (omega (arith, at-if1 .if1 .left))
 
 initial-at-requires : tie.Need-initial-at-requires Inv-loop μ-loop
@@ -123,7 +123,7 @@ loop-again-2 c =
     let x : getD b i 0 < 256 = omega (arith, at-bytes .shared-slice-known2 .given i) in
     let most : length (utf8 l) ≤ 3 * 1 = omega (arith, three-most l (w .small)) in
     counted-more 1 _ (turn .loop .inv) (omega arith) (omega (arith, at-if1 .if1 .left, entry .pre .1))
-    (spells-letter _ b i _ x (at-set-of .set-of .ensures) e some w) (c .width .ensures) (omega (arith, most, c .width .ensures))
+    (spells-letter _ b i _ x (at-set-of .set-of .ensures) e some w) (letter-plain (a .sets .narrow) (at-set-of .set-of .result) (getD b i 0 % 128) e) (c .width .ensures) (omega (arith, most, c .width .ensures))
     (omega (arith, at-if1 .if1 .left, most, c .width .ensures))
 
 pub count-from-spec : {M : Type 1} → statement M

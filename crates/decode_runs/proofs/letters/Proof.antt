@@ -20,7 +20,10 @@ runs-from-requires c κs =
     let at-begin = c .before .before .before .before in
     let entry = at-begin .before .before .before .before .before in
     let begins = at-begin .may-begin .ensures (c .before .before .before .if1 .taken) in
-    (entry .pre .0 .0, begins .table, omega (arith, entry .pre .1 .room .ordered, entry .pre .1 .room .text), c .before .before .settings-of .ensures .0)
+    let room = entry .pre .1 .room in (
+      (entry .pre .0 .0, begins .table, omega (arith, room .ordered .0, room .text), c .before .before .settings-of .ensures .0),
+      omega (arith, room .ordered .1, room .text),
+    )
 
 with-settings-requires : tie.Need-with-settings-requires
 with-settings-requires c κs = search needs
@@ -37,7 +40,7 @@ returns c =
     let s = entry .args .s in
     let begins = at-begin .may-begin .ensures (at-settings .before .if1 .taken) in
     λ base origin i.
-    stretch-runs i base origin (entry .pre .1) (plain-text s begins ∙ sym (at-settings .settings-of .ensures .1 (s .out .len))) (c .with-settings .ensures)
+    stretch-runs i base origin (entry .pre .1) (plain-text s begins ∙ sym (at-settings .settings-of .ensures .1 (s .out .len) (s .out .private_use))) (c .with-settings .ensures)
     (at-run .runs-from .ensures)
 
 returns-2 : tie.Need-returns-2

@@ -5,16 +5,16 @@ use native.Mathlib.Omega.{arith}
 use lib.ListN.{getD}
 use Rattle.reading.specs.Characters.{letter}
 use Rattle.decode_runs.proofs.Runs.{Spelt, spelt-start, spelt-more}
-use Rattle.decode_letters.proofs.Spelling.{letter-of, three-bytes, one-byte, put-one, spells-letter, kanji-two, spells-pair}
+use Rattle.decode_letters.proofs.Spelling.{letter-of, letter-plain, three-bytes, one-byte, put-one, spells-letter, kanji-two, spells-pair}
 use borrow.Author.Needs.{needs}
 use Rattle.decode_runs.proofs.letters_from.Statement.{statement}
 use Rattle.decode_runs.proofs.letters_from.Tie as tie
 
 abbrev Inv-loop : tie.InvT-loop
-Inv-loop cells b to text₀ gl gr narrow i₀ m₀ text i m = Spelt cells b i₀ to (record { gl = gl; gr = gr; narrow = narrow }) m₀ text₀ i m text
+Inv-loop cells b to text₀ gl gr narrow private i₀ m₀ text i m = Spelt cells b i₀ to (record { gl = gl; gr = gr; narrow = narrow }) m₀ private text₀ i m text
 
 abbrev μ-loop : tie.MeasureT-loop
-μ-loop cells b to text₀ gl gr narrow i₀ m₀ text i m = to - i
+μ-loop cells b to text₀ gl gr narrow private i₀ m₀ text i m = to - i
 
 loop-holds : tie.Need-loop-holds Inv-loop μ-loop
 loop-holds c =
@@ -100,7 +100,7 @@ loop-again c =
     let x : getD b i 0 < 256 = omega (arith, at-bytes .shared-slice-known2 .given i) in
     let two = w .pair .two in
     spelt-more 2 _ inv (omega arith) (omega arith)
-    (spells-pair _ b i _ x (sym (at-if2 .if2 .taken) ∙ at-set-of .set-of .ensures) kanji-two (w .pair)) (three-bytes _ (omega (arith, w .low)) (w .high)) (omega arith)
+    (spells-pair _ b i _ x (sym (at-if2 .if2 .taken) ∙ at-set-of .set-of .ensures) kanji-two (w .pair)) (w .ordinary) (three-bytes _ (omega (arith, w .low)) (w .high)) (omega arith)
     (omega (arith, at-if1 .if1 .left)) (c .before .before .put3 .ensures)
 
 initial-at-requires : tie.Need-initial-at-requires Inv-loop μ-loop
@@ -168,7 +168,7 @@ loop-again-2 c =
     let w = letter-of (a .sets .narrow) e some (omega arith) in
     let x : getD b i 0 < 256 = omega (arith, at-bytes .shared-slice-known2 .given i) in
     spelt-more 1 _ inv (omega arith) (omega (arith, inv .room, inv .as-long, inv .letters .within, at-if1 .if1 .left))
-    (spells-letter _ b i _ x (at-set-of .set-of .ensures) e some w) (three-bytes _ (at-if4 .if4 .taken) (w .small)) (omega arith)
+    (spells-letter _ b i _ x (at-set-of .set-of .ensures) e some w) (letter-plain (a .sets .narrow) (at-set-of .set-of .result) (getD b i 0 % 128) e) (three-bytes _ (at-if4 .if4 .taken) (w .small)) (omega arith)
     (omega (arith, at-if1 .if1 .left)) (c .before .before .put32 .ensures)
 
 same-length-3 : tie.Need-same-length-3 Inv-loop μ-loop
@@ -245,7 +245,7 @@ loop-again-3 c =
     let w = letter-of (a .sets .narrow) e some (omega arith) in
     let x : getD b i 0 < 256 = omega (arith, at-bytes .shared-slice-known2 .given i) in
     spelt-more 1 _ inv (omega arith) (omega (arith, inv .room, inv .as-long, inv .letters .within, at-if1 .if1 .left))
-    (spells-letter _ b i _ x (at-set-of .set-of .ensures) e some w) (one-byte l (c .if6 .left)) (omega arith) (omega (arith, at-if1 .if1 .left)) (put-one _ _ l (c .if6 .left))
+    (spells-letter _ b i _ x (at-set-of .set-of .ensures) e some w) (letter-plain (a .sets .narrow) (at-set-of .set-of .result) (getD b i 0 % 128) e) (one-byte l (c .if6 .left)) (omega arith) (omega (arith, at-if1 .if1 .left)) (put-one _ _ l (c .if6 .left))
 
 pub letters-from-spec : {M : Type 1} → statement M
 letters-from-spec =

@@ -1,75 +1,86 @@
--- `other` meets its contract. Assumes nothing.
-use Prim.Native.Nat.{_+_, _-_, _*_, _^_, _≤_, _<_}
-use mathlib.Core.Path.{ap, _∙_}
+-- `other` meets its contract: a private-use character is counted, and an ordinary one is not. Assumes nothing.
+use Prim.Native.Nat.{_+_, _≤_, _<_, _^_}
 use native.Mathlib.Omega.{arith}
-use lib.ListN.{length}
-use lib.Seq.{length-sets}
-use Rattle.utf8.specs.Utf8.{utf8}
-use Rattle.decode_runs.proofs.Runs.{space-on, space-sum, letters-none, letters-more}
+use Rattle.private_use.proofs.Laws.{count-private, count-ordinary}
+use Rattle.decode_runs.proofs.Runs.{space-sum, letters-none, behind-letters, behind-space}
 use borrow.Author.Needs.{needs}
 use Rattle.decode_runs.proofs.other.Statement.{statement}
 use Rattle.decode_runs.proofs.other.Tie as tie
 
 returns : tie.Need-returns
 returns c =
-    let entry = c .before .before .before .before in
+    let entry = c .before .before .before .before .before .before in
     (letters-none (entry .pre .0 .0), entry .pre .1)
 
 character-requires : tie.Need-character-requires
 character-requires c κs = search needs
 
-returns-2 : tie.Need-returns-2
-returns-2 c =
-    let at-if1 = c .before .before in
-    let entry = at-if1 .before .before .before .before in
-    (letters-none (entry .pre .0 .0), entry .pre .1)
+enum-known-cell : tie.Need-enum-known-cell
+enum-known-cell c = search needs
 
-put-requires : tie.Need-put-requires
-put-requires c κs = search needs
+behind-requires : tie.Need-behind-requires
+behind-requires c κs =
+    let at-cell = c .before .before in
+    let at-character = at-cell .before .before in
+    let entry = at-character .before .before .before .before .before .before .before in
+    let w = rw (at-cell .cell .given .1) at (at-character .character .ensures) in
+    let sum = space-sum (entry .pre .1) (omega (arith, entry .good)) in
+    (omega (arith, w .0 .within, entry .pre .0 .1, entry .good), omega (arith, sum), omega (arith, entry .pre .0 .2))
 
-add-at : tie.Need-add-at
-add-at c =
-    let at-if2 = c .before .before .before .before .before in
-    let at-character = at-if2 .before in
-    let entry = at-character .before .before .before .before .before in
-    let r = at-character .character .ensures (at-if2 .if2 .left) in
-    omega (arith, r .within, entry .pre .0 .1)
+enum-known-cell-2 : tie.Need-enum-known-cell-2
+enum-known-cell-2 c = search needs
 
-add-len : tie.Need-add-len
-add-len c =
-    let at-put = c .before .before .before in
-    let at-if2 = at-put .before .before in
-    let at-character = at-if2 .before in
-    let entry = at-character .before .before .before .before .before in
-    let a = entry .args in
-    let n = at-put .put .result in
-    let r = at-character .character .ensures (at-if2 .if2 .left) in
-    let within : a .from .at + at-character .character .result .used ≤ a .limit .to = r .within in
-    let most : n ≤ 3 * at-character .character .result .used = omega (arith, r .most, at-put .put .ensures .count) in
-    let fits : a .from .len + n < 2 ^ 64 = omega (arith, within, most, space-sum (entry .pre .1) (omega (arith, entry .good))) in
-    record { fits = fits }
+behind-requires-2 : tie.Need-behind-requires-2
+behind-requires-2 c κs =
+    let at-cell = c .before .before in
+    let at-character = at-cell .before .before in
+    let entry = at-character .before .before .before .before .before .before .before in
+    let w = rw (at-cell .cell2 .given .1) at (at-character .character .ensures) in
+    let sum = space-sum (entry .pre .1) (omega (arith, entry .good)) in (
+      omega (arith, w .0 .within, entry .pre .0 .1, entry .good),
+      omega (arith, sum),
+      omega (arith, entry .pre .0 .2, at-character .before .if1 .left),
+    )
+
+enum-told : tie.Need-enum-told
+enum-told c = search needs
 
 same-length : tie.Need-same-length
 same-length c = search needs
 
+returns-2 : tie.Need-returns-2
+returns-2 c =
+    let at-behind = c .before .before in
+    let at-cell = at-behind .before .before .before in
+    let at-character = at-cell .before .before in
+    let entry = at-character .before .before .before .before .before .before .before in
+    let pre = entry .pre in
+    let w = rw (at-cell .cell .given .1) at (at-character .character .ensures) in
+    let count = count-ordinary 1 _ (w .1) in (
+      behind-letters (pre .0 .0) (pre .0 .1) (w .0) count (pre .1) (at-behind .behind .ensures),
+      behind-space (pre .0 .0) (pre .0 .1) (w .0) count (pre .1) (at-behind .behind .ensures),
+    )
+
+same-length-2 : tie.Need-same-length-2
+same-length-2 c = search needs
+
 returns-3 : tie.Need-returns-3
 returns-3 c =
-    let at-put = c .before .before .before in
-    let at-if2 = at-put .before .before in
-    let at-character = at-if2 .before in
-    let entry = at-character .before .before .before .before .before in
-    let a = entry .args in
-    let u = at-character .character .result .used in
-    let l = at-character .character .result .scalar in
-    let n = at-put .put .result in
-    let r = at-character .character .ensures (at-if2 .if2 .left) in
-    let inside : a .from .at + u ≤ length (a .b .now) = omega (arith, r .within, entry .pre .0 .1) in
-    let most : n ≤ 3 * u = omega (arith, r .most, at-put .put .ensures .count) in
-    let room : n + 3 * (a .limit .to - (a .from .at + u)) ≤ 3 * (a .limit .to - a .from .at) = omega (arith, r .within) in
-    let long = ap length (at-put .put .ensures .bytes) ∙ length-sets (a .text .now) (a .from .len) (utf8 l) in (
-      letters-more u l (letters-none (entry .pre .0 .0)) (r .some) inside (r .spells) (at-put .put .ensures .count) most (at-put .put .ensures .bytes),
-      space-on (omega arith) (omega (arith, room)) long (entry .pre .1),
+    let at-behind = c .before .before in
+    let at-cell = at-behind .before .before .before in
+    let at-character = at-cell .before .before in
+    let entry = at-character .before .before .before .before .before .before .before in
+    let pre = entry .pre in
+    let w = rw (at-cell .cell2 .given .1) at (at-character .character .ensures) in
+    let count = count-private 1 _ (w .1) in (
+      behind-letters (pre .0 .0) (pre .0 .1) (w .0) count (pre .1) (at-behind .behind2 .ensures),
+      behind-space (pre .0 .0) (pre .0 .1) (w .0) count (pre .1) (at-behind .behind2 .ensures),
     )
+
+returns-4 : tie.Need-returns-4
+returns-4 c =
+    let entry = c .before .before .before .before .before .before .before .before .before in
+    (letters-none (entry .pre .0 .0), entry .pre .1)
 
 pub other-spec : {M : Type 1} → statement M
 other-spec =
@@ -77,9 +88,13 @@ other-spec =
     (tie.spec
     returns
     character-requires
-    returns-2
-    put-requires
-    add-at
-    add-len
+    enum-known-cell
+    behind-requires
+    enum-known-cell-2
+    behind-requires-2
+    enum-told
     same-length
-    returns-3)
+    returns-2
+    same-length-2
+    returns-3
+    returns-4)

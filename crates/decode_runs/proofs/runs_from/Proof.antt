@@ -9,10 +9,11 @@ use Rattle.decode_runs.proofs.runs_from.Statement.{statement}
 use Rattle.decode_runs.proofs.runs_from.Tie as tie
 
 abbrev Inv-loop : tie.InvT-loop
-Inv-loop cells b annex settings₀ text₀ i₀ m₀ limit settings text i m = Running cells b i₀ (limit .to) (limit .fits) annex settings₀ m₀ text₀ i settings m text
+Inv-loop cells b annex settings₀ text₀ i₀ m₀ private₀ limit settings text i m private =
+    Running cells b i₀ (limit .to) (limit .fits) annex settings₀ m₀ private₀ text₀ i settings m private text
 
 abbrev μ-loop : tie.MeasureT-loop
-μ-loop cells b annex settings₀ text₀ i₀ m₀ limit settings text i m = length b - i
+μ-loop cells b annex settings₀ text₀ i₀ m₀ private₀ limit settings text i m private = length b - i
 
 limit-of-requires : tie.Need-limit-of-requires Inv-loop μ-loop
 limit-of-requires c κs = search needs
@@ -20,7 +21,7 @@ limit-of-requires c κs = search needs
 loop-holds : tie.Need-loop-holds Inv-loop μ-loop
 loop-holds c =
     let entry = c .before .before .before .before .before in
-    running-start (entry .pre .0) (c .limit-of .ensures .2) (entry .pre .3)
+    running-start (entry .pre .0 .0) (c .limit-of .ensures .2) (entry .pre .0 .3)
 
 slice-read-left : tie.Need-slice-read-left Inv-loop μ-loop
 slice-read-left c = search needs
@@ -53,10 +54,20 @@ run-from-requires c κs =
     let at-limit = turn .before in
     let entry = at-limit .before .before .before .before .before in
     let inv = turn .loop .inv in
-    ((inv .runs .within, at-limit .limit-of .ensures .1, entry .pre .1), space-on (omega arith) (omega arith) (inv .as-long) (inv .room))
+    ((inv .runs .within, at-limit .limit-of .ensures .1, entry .pre .0 .1), space-on (omega arith) (omega arith) (inv .as-long) (inv .room))
 
 other-requires : tie.Need-other-requires Inv-loop μ-loop
-other-requires c κs = search needs
+other-requires c κs =
+    let at-run-from = c .before .before .before in
+    let turn = at-run-from .before .before .before .before .before .before .before .before in
+    let at-limit = turn .before in
+    let entry = at-limit .before .before .before .before .before in
+    let runs = turn .loop .inv .runs in
+    let w = at-run-from .run-from .ensures .0 in
+    let to = at-limit .limit-of .ensures .1 in (
+      (w .within, to, omega (arith, w .few, w .most, w .past, w .within, runs .few, runs .most, runs .past, to, entry .pre .1)),
+      at-run-from .run-from .ensures .1,
+    )
 
 controls-requires : tie.Need-controls-requires Inv-loop μ-loop
 controls-requires c κs = search needs
@@ -71,7 +82,7 @@ same-length c =
     let turn = at-slices .before .before .before .before in
     let entry-slices = turn .before .before in
     let entry = entry-slices .before .before .before .before in
-    at-controls .controls .ensures .settings .seven ∙ sym (entry .pre .3 .seven)
+    at-controls .controls .ensures .settings .seven ∙ sym (entry .pre .0 .3 .seven)
 
 same-length-2 : tie.Need-same-length-2 Inv-loop μ-loop
 same-length-2 c = search needs

@@ -4,6 +4,8 @@ use mathlib.Core.Bool.{Bool, cond}
 use mathlib.Core.Logic.{⊎-elim}
 use native.Mathlib.Omega.{arith}
 use borrow.Author.Needs.{needs}
+use Prim.Native.Nat.{_<_}
+use Rattle.private_use.proofs.Laws.{below}
 use Rattle.decode_steps.proofs.Moving.{took-over, took-as, took-writes}
 use Rattle.decode_steps.proofs.Branches.{space-as}
 use Rattle.decode_steps.proofs.space.Statement.{statement}
@@ -13,7 +15,12 @@ is-narrow-requires : tie.Need-is-narrow-requires
 is-narrow-requires c κs = search needs
 
 emit-requires : tie.Need-emit-requires
-emit-requires c κs = search needs
+emit-requires c κs =
+    let at-test = c .before in
+    let entry = at-test .before .before .before in
+    let low : at-test .if1 .c < 0xE000 = ⊎-elim (λ w. omega (arith, w .1)) (λ w. omega (arith, w .1)) (at-test .if1 .came) in
+    let room = entry .pre .room in
+    (record { ordered = room .ordered; repeat = room .repeat; text = room .text; issues = omega arith }, below (at-test .if1 .c) low)
 
 same-length : tie.Need-same-length
 same-length c = search needs

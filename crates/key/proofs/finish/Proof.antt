@@ -1,8 +1,7 @@
 -- `key::finish` meets its contract, by the decoding's answer. Assumes nothing.
-use mathlib.Core.Path.{sym, ap}
+use mathlib.Core.Path.{ap}
 use native.Mathlib.Omega.{arith}
 use borrow.Author.Needs.{needs}
-use lib.Seq.{length-take-le}
 use Rattle.decode.specs.Answers.{textOf}
 use Rattle.key.proofs.Calls.{keyed-as, refused-as}
 use Rattle.key.proofs.finish.Statement.{statement}
@@ -11,17 +10,10 @@ use Rattle.key.proofs.finish.Tie as tie
 enum-known-r : tie.Need-enum-known-r
 enum-known-r c = search needs
 
-slice-relend-prefix-remove : tie.Need-slice-relend-prefix-remove
-slice-relend-prefix-remove c = omega (arith, ap textOf (c .before .r .given .1), c .before .before .before .before .pre)
-
-slice-aggregate-remove : tie.Need-slice-aggregate-remove
-slice-aggregate-remove c =
+from-text-requires : tie.Need-from-text-requires
+from-text-requires c κs =
     let at-r = c .before .before in
-    let at-start = at-r .before .before .before in
-    sym (length-take-le _ _ (omega (arith, ap textOf (at-r .r .given .1), at-start .pre)))
-
-remove-requires : tie.Need-remove-requires
-remove-requires c κs = search needs
+    omega (arith, ap textOf (at-r .r .given .1), at-r .before .before .before .pre)
 
 enum-known-r-2 : tie.Need-enum-known-r-2
 enum-known-r-2 c = search needs
@@ -34,23 +26,12 @@ same-length c = search needs
 
 returns : tie.Need-returns
 returns c =
-    let at-remove = c .before .before in
-    let at-r = at-remove .before .before .before in
-    λ l d. keyed-as l _ _ d _ _ _ _ _ (at-r .r .given .1) (at-remove .remove .ensures)
+    let at-text = c .before .before in
+    let at-r = at-text .before .before .before in
+    λ l d. keyed-as l _ _ d _ _ _ _ _ _ (at-r .r .given .1) (at-text .from-text .ensures)
 
 returns-2 : tie.Need-returns-2
 returns-2 c = λ l d. refused-as l _ _ d _ _ _ (c .before .before .r2 .given .1) (c .refuse .ensures)
 
 pub finish-spec : {M : Type 1} → statement M
-finish-spec =
-    tie.close
-    (tie.spec
-    enum-known-r
-    slice-relend-prefix-remove
-    slice-aggregate-remove
-    remove-requires
-    enum-known-r-2
-    refuse-requires
-    same-length
-    returns
-    returns-2)
+finish-spec = tie.close (tie.spec enum-known-r from-text-requires enum-known-r-2 refuse-requires same-length returns returns-2)

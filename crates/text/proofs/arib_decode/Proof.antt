@@ -17,6 +17,9 @@ issues-requires c κs = search needs
 charged-requires : tie.Need-charged-requires
 charged-requires c κs = search needs
 
+private-use-requires : tie.Need-private-use-requires
+private-use-requires c κs = search needs
+
 place-requires : tie.Need-place-requires
 place-requires c κs = search needs
 
@@ -42,14 +45,16 @@ returns : tie.Need-returns
 returns c =
     let at-report = c .before .before .before in
     let at-place = at-report .before .before in
-    let at-charged = at-place .before .before in
+    let at-private-use = at-place .before .before in
+    let at-charged = at-private-use .before in
     let at-text2 = at-charged .before .before in
     let at-call = at-text2 .before .before .before .before .before in
     let at-slice-known3 = at-call .before .before .before in
     let a = at-slice-known3 .before .before .before .before .before .args in
     let lends = lent (a .cells .now) (a .initial) (a .width) (a .input .now) (a .text .now) (a .issues .now) in
     decodes {c = lends} (at-call .decode-with .ensures) (c .number .ensures) (at-place .place .ensures) (at-text2 .text2 .ensures)
-    (at-charged .before .issues2 .ensures) (at-charged .charged .ensures) (at-report .report .ensures)
+    (at-charged .before .issues2 .ensures) (at-charged .charged .ensures) (at-private-use .private-use .ensures)
+    (at-report .report .ensures)
 
 pub arib-decode-spec : {M : Type 1} → statement M
 arib-decode-spec =
@@ -59,6 +64,7 @@ arib-decode-spec =
     text-requires
     issues-requires
     charged-requires
+    private-use-requires
     place-requires
     slice-aggregate-report
     report-requires
