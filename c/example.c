@@ -1,5 +1,5 @@
-/* Reads, codes and keys a title, asks whether it is clean and how much room it takes: the calls of
- * arib_text.h, as a test. c/test builds and runs it. */
+/* Reads, codes and keys a title, counts its private-use characters, asks whether it is clean and
+ * how much room it takes: the calls of arib_text.h, as a test. c/test builds and runs it. */
 #include <assert.h>
 #include <stdio.h>
 #include <stdlib.h>
@@ -30,19 +30,19 @@ static void reads(void)
     const uint8_t title[] = {0x24, 0xA2};
     uint8_t text[16];
     uint32_t issues[ROOM];
-    size_t counts[4];
+    size_t counts[5];
     memset(text, 0xAA, sizeof text);
-    uint32_t refused = arib_decode(cells, 8836, 0, 0, title, 2, text, 16, issues, ROOM, counts, 4);
+    uint32_t refused = arib_decode(cells, 8836, 0, 0, title, 2, text, 16, issues, ROOM, counts, 5);
     assert(refused == 0);
-    assert(counts[0] == 0 && counts[1] == 3 && counts[2] == 1 && counts[3] == 0);
+    assert(counts[0] == 0 && counts[1] == 3 && counts[2] == 1 && counts[3] == 0 && counts[4] == 0);
     assert(memcmp(text, "あ\0\0\0\0\0\0\0\0\0\0\0\0\0", 16) == 0);
     const uint32_t truncated[ROOM] = {0, ARIB_TRUNCATED, 0, 0, 0};
     assert(memcmp(issues, truncated, sizeof issues) == 0);
     printf("24 A2 reads as %s, with %zu issue\n", (const char *)text, counts[2]);
 
-    refused = arib_decode(cells, 8836, 0, 0, title, 2, text, 2, issues, ROOM, counts, 4);
+    refused = arib_decode(cells, 8836, 0, 0, title, 2, text, 2, issues, ROOM, counts, 5);
     assert(refused == 8 && counts[1] == 0 && text[0] == 0 && text[1] == 0);
-    refused = arib_decode(cells, 8835, 2, 0, title, 2, text, 16, issues, ROOM, counts, 4);
+    refused = arib_decode(cells, 8835, 2, 0, title, 2, text, 16, issues, ROOM, counts, 5);
     assert(refused == 1);
 }
 
@@ -67,6 +67,25 @@ static void places(void)
 
     refused = arib_decode(cells, 8836, 0, 0, input, 6, text, 16, issues, ROOM - 1, counts, 4);
     assert(refused == 9 && counts[1] == 0 && counts[2] == 0 && issues[ARIB_ISSUE_POSITION] == 0);
+}
+
+/* 92-26, which is U+E290, twice; five bytes are too few. Four counts are the first four, and a
+ * sixth stays as it was. */
+static void counts_private_use(void)
+{
+    const uint8_t input[] = {0x98, 0x42, 0x7C, 0x3A};
+    uint8_t text[16];
+    uint32_t issues[ROOM];
+    size_t counts[6] = {7, 7, 7, 7, 7, 7};
+    uint32_t refused = arib_decode(cells, 8836, 0, 0, input, 4, text, 16, issues, ROOM, counts, 4);
+    assert(refused == 0 && counts[1] == 6 && counts[2] == 0 && counts[3] == 0 && counts[4] == 7);
+    refused = arib_decode(cells, 8836, 0, 0, input, 4, text, 16, issues, ROOM, counts, 6);
+    assert(refused == 0 && counts[1] == 6 && counts[4] == 2 && counts[5] == 7);
+    assert(memcmp(text, "\uE290\uE290", 7) == 0);
+    printf("98 42 7C 3A has %zu private-use characters\n", counts[4]);
+
+    refused = arib_decode(cells, 8836, 0, 0, input, 4, text, 5, issues, ROOM, counts, 5);
+    assert(refused == 8 && counts[0] == 0 && counts[1] == 0 && counts[4] == 0);
 }
 
 static void finds_an_escape(void)
@@ -108,6 +127,22 @@ static void keys(void)
     refused = arib_key(cells, 8836, 0, 0, narrow, 3, key, 16, counts, 3);
     assert(refused == 0 && counts[1] == 1 && memcmp(key, "A\0\0\0", 4) == 0);
     printf("0E 41 and 89 0E 41 have the key %s\n", (const char *)key);
+}
+
+/* U+E290, then あ with an issue, six bytes: 8 before 10 before 11. */
+static void refuses_keys(void)
+{
+    const uint8_t title[] = {0x7C, 0x3A, 0x24, 0xA2}, zeros[16] = {0};
+    uint8_t key[16];
+    size_t counts[3] = {7, 7, 7};
+    memset(key, 0xAA, sizeof key);
+    uint32_t refused = arib_key(cells, 8836, 0, 0, title, 2, key, 16, counts, 3);
+    assert(refused == 11 && counts[0] == 0 && counts[1] == 0 && counts[2] == 0);
+    assert(memcmp(key, zeros, 16) == 0);
+    printf("7C 3A has no key: %u\n", (unsigned)refused);
+    assert(arib_key(cells, 8836, 0, 0, title, 2, key, 2, counts, 3) == 8);
+    assert(arib_key(cells, 8836, 0, 0, title, 4, key, 6, counts, 3) == 10);
+    assert(arib_key(cells, 8836, 0, 0, title, 4, key, 5, counts, 3) == 8);
 }
 
 static void asks(void)
@@ -182,9 +217,11 @@ int main(int argc, char **argv)
     read_cells(argv[1]);
     reads();
     places();
+    counts_private_use();
     finds_an_escape();
     codes();
     keys();
+    refuses_keys();
     asks();
     measures();
     allocates();

@@ -14,7 +14,7 @@ enum { STACK = 1 << 22, PATTERN = 0x5A, CAPTION = 1 };
 static uint16_t cells[8836];
 static uint8_t input[256], text[1 << 20], coding[65536];
 static uint32_t issues[1 << 16], store[1 << 20];
-static size_t input_len, counts[4];
+static size_t input_len, counts[5];
 
 /* Kana in rows 4 and 5, and in the other rows that may hold characters one after another. */
 static void fill_cells(void)
@@ -35,13 +35,15 @@ static void put(const char *bytes)
 }
 
 /* What is read at the bottom of macros that call the next one: characters of every kind, the deepest
- * an additional symbol behind a single shift; repeats, marks, controls, escapes, faults and macros. */
+ * an additional symbol behind a single shift; repeats, marks, private-use characters, controls,
+ * escapes, faults and macros. */
 static const char *const innermost[] = {
     "", "\xA2", "\x30\x21", "\x29\x21", "\x0E\x41", "\x89\x0E\x41\x20", "\x1B\x28\x49\x31", "\x1B\x28\x4A\x21",
     "\x1B\x24\x3B\x7A\x21", "\x1B\x24\x2A\x3B\x19\x7A\x21", "\x1B\x24\x2B\x3B\x1D\x7A\x21", "\x1B\x24\x39\x30\x21",
     "\x1B\x24\x3A\x21\x21", "\x1B\x28\x32\x21", "\x1B\x28\x20\x41\x21", "\x1B\x24\x28\x20\x40\x21\x21",
     "\x98\x7F\xA2", "\x98\x40", "\x21\x2D\xA2", "\x21\x2D\x98\x43\xA2", "\x21\x2D\x0D", "\x24\xA2", "\x19\x0D",
     "\x1B\x21\x40", "\x1B\x1B", "\x8B\x60\x0E\x41", "\x90\x20\x40", "\x9D\x29\x30\x40", "\x9B\x30\x40", "\x9B\xA2",
+    "\x7C\x3A", "\x98\x7F\x7C\x3A", "\x1B\x24\x2A\x3B\x19\x7C\x3A", "\x1B\x24\x2B\x3B\x1D\x7C\x3A",
     "\x0D", "\xA0", "\x95", "\x95\x40\x25\xA2", "\x95\x41\x25\xA2\x95\x4F", "\x1D\x21", "\x1D\x60", "\x1D\x7F",
 };
 
@@ -61,7 +63,7 @@ static void nest(const char *body, int deep)
 
 static void *decodes(void *unused)
 {
-    arib_decode(cells, 8836, CAPTION, 0, input, input_len, text, sizeof text, issues, 1 << 16, counts, 4);
+    arib_decode(cells, 8836, CAPTION, 0, input, input_len, text, sizeof text, issues, 1 << 16, counts, 5);
     return unused;
 }
 

@@ -17,10 +17,14 @@
  *    8  the text or the coding is larger than its buffer; for a key, the text before removal
  *    9  the issues are more than their buffer holds
  *   10  a title does not read without issue, so it has no key
+ *   11  a title's text has a private-use character, so it has no key
  *
  * Refused or not, every element of every buffer is written: behind the result stand zeros, and
  * after a refusal zeros throughout. `counts` gets as many of its numbers as it has room for, and
  * what it has beyond them stays as it was; after a refusal all but the place are 0.
+ *
+ * A private-use character is one from U+E000 to U+F8FF. Unicode gives it no shape, so that most
+ * screens show a box. Some additional symbols are read as such, and a cell table may hold others.
  *
  * `cells` is the cell table, row by row, 0 for an empty cell: the file jis.tab, big-endian.
  * `initial` is 0 (SI) or 1 (captions), `width` 0 (by the size in effect) or 1 (Annex E.4).
@@ -87,12 +91,14 @@ enum arib_set {
 };
 
 /* Decodes a string to UTF-8. counts: place, bytes of text, issues, charge (the bytes of the macro
- * bodies that ran). An issue is five numbers, offset, kind, two fields and position, so the buffer
- * holds a fifth of its length, rounded down; issues are in order of report. The position is the
- * bytes of text that were written when the issue was reported, before the U+FFFD or the marks that
- * it brings; marks that still waited for their character are not counted. So the text up to it is
- * what came before the issue, and cutting there never cuts a character. Positions never fall along
- * the list, and none exceeds the text's length. Questions 1, 2, 3, 8, 9. Takes at most some 12,000
+ * bodies that ran), private-use characters of the text. Of these each repeat is counted; U+FFFD,
+ * which stands for a code without a character, is none. A program that lends four counts gets the
+ * first four. An issue is five numbers, offset, kind, two fields and position, so the buffer holds
+ * a fifth of its length, rounded down; issues are in order of report. The position is the bytes of
+ * text that were written when the issue was reported, before the U+FFFD or the marks that it
+ * brings; marks that still waited for their character are not counted. So the text up to it is what
+ * came before the issue, and cutting there never cuts a character. Positions never fall along the
+ * list, and none exceeds the text's length. Questions 1, 2, 3, 8, 9. Takes at most some 12,000
  * bytes of stack on x86-64, by c/stack: macro bodies run four deep. */
 uint32_t arib_decode(const uint16_t *cells, size_t cells_len, uint32_t initial, uint32_t width,
                      const uint8_t *input, size_t input_len, uint8_t *text, size_t text_len,
@@ -116,7 +122,7 @@ uint32_t arib_encode(const uint16_t *cells, size_t cells_len, uint32_t initial, 
 /* The key of a title: its text without newline, U+0020 and U+3000, the full-width forms of the 94
  * alphanumerics made half-width (U+FFE5 becomes U+00A5; U+FF3C stays, since backslash is not one of
  * the 94). counts: place, bytes of the key, charge. The buffer must hold the text before removal.
- * Questions 1, 2, 3, 8, 10. Takes at most some 12,000 bytes of stack, as arib_decode does. */
+ * Questions 1, 2, 3, 8, 10, 11. Takes at most some 12,000 bytes of stack, as arib_decode does. */
 uint32_t arib_key(const uint16_t *cells, size_t cells_len, uint32_t initial, uint32_t width,
                   const uint8_t *input, size_t input_len, uint8_t *key, size_t key_len,
                   size_t *counts, size_t counts_len);
@@ -129,12 +135,12 @@ uint32_t arib_key(const uint16_t *cells, size_t cells_len, uint32_t initial, uin
 uint32_t arib_clean(const uint16_t *cells, size_t cells_len, uint32_t initial, uint32_t width,
                     const uint8_t *input, size_t input_len, size_t *counts, size_t counts_len);
 
-/* How much room a string takes: the counts of arib_decode in buffers that are large enough. counts:
- * place, bytes of text, issues, charge. In buffers of just those sizes, ARIB_ISSUE_NUMBERS numbers
- * an issue, arib_decode never answers 8 or 9; with a byte of text less it answers 8, with an issue
- * less 9, whatever remainder its buffer has. The bytes of text are also what the buffer of arib_key
- * must hold. Needs no buffers, since neither text nor issues are kept. Questions 1, 2, 3. Takes at
- * most some 12,000 bytes of stack, as arib_decode does. */
+/* How much room a string takes: the first four counts of arib_decode in buffers that are large
+ * enough. counts: place, bytes of text, issues, charge. In buffers of just those sizes,
+ * ARIB_ISSUE_NUMBERS numbers an issue, arib_decode never answers 8 or 9; with a byte of text less
+ * it answers 8, with an issue less 9, whatever remainder its buffer has. The bytes of text are also
+ * what the buffer of arib_key must hold. Needs no buffers, since neither text nor issues are kept.
+ * Questions 1, 2, 3. Takes at most some 12,000 bytes of stack, as arib_decode does. */
 uint32_t arib_measure(const uint16_t *cells, size_t cells_len, uint32_t initial, uint32_t width,
                       const uint8_t *input, size_t input_len, size_t *counts, size_t counts_len);
 

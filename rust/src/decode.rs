@@ -47,6 +47,10 @@ pub struct Decoded {
     pub text: String,
     /// What could not be read exactly, in order of report.
     pub issues: Vec<Issue>,
+    /// How many characters of [`Decoded::text`] are private-use ones, U+E000 to U+F8FF, each repeat
+    /// counted. Most screens show them as boxes. U+FFFD, which stands for a code without a
+    /// character, is none. isdb-text has no such field.
+    pub private_use: usize,
 }
 
 /// Something that could not be read exactly.
@@ -101,7 +105,8 @@ pub enum IssueKind {
     RepeatToEndOfLine,
 }
 
-/// A refusal: the number of the first question that fails, and its place.
+/// A refusal: the number of the first question that fails, and its place. [`Refused::reason`] says
+/// it in words.
 #[derive(Debug, Clone, Copy, PartialEq, Eq)]
 pub struct Refused {
     pub number: u32,
@@ -137,6 +142,9 @@ impl Error for Refused {}
 /// let read = decode_with(&[0xA2, 0x29, 0x21, 0xA4], &DecodeOptions::default());
 /// let (before, after) = read.text.split_at(read.issues[0].position);
 /// assert_eq!((before, after), ("あ", "\u{FFFD}い"));
+/// // a private-use character, twice
+/// let read = decode_with(&[0x98, 0x42, 0x7C, 0x3A], &DecodeOptions::default());
+/// assert_eq!((read.text.as_str(), read.private_use), ("\u{E290}\u{E290}", 2));
 /// ```
 pub fn decode_with(bytes: &[u8], opts: &DecodeOptions) -> Decoded {
     try_decode_with(bytes, opts).expect("at most 65,535 bytes")
@@ -167,17 +175,18 @@ fn decode_in(
     bytes: &[u8],
     opts: &DecodeOptions,
 ) -> Result<Decoded, Refused> {
-    let (mut text, mut counts) = (vec![0; text], [0; 4]);
+    let (mut text, mut counts) = (vec![0; text], [0; 5]);
     let number = ffi::decode(opts.call(bytes), &mut text, issues, &mut counts);
     if number != 0 {
         return Err(Refused::new(number, &counts));
     }
-    let [_, length, count, _] = counts;
+    let [_, length, count, _, private_use] = counts;
     let issues = issues.chunks_exact(ISSUE_NUMBERS).take(count);
     let issues = issues.map(|numbers| issue(bytes, numbers.try_into().expect("a whole issue")));
     Ok(Decoded {
         text: written(text, length),
         issues: issues.collect(),
+        private_use,
     })
 }
 

@@ -54,7 +54,7 @@ macro_rules! calls {
 }
 
 calls! {
-    /// Counts: place, bytes of text, issues, charge.
+    /// Counts: place, bytes of text, issues, charge, private-use characters.
     decode = arib_decode(text: u8, issues: u32);
     /// Counts: place, bytes of the coding, gap. The input is the text.
     encode = arib_encode(store: u32, coding: u8);
@@ -62,7 +62,7 @@ calls! {
     key = arib_key(key: u8);
     /// Counts: place, 1 for a clean title and 0 for another.
     clean = arib_clean();
-    /// Counts: those of `decode` in buffers that are large enough.
+    /// Counts: the first four of `decode` in buffers that are large enough.
     measure = arib_measure();
 }
 

@@ -25,7 +25,9 @@
 //! a title reads without issue, and stops at the first; [`measure_with`] says how long a text is,
 //! how many issues it has and what its macros charge, and keeps neither text nor issues;
 //! [`try_decode_with`] says which question an input fails instead of panicking; [`Issue::position`]
-//! is an issue's place in the text, which a program that spells out an [`Issue`] has to name too.
+//! is an issue's place in the text, which a program that spells out an [`Issue`] has to name too;
+//! [`Decoded::private_use`] counts the private-use characters of the text, and likewise has to be
+//! named. A title that has any gets no key, for [`Reason::PrivateUse`].
 
 mod buffers;
 mod cells;
@@ -36,6 +38,7 @@ pub mod encode;
 pub mod ffi;
 pub mod key;
 pub mod measure;
+pub mod reason;
 pub mod sets;
 
 pub use clean::clean_with;
@@ -45,6 +48,7 @@ pub use decode::{
 pub use encode::{Coded, EncodeError, EncodeOptions, code_with, encode, encode_with};
 pub use key::key_with;
 pub use measure::{Measured, measure_with};
+pub use reason::Reason;
 pub use sets::{GraphicSet, InitialState};
 
 /// The bytes of an eight-unit string, as they are sent.

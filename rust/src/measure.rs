@@ -3,7 +3,7 @@
 use crate::decode::{DecodeOptions, Refused};
 use crate::ffi;
 
-/// What [`decode_with`](crate::decode_with) gives, in numbers.
+/// What [`decode_with`](crate::decode_with) gives, in numbers, private-use characters aside.
 #[derive(Debug, Clone, Copy, Default, PartialEq, Eq)]
 pub struct Measured {
     /// The bytes of [`Decoded::text`](crate::Decoded::text).

@@ -1,0 +1,50 @@
+//! Why a call is refused.
+
+use std::fmt;
+
+use crate::decode::Refused;
+
+/// Why decoding, measuring, asking for issues or a key is refused. Other questions do not fail: the
+/// cell table and the options are the crate's own, and its buffers grow.
+#[derive(Debug, Clone, Copy, PartialEq, Eq, Hash)]
+#[non_exhaustive]
+pub enum Reason {
+    /// 3: there are more than 65,535 bytes.
+    TooLong,
+    /// 10: the title does not read without issue, so it has no key.
+    HasIssues,
+    /// 11: the title's text has a private-use character, U+E000 to U+F8FF, so it has no key.
+    PrivateUse,
+}
+
+impl Refused {
+    /// The number in words; none for a number that the crate does not give.
+    ///
+    /// ```
+    /// use isdb_text::{DecodeOptions, Reason, key_with};
+    /// let options = DecodeOptions::default();
+    /// let reason = |title: &[u8]| key_with(title, &options).unwrap_err().reason();
+    /// assert_eq!(reason(&[0x24, 0xA2]), Some(Reason::HasIssues));
+    /// assert_eq!(reason(&[0x7C, 0x3A]), Some(Reason::PrivateUse));
+    /// // asked in this order
+    /// assert_eq!(reason(&[0x7C, 0x3A, 0x24, 0xA2]), Some(Reason::HasIssues));
+    /// ```
+    pub fn reason(&self) -> Option<Reason> {
+        match self.number {
+            3 => Some(Reason::TooLong),
+            10 => Some(Reason::HasIssues),
+            11 => Some(Reason::PrivateUse),
+            _ => None,
+        }
+    }
+}
+
+impl fmt::Display for Reason {
+    fn fmt(&self, f: &mut fmt::Formatter<'_>) -> fmt::Result {
+        f.write_str(match self {
+            Reason::TooLong => "there are more than 65,535 bytes",
+            Reason::HasIssues => "the title does not read without issue",
+            Reason::PrivateUse => "the title's text has a private-use character",
+        })
+    }
+}
