@@ -7,8 +7,9 @@ mod texts;
 mod types;
 
 use ours::{
-    AribString, Coded, DecodeOptions, Decoded, EncodeError, EncodeOptions, Measured, Refused,
-    clean_with, code_with, decode_with, encode_with, key_with, measure_with, try_decode_with,
+    AribString, Coded, DecodeOptions, Decoded, EncodeError, EncodeOptions, Measured, Reason,
+    Refused, clean_with, code_with, decode_with, encode_with, key_with, measure_with,
+    try_decode_with,
 };
 
 use crate::runs::{self, Part};
@@ -55,6 +56,7 @@ pub struct Calls {
     pub measure: fn(&[u8], &DecodeOptions) -> Result<Measured, Refused>,
     pub encode: fn(&str, &EncodeOptions) -> Result<AribString, EncodeError>,
     pub code: fn(&str, &EncodeOptions) -> Result<Coded, EncodeError>,
+    pub reason: fn(&Refused) -> Option<Reason>,
 }
 
 /// As they are.
@@ -66,6 +68,7 @@ pub const CALLS: Calls = Calls {
     measure: measure_with,
     encode: encode_with,
     code: code_with,
+    reason: Refused::reason,
 };
 
 /// Does all parts and prints what each counted; false at a difference.

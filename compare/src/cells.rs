@@ -16,6 +16,9 @@ const ODD: [u16; 20] = [
     0xFFFD, 0xFFFE, 0xFFFF, 0x0041, 0x3042, 0x3042, 0x3042, 0x2014,
 ];
 
+/// The ends of the private-use characters, and what a cell may hold beside them.
+const ENDS: [u16; 4] = [0xD7FF, 0xE000, 0xF8FF, 0xF900];
+
 /// The Rust's table.
 pub fn rusts() -> &'static [u16] {
     static TABLE: OnceLock<Vec<u16>> = OnceLock::new();
@@ -32,9 +35,13 @@ pub fn other(random: &mut Random, index: u64) -> Vec<u16> {
     if index == 0 { zeros().to_vec() } else { odd(random) }
 }
 
-/// The Rust's or zeros with odd cells, or random numbers.
+/// The Rust's, zeros or private-use characters, with odd cells.
 fn odd(random: &mut Random) -> Vec<u16> {
-    let mut cells = if random.once_in(2) { rusts() } else { zeros() }.to_vec();
+    let mut cells = match random.below(3) {
+        0 => rusts().to_vec(),
+        1 => zeros().to_vec(),
+        _ => private_use(random),
+    };
     let changed = random.one_of(&[1, 30, 700, 7_000]);
     for _ in 0..changed {
         let index = index(random.one_of(&ROWS), random.byte(1, 94));
@@ -43,12 +50,24 @@ fn odd(random: &mut Random) -> Vec<u16> {
     cells
 }
 
-/// A mark, an odd number or any, no surrogate.
+/// A private-use character in each cell that may hold one.
+fn private_use(random: &mut Random) -> Vec<u16> {
+    let mut cells = zeros().to_vec();
+    for row in ROWS {
+        for cell in 1..=94 {
+            cells[index(row, cell)] = random.range(0xE000, 0xF8FF) as u16;
+        }
+    }
+    cells
+}
+
+/// A mark, an odd number, an end of the private-use characters or any number, no surrogate.
 fn number(random: &mut Random) -> u16 {
-    match random.below(4) {
+    match random.below(5) {
         0 => u32::from(random.one_of(&MARKS).2) as u16,
         1 => random.range(0, 0xD7FF) as u16,
         2 => random.range(0xE000, 0xFFFF) as u16,
+        3 => random.one_of(&ENDS),
         _ => random.one_of(&ODD),
     }
 }

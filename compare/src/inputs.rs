@@ -5,6 +5,7 @@ pub mod corners;
 mod damage;
 pub mod long;
 mod pieces;
+pub mod ways;
 mod writer;
 
 pub use damage::damage;
@@ -12,8 +13,8 @@ pub use writer::Writer;
 
 use crate::random::Random;
 
-/// A random input: pieces, a damaged copy of pieces or of a good string, or macros that spend
-/// their budget.
+/// A random input: pieces, a damaged copy of pieces or of a good string, macros that spend their
+/// budget, or a good string with characters of two bytes behind it.
 pub fn random(random: &mut Random, good: &[Vec<u8>]) -> Vec<u8> {
     let length = length(random);
     match random.below(40) {
@@ -28,6 +29,13 @@ pub fn random(random: &mut Random, good: &[Vec<u8>]) -> Vec<u8> {
         12 => {
             let mut writer = Writer::new(random);
             writer.bomb(length.min(200));
+            writer.done()
+        }
+        13..=15 => {
+            let copied = random.below(good.len());
+            let mut writer = Writer::new(random);
+            writer.put(&good[copied]);
+            writer.by_a_way();
             writer.done()
         }
         _ => pieces(random, length),
@@ -68,10 +76,10 @@ pub fn to_two(index: u64) -> Vec<u8> {
     }
 }
 
-/// 01's table, the corners, and small spent budgets.
+/// 01's table, the corners, small spent budgets, and 92-26, a private-use character, by every way.
 pub fn every_corner() -> Vec<Vec<u8>> {
     let corners = corners::table().chain(corners::corners()).map(|(_, _, input)| input);
-    corners.chain(bombs::small()).collect()
+    corners.chain(bombs::small()).chain(ways::every([0x7C, 0x3A])).collect()
 }
 
 /// The input of this index among those of `length` bytes, at most 4.
@@ -82,7 +90,7 @@ pub fn numbered(index: u64, length: usize) -> [u8; 4] {
 }
 
 /// All 8,836 two-byte codes of GL, row by row.
-pub fn every_pair() -> Vec<u8> {
-    let cells = |row| (0x21..=0x7E).flat_map(move |cell| [row, cell]);
+pub fn every_pair() -> Vec<[u8; 2]> {
+    let cells = |row| (0x21..=0x7E).map(move |cell| [row, cell]);
     (0x21..=0x7E).flat_map(cells).collect()
 }

@@ -1,4 +1,4 @@
-//! Keys, as 01 and request 1 tell them.
+//! Keys, as 01 and requests 1 and 6 tell them.
 
 use crate::model::Reading;
 
@@ -17,13 +17,15 @@ pub fn halfwidth(c: char) -> char {
     }
 }
 
-/// Questions 8 and 10 of a key: the refusal's number, or 0. The room is for the text before
+/// Questions 8, 10 and 11 of a key: the refusal's number, or 0. The room is for the text before
 /// removal.
 pub fn questions(room: usize, reading: &Reading) -> u32 {
     if reading.text.len() > room {
         8
     } else if !reading.issues.is_empty() {
         10
+    } else if reading.private_use() > 0 {
+        11
     } else {
         0
     }
@@ -34,5 +36,5 @@ pub fn of(number: u32, reading: &Reading) -> (String, usize) {
     if number != 0 {
         return Default::default();
     }
-    (key(str::from_utf8(&reading.text).expect("the model writes UTF-8")), reading.charge)
+    (key(reading.as_str()), reading.charge)
 }

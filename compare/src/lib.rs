@@ -15,6 +15,7 @@ pub mod inputs;
 pub mod key;
 pub mod lent;
 pub mod model;
+pub mod private_use;
 pub mod programs;
 pub mod questions;
 pub mod random;

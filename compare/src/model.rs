@@ -13,6 +13,8 @@ pub(crate) mod tables;
 use extent::Extent;
 use sets::Set;
 
+use crate::private_use;
+
 /// How many numbers an issue is.
 pub const ISSUE: usize = 5;
 
@@ -32,9 +34,25 @@ pub struct Reading {
 }
 
 impl Reading {
-    /// The counts of a call that gives it: place, bytes of text, issues, charge.
-    pub fn counts(&self) -> [usize; 4] {
+    /// The counts of `arib_decode`: those of `arib_measure`, and the private-use characters.
+    pub fn counts(&self) -> [usize; 5] {
+        let [place, text, issues, charge] = self.measured();
+        [place, text, issues, charge, self.private_use()]
+    }
+
+    /// The counts of `arib_measure`: place, bytes of text, issues, charge.
+    pub fn measured(&self) -> [usize; 4] {
         [0, self.text.len(), self.issues.len(), self.charge]
+    }
+
+    /// The private-use characters in its text.
+    pub fn private_use(&self) -> usize {
+        private_use::count(self.as_str())
+    }
+
+    /// Its text.
+    pub fn as_str(&self) -> &str {
+        str::from_utf8(&self.text).expect("the model writes UTF-8")
     }
 }
 

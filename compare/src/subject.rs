@@ -7,11 +7,12 @@ mod library;
 
 use crate::call::Call;
 
-/// The buffers lent to a call. The counts are place, text bytes, issues and charge.
+/// The buffers lent to a call. The first five counts are place, text bytes, issues, charge and
+/// private-use characters.
 pub struct Lent<'a> {
     pub text: &'a mut [u8],
     pub issues: &'a mut [u32],
-    pub counts: &'a mut [usize; 4],
+    pub counts: &'a mut [usize],
 }
 
 /// What is lent to a call of coding. The counts are place, length and gap.
@@ -40,7 +41,7 @@ pub trait Subject: Sync {
     /// reading without issue or 0.
     fn clean(&self, call: Call, counts: &mut [usize]) -> u32;
 
-    /// `arib_measure`: the refusal's number, or 0. The first four counts are those of
+    /// `arib_measure`: the refusal's number, or 0. The first four counts are the first four of
     /// `arib_decode` in buffers that are large enough.
     fn measure(&self, call: Call, counts: &mut [usize]) -> u32;
 }

@@ -84,6 +84,29 @@ impl Display for Positions {
     }
 }
 
+tally! {
+    /// Private-use characters that were counted, and how many readings have any.
+    pub struct PrivateUse {
+        pub counted: u64,
+        pub readings: u64,
+    }
+}
+
+impl PrivateUse {
+    /// A reading with so many.
+    pub fn see(&mut self, count: usize) {
+        self.counted += count as u64;
+        self.readings += u64::from(count > 0);
+    }
+}
+
+impl Display for PrivateUse {
+    fn fmt(&self, f: &mut Formatter<'_>) -> fmt::Result {
+        let PrivateUse { counted, readings } = self;
+        write!(f, "{counted} private-use characters counted, in {readings} readings")
+    }
+}
+
 /// ` number:count` for each that is not 0.
 pub fn by_number(counts: &[u64]) -> String {
     let seen = counts.iter().enumerate().filter(|(_, n)| **n > 0);

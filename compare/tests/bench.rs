@@ -30,6 +30,17 @@ fn damaged_inputs_have_issues() {
 }
 
 #[test]
+fn every_fourth_is_private_use() {
+    let ready = cases().find(|case| case.name == "private-use").unwrap().ready();
+    let mut reading = Reading::default();
+    Call { input: &ready.inputs[0], ..ready.call }.read(&mut reading);
+    assert_eq!((ready.inputs[0].len(), reading.issues.len()), (65_532, 0));
+    let lines = reading.as_str().lines().count();
+    assert_eq!((lines, reading.as_str().chars().count()), (1_524, 29 * 1_524));
+    assert_eq!(reading.private_use(), 7 * 1_524);
+}
+
+#[test]
 fn what_is_decoded_is_measured() {
     let decoded = cases().filter(|case| matches!(case.work, Work::Decode(_)));
     let measured = cases().filter(|case| case.work == Work::Measure).map(|case| case.name);

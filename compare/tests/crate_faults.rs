@@ -9,7 +9,7 @@ use compare::cells;
 use compare::runs::Worker;
 use ours::{
     AribString, Coded, Decoded, EncodeError, EncodeOptions, GraphicSet, IssueKind, Measured,
-    Refused,
+    Reason, Refused,
 };
 
 /// The first difference on this input under Si and CharacterSize.
@@ -61,6 +61,7 @@ fn faults_in_a_reading() {
         |found| found.issues[0].kind = undefined(GraphicSet::JisKanjiPlane1, 0x2921),
         |found| found.issues[0].kind = undefined(GraphicSet::Kanji, 0x2922),
         |found| found.issues[1].kind = IssueKind::UnknownEscape(vec![0x1B, 0x21, 0x41]),
+        |found| found.private_use = 1,
     ];
     found::each(faulty, "input 7 bytes: A229211B2140A4\n", |calls| read(calls, &INPUT));
 }
@@ -84,6 +85,44 @@ fn faults_in_a_position() {
         |found| found.issues[1].position = found.issues[1].offset,
     ];
     found::each(faulty, "input 11 bytes: A2212D1B21402921A4212D\n", |calls| read(calls, &PLACED));
+}
+
+/// 92-26, a private-use character, three times; U+FFFD; 92-87.
+const PRIVATE_USE: [u8; 8] = [0x98, 0x43, 0x7C, 0x3A, 0x29, 0x21, 0x7C, 0x77];
+
+/// None counted; repeats counted once; the placeholder counted; the bytes; one that is not there.
+#[test]
+fn faults_in_the_private_use_characters() {
+    assert_eq!(read(CALLS, &PRIVATE_USE), None);
+    let faulty = reading![
+        |found| found.private_use = 0,
+        |found| found.private_use = 2,
+        |found| found.private_use = 5,
+        |found| found.private_use = 12,
+        |found| found.private_use += 1,
+    ];
+    found::each(faulty, "input 8 bytes: 98437C3A29217C77\n", |calls| read(calls, &PRIVATE_USE));
+}
+
+/// Question 11: not put; before 10; 10 in its place. The case of a refusal: none, another.
+#[test]
+fn faults_in_a_key_with_private_use() {
+    let (alone, with_issue) = ([0x7C, 0x3A], [0x7C, 0x3A, 0xA0]);
+    let refused = |number| Err(Refused { number, place: 0 });
+    assert_eq!((CALLS.key)(&alone, &Default::default()), refused(11));
+    assert_eq!(read(CALLS, &alone), None);
+    assert_eq!(read(CALLS, &with_issue), None);
+    let text = Calls { key: |bytes, options| Ok((CALLS.decode)(bytes, options).text), ..CALLS };
+    let ten = Calls { key: |_, _| Err(Refused { number: 10, place: 0 }), ..CALLS };
+    let eleven = Calls { key: |_, _| Err(Refused { number: 11, place: 0 }), ..CALLS };
+    assert!(read(text, &alone).is_some());
+    assert!(read(ten, &alone).is_some());
+    assert!(read(eleven, &with_issue).is_some());
+    let none = Calls { reason: |_| None, ..CALLS };
+    let issues = Calls { reason: |_| Some(Reason::HasIssues), ..CALLS };
+    assert!(read(none, &alone).is_some());
+    assert!(read(issues, &alone).is_some());
+    assert_eq!(read(issues, &with_issue), None);
 }
 
 /// A panic is a difference too: its input is printed.

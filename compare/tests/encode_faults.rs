@@ -67,7 +67,7 @@ fn faults_in_a_refused_call() {
 fn a_coding_that_does_not_read_back() {
     let nothing = |lent: &mut Lent, _: &mut u32| {
         lent.text.fill(0);
-        *lent.counts = [0; 4];
+        lent.counts.fill(0);
     };
     let subject = Faulty { reading: nothing, ..SOUND };
     let mut holder = Holder::new(&subject);

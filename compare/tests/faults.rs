@@ -39,7 +39,7 @@ fn no_fault() {
 
 #[test]
 fn faults_in_an_accepted_call() {
-    let faults: [Fault; 9] = [
+    let faults: [Fault; 10] = [
         |lent, _| lent.text[2] ^= 1,
         |lent, _| lent.text[9] = 0xA5,
         |lent, _| lent.issues[1] = 5,
@@ -48,6 +48,7 @@ fn faults_in_an_accepted_call() {
         |lent, _| lent.counts[0] = 1,
         |lent, _| lent.counts[2] = 0,
         |lent, _| lent.counts[3] = 1,
+        |lent, _| lent.counts[4] = 1,
         |_, refusal| *refusal = 8,
     ];
     found::each(faults, "input 2 bytes: 24A2\n", |fault| run(fault, ROOMS));
@@ -55,10 +56,11 @@ fn faults_in_an_accepted_call() {
 
 #[test]
 fn faults_in_a_refused_call() {
-    let faults: [Fault; 4] = [
+    let faults: [Fault; 5] = [
         |lent, _| lent.text[0] = 0xE3,
         |lent, _| lent.issues[1] = 4,
         |lent, _| lent.counts[1] = 3,
+        |lent, _| lent.counts[4] = 1,
         |_, refusal| *refusal = 9,
     ];
     found::each(faults, "input 2 bytes: 24A2\n", |fault| run(fault, TOO_SMALL));
@@ -165,13 +167,14 @@ fn no_fault_in_a_key() {
 
 #[test]
 fn faults_in_a_key() {
-    let faults: [Fault; 7] = [
+    let faults: [Fault; 8] = [
         |lent, _| lent.text[5] ^= 1,
         |lent, _| lent.text[6] = 0xA5,
         |lent, _| lent.counts[0] = 1,
         |lent, _| lent.counts[1] = 7,
         |lent, _| lent.counts[2] = 1,
         |lent, _| lent.counts[3] = 0,
+        |lent, _| lent.counts[4] = 0,
         |_, refusal| *refusal = 8,
     ];
     found::each(faults, "input 3 bytes: A220A4\n", |fault| key(fault, &SPACED, 7));

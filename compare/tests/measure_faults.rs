@@ -27,6 +27,13 @@ fn then(call: Call, counts: &mut [usize], (index, n): (usize, usize)) -> u32 {
     number
 }
 
+/// Leaves as many counts as decoding does.
+fn five(call: Call, counts: &mut [usize]) -> u32 {
+    let mut reading = Reading::default();
+    call.read(&mut reading);
+    leave(counts, reading.counts())
+}
+
 /// Puts the questions, and then leaves what is counted of the model's reading.
 fn counted(call: Call, counts: &mut [usize], count: fn(&Reading) -> [usize; 3]) -> u32 {
     let number = model().measure(call, counts);
@@ -107,9 +114,10 @@ fn no_fault() {
 
 #[test]
 fn faults_where_there_is_no_issue() {
-    let faults: [Asked; 12] = [
+    let faults: [Asked; 14] = [
         characters,
         charges_the_rest,
+        five,
         |call, counts| then(call, counts, (0, 1)),
         |call, counts| then(call, counts, (1, 5)),
         |call, counts| then(call, counts, (1, 7)),
@@ -117,6 +125,7 @@ fn faults_where_there_is_no_issue() {
         |call, counts| then(call, counts, (3, 1)),
         |call, counts| then(call, counts, (4, 0)),
         |call, counts| then(call, counts, (5, 0)),
+        |call, counts| then(call, counts, (6, 0)),
         |call, counts| model().measure(call, counts) + 8,
         |_, counts| leave(counts, [0; 4]),
         |_, _| 0,
@@ -206,6 +215,13 @@ fn a_question_that_is_not_put() {
 fn fewer_counts() {
     let subject = Faulty { measure: characters, ..SOUND };
     asked::fewer_counts(&subject, |holder, call, room| holder.measure(call, room));
+}
+
+/// The same of decoding, in exact rooms: a program that lends four counts is left four.
+#[test]
+fn fewer_counts_of_decoding() {
+    let subject = Faulty { reading: |lent, _| change(lent.counts, 1, 7), ..SOUND };
+    asked::fewer_counts(&subject, |holder, call, room| holder.counted(call, room));
 }
 
 type Fault = fn(&mut Lent, &mut u32);

@@ -53,6 +53,20 @@ fn faults_of_listing() {
     found::each(scripts, "input 2 bytes: 24A2\n", listing);
 }
 
+/// A private-use character adds nothing to the lines.
+#[test]
+fn faults_of_listing_with_private_use() {
+    let listing = |script: &str| run(Program::Listing, script, &Table::Rusts, &[0x7C, 0x3A]);
+    assert_eq!(listing(r"printf 'text 3 issues 0 charged 0\nEE8A90\n'"), None);
+    let scripts = [
+        r"printf 'text 3 issues 0 charged 0 private-use 1\nEE8A90\n'",
+        r"printf 'text 3 issues 0 charged 0 1\nEE8A90\n'",
+        r"printf 'text 3 issues 0 charged 0\nEE8A90\n1\n'",
+        r"printf 'refused 11 0\n'",
+    ];
+    found::each(scripts, "input 2 bytes: 7C3A\n", listing);
+}
+
 #[test]
 fn faults_of_encoding() {
     let encoding = |script: &str| run(Program::Encoding, script, &Table::Rusts, "Ａ".as_bytes());
@@ -74,6 +88,20 @@ fn faults_of_keys() {
         r"printf 'line 2: malformed\n1\tあい\n'; echo 1 malformed >&2",
     ];
     found::each(scripts, "input 11 bytes: 3109413232304134", keys);
+}
+
+/// A private-use character alone; with an issue, which question 10 finds before.
+#[test]
+fn faults_of_keys_with_private_use() {
+    let keys = |script: &str| run(Program::Keys, script, &Table::Rusts, b"1\t7C3A\n2\t7C3AA0\n");
+    assert_eq!(keys(r"printf '1\trefused 11 0\n2\trefused 10 0\n'"), None);
+    let scripts = [
+        r"printf '1\t\356\212\220\n2\trefused 10 0\n'",
+        r"printf '1\trefused 10 0\n2\trefused 10 0\n'",
+        r"printf '1\trefused 11 0\n2\trefused 11 0\n'",
+        r"printf '1\trefused 11\n2\trefused 10\n'",
+    ];
+    found::each(scripts, "input 16 bytes: 3109374333410A", keys);
 }
 
 /// Without `jis.tab` that is said, once; a folder is refused, and that is said.

@@ -3,7 +3,7 @@
 use super::case::{Case, Work};
 use super::inputs::{
     behind_issue, damaged_kana, damaged_titles, kana, kanji, macro_empty, macro_kana,
-    macro_one_byte, marks, mixed,
+    macro_one_byte, marks, mixed, private_use,
 };
 use crate::call::{LONGEST, Rooms};
 use crate::model::ISSUE;
@@ -23,6 +23,7 @@ const KANJI: Case = large("kanji", || vec![kanji()], PLAIN, 5);
 const KANA: Case = large("kana", || vec![kana()], PLAIN, 5);
 const MIXED: Case = large("mixed", || vec![mixed()], PLAIN, 5);
 const MARKS: Case = large("marks", || vec![marks()], PLAIN, 5);
+const PRIVATE_USE: Case = large("private-use", || vec![private_use()], PLAIN, 5);
 const MACRO_KANA: Case = large("macro-kana", || vec![macro_kana()], MACROS, 1);
 const MACRO_ONE_BYTE: Case = large("macro-one-byte", || vec![macro_one_byte()], MACROS, 1);
 const MACRO_EMPTY: Case = large("macro-empty", || vec![macro_empty()], MACROS, 1);
@@ -34,6 +35,7 @@ pub const READ: &[Case] = &[
     KANA,
     MIXED,
     MARKS,
+    PRIVATE_USE,
     MACRO_KANA,
     MACRO_ONE_BYTE,
     MACRO_EMPTY,
@@ -57,6 +59,7 @@ pub const MEASURE: &[Case] = &[
     same("measure-kana", Work::Measure, KANA),
     same("measure-mixed", Work::Measure, MIXED),
     same("measure-marks", Work::Measure, MARKS),
+    same("measure-private-use", Work::Measure, PRIVATE_USE),
     same("measure-macro-kana", Work::Measure, MACRO_KANA),
     same("measure-macro-one-byte", Work::Measure, MACRO_ONE_BYTE),
     same("measure-macro-empty", Work::Measure, MACRO_EMPTY),

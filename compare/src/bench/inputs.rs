@@ -75,3 +75,10 @@ pub fn marks() -> Vec<u8> {
     let line: Vec<u8> = words.chain([0x0D]).collect();
     line.repeat(LONGEST / line.len())
 }
+
+/// Lines with private-use characters: two kana, a kanji and the additional symbol 92-26 in turn.
+pub fn private_use() -> Vec<u8> {
+    let mut line = [0xB3, 0xCE, 0x36, 0x4A, 0x7C, 0x3A].repeat(7);
+    line.push(0x0D);
+    line.repeat(LONGEST / line.len())
+}

@@ -80,7 +80,7 @@ fn own<'a>(subject: &'a dyn Subject, case: &'a Ready) -> Runner<'a> {
         Work::Decode(_) => {
             let (mut text, mut issues) = (vec![0; first], vec![0; second]);
             each(&case.inputs, move |input| {
-                let lent = Lent { text: &mut text, issues: &mut issues, counts: &mut [0; 4] };
+                let lent = Lent { text: &mut text, issues: &mut issues, counts: &mut [0; 5] };
                 assert_eq!(subject.decode(Call { input, ..call }, lent), 0);
             })
         }
@@ -131,7 +131,7 @@ fn exact<'a>(subject: &'a dyn Subject, case: &'a Ready) -> Runner<'a> {
     let mut buffers: Vec<_> = case.inputs.iter().map(measured).collect();
     Box::new(move || {
         for (input, (text, issues)) in case.inputs.iter().zip(&mut buffers) {
-            let lent = Lent { text, issues, counts: &mut [0; 4] };
+            let lent = Lent { text, issues, counts: &mut [0; 5] };
             assert_eq!(subject.decode(Call { input, ..call }, lent), 0);
         }
     })
@@ -140,7 +140,7 @@ fn exact<'a>(subject: &'a dyn Subject, case: &'a Ready) -> Runner<'a> {
 fn question<'a>(subject: &'a dyn Subject, case: &'a Ready) -> Runner<'a> {
     let call = Call { initial: 2, ..case.call };
     each(&case.inputs, move |_| {
-        let lent = Lent { text: &mut [], issues: &mut [], counts: &mut [0; 4] };
+        let lent = Lent { text: &mut [], issues: &mut [], counts: &mut [0; 5] };
         assert_eq!(subject.decode(call, lent), 2);
     })
 }

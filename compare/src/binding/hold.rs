@@ -1,5 +1,6 @@
-//! One call of the crate held: against isdb-text, and what that does not answer against 01 (the
-//! key) and the models (the issues' positions, the charge, the gap).
+//! One call of the crate held: against isdb-text, and what that does not answer against its text
+//! (private-use characters), 01 (the key) and the models (the issues' positions, the charge, the
+//! gap).
 
 use std::fmt::Debug;
 use std::panic::{AssertUnwindSafe, catch_unwind};
@@ -7,13 +8,14 @@ use std::panic::{AssertUnwindSafe, catch_unwind};
 use isdb_text::{decode_with, encode_with};
 use ours::{Coded, Decoded, EncodeError, Measured, Refused};
 
-use super::types::{coded, decode_options, decoded, encode_options};
+use super::types::{coded, decode_options, decoded, encode_options, reason};
 use super::{Calls, Tally};
 use crate::call::Call;
 use crate::coding::Coder;
 use crate::difference::{Difference, Held, held};
 use crate::key::key;
 use crate::model::Reading;
+use crate::private_use;
 use crate::runs::Worker;
 
 /// What a thread keeps from call to call.
@@ -45,8 +47,8 @@ impl Holder {
         self.reading(call).map(drop)
     }
 
-    /// Text, issues with all their fields and positions, the key, whether there is no issue, and
-    /// how many bytes and issues there are, with the charge.
+    /// Text with its private-use characters, issues with all their fields and positions, the key,
+    /// whether there is no issue, and how many bytes and issues there are, with the charge.
     fn reading(&mut self, call: Call) -> Result<Decoded, Difference> {
         let (calls, own) = (self.calls, decode_options(&call));
         call.read(&mut self.reading);
@@ -56,8 +58,15 @@ impl Holder {
         held(fault, &call, |difference| difference.line("issues", format!("{counts:?}")))?;
         let reading = decoded(rust, &self.reading);
         same("reading", &call, &reading, || (calls.decode)(call.input, &own))?;
-        let key = if reading.issues.is_empty() { Ok(key(&reading.text)) } else { refused(10) };
+        let key = if !reading.issues.is_empty() {
+            refused(10)
+        } else if reading.private_use > 0 {
+            refused(11)
+        } else {
+            Ok(key(&reading.text))
+        };
         same("key", &call, &key, || (calls.key)(call.input, &own))?;
+        self.reason(call, &key)?;
         let clean = Ok(reading.issues.is_empty());
         same("clean", &call, &clean, || (calls.clean)(call.input, &own))?;
         let (text, issues) = (reading.text.len(), reading.issues.len());
@@ -66,6 +75,7 @@ impl Holder {
         self.tally.readings += 1;
         self.tally.issues += reading.issues.len() as u64;
         self.tally.positions.see(reading.issues.iter().map(|issue| issue.position as u32));
+        self.tally.private_use.see(reading.private_use);
         self.tally.keys += u64::from(key.is_ok());
         Ok(reading)
     }
@@ -89,7 +99,15 @@ impl Holder {
     fn again(&mut self, call: Call, text: &str, coding: &[u8]) -> Held {
         let again = self.reading(Call { input: coding, ..call })?;
         self.tally.again += 1;
-        same("coding read again", &call, &Decoded { text: text.into(), issues: vec![] }, || again)
+        let private_use = private_use::count(text);
+        let expected = Decoded { text: text.into(), issues: vec![], private_use };
+        same("coding read again", &call, &expected, || again)
+    }
+
+    /// Why a key is refused, if it is.
+    fn reason(&self, call: Call, key: &Result<String, Refused>) -> Held {
+        let Err(refused) = key else { return Ok(()) };
+        same("reason", &call, &reason(refused.number), || (self.calls.reason)(refused))
     }
 
     /// An input and a text that are too long.
@@ -97,6 +115,7 @@ impl Holder {
         let (calls, own) = (self.calls, decode_options(&call));
         same("reading", &call, &refused(3), || (calls.try_decode)(call.input, &own))?;
         same("key", &call, &refused(3), || (calls.key)(call.input, &own))?;
+        self.reason(call, &refused(3))?;
         same("clean", &call, &refused(3), || (calls.clean)(call.input, &own))?;
         same("measure", &call, &refused(3), || (calls.measure)(call.input, &own))?;
         let (call, own) = (Call { input: text.as_bytes(), ..call }, encode_options(&call));

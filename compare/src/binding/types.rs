@@ -2,11 +2,11 @@
 
 use ours::{
     AribString, DecodeOptions, Decoded, EncodeError, EncodeOptions, GraphicSet, InitialState,
-    Issue, IssueKind, WidthMode,
+    Issue, IssueKind, Reason, WidthMode,
 };
 
 use crate::call::Call;
-use crate::model;
+use crate::{model, private_use};
 
 /// The call's options.
 pub fn decode_options(call: &Call) -> DecodeOptions {
@@ -21,7 +21,8 @@ pub fn encode_options(call: &Call) -> EncodeOptions {
 }
 
 /// isdb-text's reading in the crate's types. isdb-text has no positions: they are the model's,
-/// which has as many issues.
+/// which has as many issues. Nor does it count private-use characters: they are counted in its
+/// text.
 pub fn decoded(rust: isdb_text::Decoded, model: &model::Reading) -> Decoded {
     let issue = |(rust, &[.., position]): (isdb_text::Issue, &model::Issue)| Issue {
         offset: rust.offset,
@@ -29,7 +30,18 @@ pub fn decoded(rust: isdb_text::Decoded, model: &model::Reading) -> Decoded {
         position: position as usize,
     };
     let issues = rust.issues.into_iter().zip(&model.issues).map(issue);
-    Decoded { text: rust.text, issues: issues.collect() }
+    let private_use = private_use::count(&rust.text);
+    Decoded { text: rust.text, issues: issues.collect(), private_use }
+}
+
+/// Why a refusal has this number.
+pub fn reason(number: u32) -> Option<Reason> {
+    match number {
+        3 => Some(Reason::TooLong),
+        10 => Some(Reason::HasIssues),
+        11 => Some(Reason::PrivateUse),
+        _ => None,
+    }
 }
 
 /// isdb-text's coding or error in the crate's types.

@@ -9,7 +9,7 @@ mod rust;
 
 use oracle::reading;
 
-use super::lent::{AMPLE, Buffers, issues};
+use super::lent::{AMPLE, Buffers, DECODED, issues};
 use super::tally::Tally;
 use crate::call::{Call, Rooms, question};
 use crate::difference::{Held, digits, held};
@@ -24,8 +24,8 @@ pub struct Holder<'a> {
     subject: &'a dyn Subject,
     buffers: Buffers,
     reading: Reading,
-    /// Whether the reading's positions are among those compared.
-    placed: bool,
+    /// Whether the reading's positions and private-use characters are among those compared.
+    compared: bool,
     pub tally: Tally,
 }
 
@@ -34,8 +34,8 @@ impl<'a> Worker for Holder<'a> {
     type Tally = Tally;
 
     fn new(subject: &'a dyn Subject) -> Self {
-        let (buffers, reading, placed, tally) = Default::default();
-        Holder { subject, buffers, reading, placed, tally }
+        let (buffers, reading, compared, tally) = Default::default();
+        Holder { subject, buffers, reading, compared, tally }
     }
 
     fn tally(self) -> Tally {
@@ -52,7 +52,7 @@ impl Holder<'_> {
     /// Reads with the model, for a table that the Rust does not have.
     pub fn read(&mut self, call: Call) {
         call.read(&mut self.reading);
-        self.placed = false;
+        self.compared = false;
         self.tally.readings += 1;
         self.tally.longest.see(self.reading.text.len());
         self.tally.charge.see(self.reading.charge);
@@ -61,11 +61,11 @@ impl Holder<'_> {
         }
     }
 
-    /// Reads with the model and with the Rust: text, issues with their fields, and the bytes of
-    /// unknown escapes as the subject hands them back. Then `arib_clean`, by the Rust's issues, and
-    /// `arib_measure`, by the Rust's text and issues and the model's charge. The table is the
-    /// Rust's. The issues' positions, which the Rust has not, are the model's: `run` holds the
-    /// subject to them.
+    /// Reads with the model and with the Rust: text, its private-use characters, issues with their
+    /// fields, and the bytes of unknown escapes as the subject hands them back. Then `arib_clean`,
+    /// by the Rust's issues, and `arib_measure`, by the Rust's text and issues and the model's
+    /// charge. The table is the Rust's. The issues' positions, which the Rust has not, are the
+    /// model's: `run` holds the subject to them.
     pub fn read_both(&mut self, call: Call) -> Held {
         self.read(call);
         self.tally.rust += 1;
@@ -92,7 +92,10 @@ impl Holder<'_> {
         assert_eq!(call.questions(), number, "the model's own answer");
         self.decode(call, rooms, number)?;
         self.key_answer(call, rooms.text, number)?;
-        COUNTS.into_iter().try_for_each(|room| self.ask_refused(call, room, number))
+        COUNTS.into_iter().try_for_each(|room| {
+            self.decode_with(call, rooms, room, number)?;
+            self.ask_refused(call, room, number)
+        })
     }
 
     /// `arib_unknown_escape`: the part of the input, or the empty part at its beginning.
@@ -109,15 +112,21 @@ impl Holder<'_> {
     /// `arib_decode` refuses with this number, or gives the reading where it is 0: every byte and
     /// count.
     fn decode(&mut self, call: Call, rooms: Rooms, number: u32) -> Held {
+        self.decode_with(call, rooms, DECODED, number)
+    }
+
+    /// The same with so many counts.
+    fn decode_with(&mut self, call: Call, rooms: Rooms, counts: usize, number: u32) -> Held {
         self.tally.calls += 1;
         self.tally.answers[number as usize] += 1;
-        if number == 0 && !std::mem::replace(&mut self.placed, true) {
+        if number == 0 && !std::mem::replace(&mut self.compared, true) {
             self.tally.positions.see(self.reading.issues.iter().map(|[.., position]| *position));
+            self.tally.private_use.see(self.reading.private_use());
         }
-        let given = self.subject.decode(call, self.buffers.lend(rooms));
+        let given = self.subject.decode(call, self.buffers.lend(rooms, counts));
         let answer = question(number).map(|()| &self.reading);
         held(self.buffers.fault(given, answer), &call, |difference| {
-            let difference = difference.line("rooms", rooms);
+            let difference = difference.line("rooms", rooms).line("counts lent", counts);
             let difference = difference.line("subject", self.buffers.words(given));
             if call.questions() != 0 {
                 return difference;
@@ -145,10 +154,11 @@ impl Holder<'_> {
 /// The model's reading in words.
 pub fn words(reading: &Reading) -> String {
     format!(
-        "text {} issues {} charged {}: {}{}",
+        "text {} issues {} charged {} private-use {}: {}{}",
         reading.text.len(),
         reading.issues.len(),
         reading.charge,
+        reading.private_use(),
         digits(&reading.text),
         issues(reading.issues.as_flattened())
     )

@@ -15,7 +15,7 @@ pub fn ample(holder: &Holder, random: &mut Random) -> Rooms {
 
 /// `arib_decode` in exact rooms and with one byte or one issue less; with the greatest remainder of
 /// the issue buffer; with half the text; with one number less. For two issues a number less is
-/// nine, of which four are a remainder. Then `arib_key`, `arib_clean` and `arib_measure`.
+/// nine, of which four are a remainder. Then `arib_key`, and each number of counts.
 pub fn all_rooms(holder: &mut Holder, call: Call) -> Held {
     let Rooms { text, issues } = Rooms::exact(holder.reading());
     let rooms = |text, issues| Rooms { text, issues };
@@ -43,7 +43,10 @@ pub fn key_rooms(holder: &mut Holder, call: Call) -> Held {
     less.chain([text, text + 5]).try_for_each(|room| holder.key(call, room))
 }
 
-/// `arib_clean` and `arib_measure` with each number of counts.
+/// `arib_decode` in exact rooms, `arib_clean` and `arib_measure` with each number of counts.
 pub fn count_rooms(holder: &mut Holder, call: Call) -> Held {
-    COUNTS.into_iter().try_for_each(|room| holder.ask(call, room))
+    COUNTS.into_iter().try_for_each(|room| {
+        holder.counted(call, room)?;
+        holder.ask(call, room)
+    })
 }

@@ -4,6 +4,7 @@ use super::rooms::{all_rooms, count_rooms, key_rooms};
 use super::{Found, Holder, Runs};
 use crate::call::{Call, OPTIONS};
 use crate::difference::Held;
+use crate::inputs::ways;
 use crate::random::Random;
 use crate::{cells, inputs, titles};
 
@@ -24,15 +25,16 @@ pub fn tables(runs: &Runs) -> Found {
             holder.read(call);
             all_rooms(holder, call)?;
         }
-        every_cell(holder, &cells)
+        every_cell(holder, &cells, index as usize)
     })
 }
 
-/// All 8,836 two-byte codes in one string, by the Kanji set and by plane 1.
-fn every_cell(holder: &mut Holder, cells: &[u16]) -> Held {
-    let kanji = inputs::every_pair();
-    let plane_1 = [&[0x1B, 0x24, 0x39], &kanji[..]].concat();
-    for input in [kanji, plane_1] {
+/// All 8,836 two-byte codes in one string: by the Kanji set, by plane 1, and by one of all ways,
+/// which come round from table to table.
+fn every_cell(holder: &mut Holder, cells: &[u16], index: usize) -> Held {
+    let pairs = inputs::every_pair();
+    let plane_1 = [&[0x1B, 0x24, 0x39], pairs.as_flattened()].concat();
+    for input in [pairs.concat(), plane_1, ways::nth(index, &pairs)] {
         let call = Call { cells, initial: 0, width: 0, input: &input };
         holder.read(call);
         holder.exact(call)?;

@@ -3,7 +3,7 @@
 use std::fmt::{Display, Formatter, Result};
 
 use crate::model::ISSUE;
-use crate::tally::{Greatest, Positions, by_number, tally};
+use crate::tally::{Greatest, Positions, PrivateUse, by_number, tally};
 
 tally! {
     pub struct Tally {
@@ -19,10 +19,11 @@ tally! {
         pub kinds: [u64; 14],
         /// Of the readings that the subject was held to, once each.
         pub positions: Positions,
+        pub private_use: PrivateUse,
         /// Answers by refusal number; 0 for accepted calls.
         pub answers: [u64; 11],
         /// Calls of `arib_key` by refusal number, likewise.
-        pub keys: [u64; 11],
+        pub keys: [u64; 12],
         /// Calls of `arib_clean`, likewise, and how many of them on inputs without issue.
         pub asked: [u64; 4],
         pub clean: u64,
@@ -36,7 +37,8 @@ tally! {
     }
 }
 
-/// The counts, the calls by refusal number, the issues by kind, their positions.
+/// The counts, the calls by refusal number, the issues by kind, their positions, the private-use
+/// characters.
 impl Display for Tally {
     fn fmt(&self, f: &mut Formatter<'_>) -> Result {
         let Tally { readings, calls, rust, parts, longest, charge, .. } = self;
@@ -53,6 +55,7 @@ impl Display for Tally {
         write!(f, "{}", by_number(asked))?;
         write!(f, "\n  {} of measure, by number:{}", calls(measured), by_number(measured))?;
         write!(f, "\n  calls with an issue less, by remainder:{}", by_number(remainders))?;
-        write!(f, "\n  issues by kind:{}\n  {}", by_number(&self.kinds), self.positions)
+        let Tally { kinds, positions, private_use, .. } = self;
+        write!(f, "\n  issues by kind:{}\n  {positions}\n  {private_use}", by_number(kinds))
     }
 }

@@ -1,4 +1,4 @@
-//! `compare vectors`: eleven numbers a case, the input, the text, and the numbers of the issues.
+//! `compare vectors`: twelve numbers a case, the input, the text, and the numbers of the issues.
 
 mod cases;
 

@@ -6,11 +6,14 @@ use crate::random::Random;
 /// A chain of macros from 21 on, each of which calls the one before it.
 const CHAIN: [u8; 5] = [0x21, 0x22, 0x23, 0x24, 0x25];
 
+/// A body with 92-26, a private-use character: Kanji in GR, since GL calls macros.
+pub const PRIVATE_USE: [u8; 8] = [0x1B, 0x24, 0x2A, 0x42, 0x1B, 0x7D, 0xFC, 0xBA];
+
 impl Writer {
     /// The first macro's body is short, each other calls the one before it several times, one
     /// may call itself; then calls up to about `length` bytes.
     pub fn bomb(&mut self, length: usize) {
-        let innermost = self.random.below(6);
+        let innermost = self.random.below(7);
         self.definition(false, CHAIN[0], |body| body.innermost(innermost));
         for codes in CHAIN.windows(2).take(self.random.below(5)) {
             let (callee, own) = (codes[0], codes[1]);
@@ -28,7 +31,8 @@ impl Writer {
         }
     }
 
-    /// Nothing, a kana, kana, a mark in GR, a repeated kana, an unknown escape.
+    /// Nothing, a kana, kana, a mark in GR, a repeated kana, a private-use character in GR, an
+    /// unknown escape.
     fn innermost(&mut self, which: usize) {
         match which {
             0 => {}
@@ -36,6 +40,7 @@ impl Writer {
             2 => self.put(&[0xA2; 20]),
             3 => self.put(&[0x1B, 0x24, 0x2A, 0x42, 0x1B, 0x7D, 0xA1, 0xAD]),
             4 => self.put(&[0x98, 0x7F, 0xA2]),
+            5 => self.put(&PRIVATE_USE),
             _ => self.put(&[0x1B, 0x24, 0x28, 0x42]),
         }
     }

@@ -89,6 +89,26 @@ const CORNERS: &[Corner] = &[
     (1, 0, "95401B2B2070954F1D1B"),
     (1, 0, "9542"),
     (1, 0, "954F"),
+    // Private-use characters, 92-26 and 92-87, and what stands beside them; repeated; with a mark,
+    // with both; before a mark that waits in vain; behind placeholders, which are none.
+    (0, 0, "7C3A"),
+    (0, 0, "7C397C3A7C777C78"),
+    (0, 0, "98437C3A"),
+    (0, 0, "212D7C3A"),
+    (0, 0, "212D98437C3AA2"),
+    (0, 0, "7C3A212D"),
+    (0, 0, "984329217C3A"),
+    // In a body that is called twice, and in one that is called behind a repeat; with issues, so
+    // that question 10 comes before question 11.
+    (1, 0, "9540217C3A954F1D211D21"),
+    (1, 0, "9540217C3A954F98431D21A2"),
+    (0, 0, "7C3A24A2"),
+    (1, 0, "9541217C3AA0954F7C3A"),
+    // In GR, by a single shift, as an additional symbol, in plane 1, which has none.
+    (0, 0, "1B242A42FCBAA2"),
+    (0, 0, "1B242A42197C3A19FCBA"),
+    (0, 0, "1B243B7C3A7C58"),
+    (0, 0, "1B24397C3A"),
     // Cells.
     (0, 0, "2921"),
     (0, 0, "1B242A39A9A1"),

@@ -4,12 +4,13 @@ use super::{Writer, bombs, damage, pieces};
 use crate::call::LONGEST;
 use crate::random::Random;
 
-/// How many there are.
-pub const COUNT: u64 = 48;
+/// How many there are, and how many of them have the greatest length.
+pub const COUNT: u64 = 50;
+const FIXED: u64 = 10;
 
 /// A long input; the first ones have the greatest length.
 pub fn long(random: &mut Random, index: u64) -> Vec<u8> {
-    let length = if index < 8 { LONGEST } else { random.range(5_000, LONGEST) };
+    let length = if index < FIXED { LONGEST } else { random.range(5_000, LONGEST) };
     let mut input = match index {
         0 => [0x30, 0x21].repeat(LONGEST),
         1 => vec![0xA2; LONGEST],
@@ -19,6 +20,8 @@ pub fn long(random: &mut Random, index: u64) -> Vec<u8> {
         5 => [0x98, 0x7F, 0xA2].repeat(LONGEST),
         6 => [0x21, 0x2D].repeat(LONGEST),
         7 => [0x1B, 0x21, 0x40].repeat(LONGEST),
+        8 => [0x98, 0x7F, 0x7C, 0x3A, 0xA2].repeat(LONGEST),
+        9 => bombs::chain(&[&bombs::PRIVATE_USE, &[0x21; 8]], LONGEST),
         _ => some(random, length),
     };
     input.truncate(length);

@@ -10,8 +10,9 @@ const CODES: [u8; 12] = [0x21, 0x22, 0x23, 0x24, 0x7E, 0x60, 0x61, 0x64, 0x6A, 0
 /// A weight, and what writes the piece.
 type Piece = (usize, fn(&mut Writer));
 
-const PIECES: [Piece; 20] = [
+const PIECES: [Piece; 21] = [
     (16, Writer::kanji),
+    (8, Writer::by_a_way),
     (12, Writer::kana),
     (8, Writer::codes),
     (8, Writer::mark),
@@ -59,13 +60,18 @@ impl Writer {
 
     /// A cell of JIS X 0208's rows, in either half.
     fn kanji(&mut self) {
+        let code = self.cell();
+        self.pair(code);
+    }
+
+    /// A cell of JIS X 0208's rows, in GL's form.
+    pub(super) fn cell(&mut self) -> [u8; 2] {
         let row = if self.random.once_in(4) {
             self.random.byte(0x21, 0x28)
         } else {
             self.random.byte(0x30, 0x74)
         };
-        let cell = self.random.byte(0x21, 0x7E);
-        self.pair([row, cell]);
+        [row, self.random.byte(0x21, 0x7E)]
     }
 
     fn kana(&mut self) {

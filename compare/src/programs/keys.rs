@@ -61,13 +61,16 @@ fn numbered(random: &mut Random, title: &[u8]) -> Vec<u8> {
     line
 }
 
-/// Titles of 65,535 bytes: text that just fits, text that does not, issues; and shorter ones whose
-/// bodies give more than 64 bytes a byte.
+/// Titles of 65,535 bytes: text that just fits, text that does not, issues, private-use characters;
+/// and shorter ones whose bodies give more than 64 bytes a byte.
 fn longest() -> Vec<Vec<u8>> {
     let mut all: Vec<_> =
-        [1, 5, 6, 7].map(|index| long::long(&mut Random::new(0, index), index)).into();
+        [1, 5, 6, 7, 8].map(|index| long::long(&mut Random::new(0, index), index)).into();
     all.push(vec![0x0D; LONGEST]);
     all.push([0x30, 0x21].repeat(LONGEST / 2));
+    // 92-26: question 11; with an undefined control behind it question 10 comes before.
+    let symbols = [0x7C, 0x3A].repeat(LONGEST / 2);
+    all.extend([[&symbols[..], &[0xA0]].concat(), symbols]);
     all.push(bombs::called(&[0x98, 0x7F, 0xA2], 40));
     all.push(bombs::called(&[0xA2; 65], 200));
     all

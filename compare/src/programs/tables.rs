@@ -61,7 +61,7 @@ fn inputs(program: Program) -> Vec<Vec<u8>> {
         Program::Listing => {
             let pairs = inputs::every_pair();
             let titles = titles.map(|(bytes, _)| bytes).chain([vec![], vec![0xA2, 0x24]]);
-            titles.chain(pairs.chunks(4_000).map(<[u8]>::to_vec)).collect()
+            titles.chain(pairs.chunks(2_000).map(|codes| codes.concat())).collect()
         }
         Program::Encoding => {
             let texts =
@@ -70,7 +70,8 @@ fn inputs(program: Program) -> Vec<Vec<u8>> {
         }
         Program::Keys => {
             let lines: Vec<_> = titles.map(|(bytes, _)| line("1", &bytes)).collect();
-            let rows: Vec<_> = inputs::every_pair().chunks(188).map(|row| line("2", row)).collect();
+            let row = |codes: &[[u8; 2]]| line("2", codes.as_flattened());
+            let rows: Vec<_> = inputs::every_pair().chunks(94).map(row).collect();
             vec![lines.concat(), rows.concat(), b"1\t3021\nmalformed\n2\tA2".into(), vec![]]
         }
     }

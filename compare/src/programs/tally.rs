@@ -14,7 +14,7 @@ tally! {
         pub lines: u64,
         pub malformed: u64,
         /// Answers by refusal number; 0 for accepted calls. A line of `keys` is a call.
-        pub answers: [u64; 11],
+        pub answers: [u64; 12],
         /// Runs left out: this user reads every file, and cannot run a program as another.
         pub skipped: u64,
     }

@@ -18,7 +18,7 @@ impl Subject for StandIn {
         let (number, reading) = read(call, |reading| rooms.questions(reading));
         write(lent.text, &reading.text);
         write(lent.issues, reading.issues.as_flattened());
-        *lent.counts = reading.counts();
+        leave(lent.counts, reading.counts());
         number
     }
 
@@ -54,7 +54,7 @@ impl Subject for StandIn {
 
     fn measure(&self, call: Call, counts: &mut [usize]) -> u32 {
         let (number, reading) = read(call, |_| 0);
-        leave(counts, reading.counts());
+        leave(counts, reading.measured());
         number
     }
 }

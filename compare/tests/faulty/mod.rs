@@ -8,10 +8,14 @@ pub struct Faulty {
     /// Of decoding, and of keys, which have no issues.
     pub reading: fn(&mut Lent, &mut u32),
     pub coding: fn(&mut CodingLent, &mut u32),
-    /// The whole of `arib_clean`, and of `arib_measure`.
+    /// The whole of `arib_key`, of `arib_clean`, and of `arib_measure`.
+    pub key: Keyed,
     pub clean: Asked,
     pub measure: Asked,
 }
+
+/// A call that is lent a buffer for a key, and counts.
+pub type Keyed = fn(Call, &mut [u8], &mut [usize]) -> u32;
 
 /// A call that is lent counts and nothing else.
 pub type Asked = fn(Call, &mut [usize]) -> u32;
@@ -20,6 +24,7 @@ pub type Asked = fn(Call, &mut [usize]) -> u32;
 pub const SOUND: Faulty = Faulty {
     reading: |_, _| {},
     coding: |_, _| {},
+    key: |call, key, counts| model().key(call, key, counts),
     clean: |call, counts| model().clean(call, counts),
     measure: |call, counts| model().measure(call, counts),
 };
@@ -44,8 +49,7 @@ impl Subject for Faulty {
     }
 
     fn key(&self, call: Call, key: &mut [u8], counts: &mut [usize]) -> u32 {
-        let mut refusal = model().key(call, key, counts);
-        let counts = counts.try_into().unwrap();
+        let mut refusal = (self.key)(call, key, counts);
         (self.reading)(&mut Lent { text: key, issues: &mut [], counts }, &mut refusal);
         refusal
     }

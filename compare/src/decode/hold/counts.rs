@@ -1,15 +1,21 @@
-//! Calls that are lent counts and nothing else: `arib_clean` and `arib_measure`.
+//! Calls with each number of counts: `arib_decode`, and `arib_clean` and `arib_measure`, which are
+//! lent nothing else.
 
 use super::{Holder, words};
-use crate::call::Call;
-use crate::decode::lent::AMPLE;
+use crate::call::{Call, Rooms};
+use crate::decode::lent::{AMPLE, DECODED};
 use crate::difference::{Held, held};
 
 /// How many counts are lent: fewer than a call leaves, as many, and more.
-pub const COUNTS: [usize; 6] = [0, 1, 2, 3, 4, AMPLE];
+pub const COUNTS: [usize; 7] = [0, 1, 2, 3, 4, DECODED, AMPLE];
 
 impl Holder<'_> {
-    /// Both calls with so many counts, after a reading.
+    /// `arib_decode` with so many counts, in exact rooms, after a reading.
+    pub fn counted(&mut self, call: Call, room: usize) -> Held {
+        self.decode_with(call, Rooms::exact(&self.reading), room, 0)
+    }
+
+    /// `arib_clean` and `arib_measure` with so many counts, after a reading.
     pub fn ask(&mut self, call: Call, room: usize) -> Held {
         self.clean(call, room)?;
         self.measure(call, room)
@@ -31,7 +37,7 @@ impl Holder<'_> {
         numbers: (u32, u32),
         counts: &[usize],
     ) -> Held {
-        let fault = self.buffers.counts_fault(numbers, room, counts);
+        let fault = self.buffers.counts_fault(numbers, counts);
         held(fault.map(|what| format!("{name}: {what}")), &call, |difference| {
             let difference = difference.line("counts lent", room);
             if call.questions() != 0 {

@@ -1,6 +1,6 @@
 //! One call of `arib_key` held against the last reading.
 
-use super::Holder;
+use super::{DECODED, Holder};
 use crate::call::{Call, Rooms};
 use crate::difference::{Held, held};
 use crate::key;
@@ -14,7 +14,7 @@ impl Holder<'_> {
     /// `arib_key` refuses with this number, or gives the key and the charge where it is 0.
     pub(super) fn key_answer(&mut self, call: Call, room: usize, number: u32) -> Held {
         self.tally.keys[number as usize] += 1;
-        let lent = self.buffers.lend(Rooms { text: room, issues: 0 });
+        let lent = self.buffers.lend(Rooms { text: room, issues: 0 }, DECODED);
         let given = self.subject.key(call, lent.text, lent.counts);
         let (key, charge) = key::of(number, &self.reading);
         let fault = self.buffers.key_fault((given, number), key.as_bytes(), charge);

@@ -8,7 +8,7 @@ use crate::model::ISSUE;
 impl Holder<'_> {
     /// `arib_measure` with so many counts, after a reading.
     pub fn measure(&mut self, call: Call, room: usize) -> Held {
-        let [_, sizes @ ..] = self.reading.counts();
+        let [_, sizes @ ..] = self.reading.measured();
         self.measure_answer(call, room, Ok(sizes))
     }
 

@@ -3,13 +3,17 @@
 use oracle::reading::{Issue, Reading};
 
 use crate::difference::digits;
-use crate::model;
+use crate::{model, private_use};
 
 /// In what the model differs from the Rust, if in anything. Of an issue these are the first four
-/// numbers: the Rust has no position.
+/// numbers: the Rust has no position. Nor does it count private-use characters: they are counted in
+/// its text.
 pub fn fault(model: &model::Reading, rust: &Reading, input: &[u8]) -> Option<&'static str> {
     if model.text != rust.text.as_bytes() {
         return Some("the texts of model and Rust");
+    }
+    if model.private_use() != private_use::count(&rust.text) {
+        return Some("the private-use characters of model and Rust");
     }
     if model.issues.len() != rust.issues.len() {
         return Some("the issues' number of model and Rust");
