@@ -104,5 +104,7 @@ letter-one-key cells initial width room =
     record {
       wide-key = its-key w _ _ wr (letter-key annexE);
       narrow-key = its-key n _ _ nr (letter-key true);
-      one = λ h. answered w _ _ wr (letter-key annexE) (omega arith) (letter-ordinary annexE) (firstOf w) refl ∙ sym (answered n _ _ nr (letter-key true) (omega (arith, letter-bytes true)) (letter-ordinary true) (firstOf n) refl);
+      one = λ h.
+          answered w _ _ wr (letter-key annexE) (omega arith) (letter-ordinary annexE) (firstOf w) refl
+          ∙ sym (answered n _ _ nr (letter-key true) (omega (arith, letter-bytes true)) (letter-ordinary true) (firstOf n) refl);
     }

@@ -52,7 +52,12 @@ returns c =
     λ i.
     record {
       does = λ t₀ i₀ o h. holds-moved h (a .n) (a .c) e (at-if1 .if1 .taken) refl (at-insert .insert .ensures);
-      grew = record { ordered = (omega arith, omega (arith, e, times-least (a .n) (a .c), count-most (a .n) (a .c))); repeat = omega arith; text = omega (arith, e, times-most (a .n) (a .c)); issues = omega arith };
+      grew = record {
+        ordered = (omega arith, omega (arith, e, times-least (a .n) (a .c), count-most (a .n) (a .c)));
+        repeat = omega arith;
+        text = omega (arith, e, times-most (a .n) (a .c));
+        issues = omega arith;
+      };
     }
 
 returns-2 : tie.Need-returns-2
@@ -64,7 +69,12 @@ returns-2 c =
     λ i.
     record {
       does = λ t₀ i₀ o h. holds-counted h (a .n) (a .c) e (omega (arith, c .if1 .left));
-      grew = record { ordered = (omega arith, omega (arith, e, times-least (a .n) (a .c), count-most (a .n) (a .c))); repeat = omega arith; text = omega (arith, e, times-most (a .n) (a .c)); issues = omega arith };
+      grew = record {
+        ordered = (omega arith, omega (arith, e, times-least (a .n) (a .c), count-most (a .n) (a .c)));
+        repeat = omega arith;
+        text = omega (arith, e, times-most (a .n) (a .c));
+        issues = omega arith;
+      };
     }
 
 pub emit-times-spec : {M : Type 1} → statement M

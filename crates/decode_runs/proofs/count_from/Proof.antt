@@ -123,7 +123,8 @@ loop-again-2 c =
     let x : getD b i 0 < 256 = omega (arith, at-bytes .shared-slice-known2 .given i) in
     let most : length (utf8 l) ≤ 3 * 1 = omega (arith, three-most l (w .small)) in
     counted-more 1 _ (turn .loop .inv) (omega arith) (omega (arith, at-if1 .if1 .left, entry .pre .1))
-    (spells-letter _ b i _ x (at-set-of .set-of .ensures) e some w) (letter-plain (a .sets .narrow) (at-set-of .set-of .result) (getD b i 0 % 128) e) (c .width .ensures) (omega (arith, most, c .width .ensures))
+    (spells-letter _ b i _ x (at-set-of .set-of .ensures) e some w) (letter-plain (a .sets .narrow) (at-set-of .set-of .result) (getD b i 0 % 128) e)
+    (c .width .ensures) (omega (arith, most, c .width .ensures))
     (omega (arith, at-if1 .if1 .left, most, c .width .ensures))
 
 pub count-from-spec : {M : Type 1} → statement M

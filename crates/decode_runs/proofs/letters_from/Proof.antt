@@ -168,7 +168,8 @@ loop-again-2 c =
     let w = letter-of (a .sets .narrow) e some (omega arith) in
     let x : getD b i 0 < 256 = omega (arith, at-bytes .shared-slice-known2 .given i) in
     spelt-more 1 _ inv (omega arith) (omega (arith, inv .room, inv .as-long, inv .letters .within, at-if1 .if1 .left))
-    (spells-letter _ b i _ x (at-set-of .set-of .ensures) e some w) (letter-plain (a .sets .narrow) (at-set-of .set-of .result) (getD b i 0 % 128) e) (three-bytes _ (at-if4 .if4 .taken) (w .small)) (omega arith)
+    (spells-letter _ b i _ x (at-set-of .set-of .ensures) e some w) (letter-plain (a .sets .narrow) (at-set-of .set-of .result) (getD b i 0 % 128) e)
+    (three-bytes _ (at-if4 .if4 .taken) (w .small)) (omega arith)
     (omega (arith, at-if1 .if1 .left)) (c .before .before .put32 .ensures)
 
 same-length-3 : tie.Need-same-length-3 Inv-loop μ-loop
@@ -245,7 +246,8 @@ loop-again-3 c =
     let w = letter-of (a .sets .narrow) e some (omega arith) in
     let x : getD b i 0 < 256 = omega (arith, at-bytes .shared-slice-known2 .given i) in
     spelt-more 1 _ inv (omega arith) (omega (arith, inv .room, inv .as-long, inv .letters .within, at-if1 .if1 .left))
-    (spells-letter _ b i _ x (at-set-of .set-of .ensures) e some w) (letter-plain (a .sets .narrow) (at-set-of .set-of .result) (getD b i 0 % 128) e) (one-byte l (c .if6 .left)) (omega arith) (omega (arith, at-if1 .if1 .left)) (put-one _ _ l (c .if6 .left))
+    (spells-letter _ b i _ x (at-set-of .set-of .ensures) e some w) (letter-plain (a .sets .narrow) (at-set-of .set-of .result) (getD b i 0 % 128) e)
+    (one-byte l (c .if6 .left)) (omega arith) (omega (arith, at-if1 .if1 .left)) (put-one _ _ l (c .if6 .left))
 
 pub letters-from-spec : {M : Type 1} → statement M
 letters-from-spec =
