@@ -5,8 +5,8 @@ use mathlib.Core.Bool.{Bool, true, false, cond}
 use mathlib.Core.List.{List, [], _∷_, _++_}
 use native.Mathlib.Nat.{zero-add, suc-add, sub-zero}
 use native.Mathlib.Omega.{arith}
-use borrow.Author.Tests.{leb-true, ne-eqb}
-use lib.Dec.{eqb, leb, T}
+use borrow.Author.Tests.{ne-eqb}
+use lib.Dec.{eqb, T}
 use lib.ListN.{length, take, drop, getD, length-append}
 use Rattle.private_use.specs.PrivateUse.{privateUse}
 use Rattle.utf8.specs.Utf8.{areScalars, utf8, utf8s, scalars}
@@ -22,7 +22,7 @@ use Rattle.decode.specs.Answers as decode
 use Rattle.key.specs.declared.KeyAnswer.{KeyAnswer}
 use Rattle.key.specs.declared.KeyAnswer.the-variants as key
 use Rattle.key.specs.Key.{Lent, decodingOf, reading, textBytes, keyBytes, questionOf, eleventh, refusal, Outcome, outcomeOf, outcome}
-use Rattle.laws_scalars.proofs.Scalars.{text-scalars}
+use Rattle.laws_scalars.proofs.Scalars.{text-scalars, accepted-call}
 use Rattle.key_text.specs.KeyText.{keyChar, kept, keyText}
 use Rattle.key_text.specs.Contracts.{Removed}
 use Rattle.key_text.proofs.Characters.{no-longer, first-bytes}
@@ -86,17 +86,8 @@ module _ (c : Lent) where
 
   -- the first three questions were passed, and the text fits
   passed-0 : number ≡ 0 → (firstRefusal (c .cells) (c .initial) (c .width) decodeLimit (length (c .input)) ≡ 0) × (length (textBytes c) ≤ c .room)
-  unfolding decoding.refusal decoding.fits textBytes reading decoding.textBytes
-  passed-0 z = go (firstRefusal (c .cells) (c .initial) (c .width) decodeLimit (length (c .input))) refl
-    where
-      fitting : (a b : Bool) → leb (length (textBytes c)) (c .room) ≡ a → _≡_ {A = ℕ} (cond a (cond b 0 9) 8) 0 → length (textBytes c) ≤ c .room
-      fitting true b e f = leb-true _ _ e
-      fitting false b e f = absurd (omega arith)
-
-      go : (q : ℕ) → firstRefusal (c .cells) (c .initial) (c .width) decodeLimit (length (c .input)) ≡ q →
-          (firstRefusal (c .cells) (c .initial) (c .width) decodeLimit (length (c .input)) ≡ 0) × (length (textBytes c) ≤ c .room)
-      go zero e = (e, fitting (leb (length (textBytes c)) (c .room)) (leb (length (decoding.issueList (decodingOf c))) 0) refl (rw e at z))
-      go (suc q) e = absurd (omega (arith, rw e at z))
+  unfolding textBytes
+  passed-0 = accepted-call (decodingOf c)
 
   -- what was accepted
   module _ (text issues charge private : ℕ) (b : List ℕ) (d : Decodes c (Decoded text issues charge private) b) where
@@ -230,20 +221,25 @@ module _ (c : Lent) (r : Answer) (b : List ℕ) (d : Decodes c r b) where
 
 -- ---- a key lies in the buffer
 
+-- where the key is not refused, the decoding was not
+pub decoded : (c : Lent) → refusal c ≡ 0 → decoding.refusal (decodingOf c) ≡ 0
+unfolding refusal
+decoded c = go (decoding.refusal (decodingOf c)) refl
+  where
+    by : (q : ℕ) (t : Bool) → _≡_ {A = ℕ} (cond t 10 (suc q)) 0 → ⊥
+    by q true f = omega arith
+    by q false f = omega arith
+
+    go : (q : ℕ) → decoding.refusal (decodingOf c) ≡ q → refusal c ≡ 0 → decoding.refusal (decodingOf c) ≡ 0
+    go zero e f = e
+    go (suc q) e f = absurd (by q (eqb (suc q) 9) (rw e at f))
+
 pub len-inside : (c : Lent) → outcome c .len ≤ c .room
-unfolding outcome outcomeOf keyBytes textBytes refusal
+unfolding outcome outcomeOf keyBytes textBytes
 len-inside c = go (refusal c) refl
   where
-    none : (q : ℕ) → decoding.refusal (decodingOf c) ≡ q → refusal c ≡ 0 → decoding.refusal (decodingOf c) ≡ 0
-    none zero e f = e
-    none (suc q) e f = absurd (by (eqb (suc q) 9) (rw e at f))
-      where
-        by : (t : Bool) → _≡_ {A = ℕ} (cond t 10 (suc q)) 0 → ⊥
-        by true f = omega arith
-        by false f = omega arith
-
     go : (m : ℕ) → refusal c ≡ m → outcomeOf m c .len ≤ c .room
-    go zero e = omega (arith, passed-0 c (none (decoding.refusal (decodingOf c)) refl e) .1, key-shorter (reading c .out .text))
+    go zero e = omega (arith, passed-0 c (decoded c e) .1, key-shorter (reading c .out .text))
     go (suc m) e = omega arith
 
 -- and stands at its beginning

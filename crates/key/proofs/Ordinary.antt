@@ -15,6 +15,7 @@ use Rattle.reading.specs.Call as decoding
 use Rattle.key_text.specs.KeyText.{halfwidthIn, halfwidthOf, keyChar, kept, keyText}
 use Rattle.key.specs.Key.{Lent, decodingOf, reading, questionOf, eleventh, refusal, outcomeOf, outcome}
 use Rattle.key.specs.Laws.{KeyOrdinary}
+use Rattle.key.proofs.Calls.{decoded}
 
 -- an ordinary character, or one of a list of them
 half-in : (l : List ℕ) → privateUse l ≡ 0 → (c : ℕ) → isPrivateUse c ≡ false → isPrivateUse (halfwidthIn l c) ≡ false
@@ -41,7 +42,9 @@ key-of (c ∷ t) h = go (eqb c 0x0A || eqb c 0x20 || eqb c 0x3000) (key-of t (re
 
 pub key-ordinary : KeyOrdinary
 unfolding outcome outcomeOf refusal eleventh
-key-ordinary c e = key-of (reading c .out .text) (go (decoding.refusal (decodingOf c)) refl (number (refusal c) e))
+key-ordinary c e =
+    let n = number (refusal c) e in
+    key-of (reading c .out .text) (none-is (privateUse (reading c .out .text)) (eqb (privateUse (reading c .out .text)) 0) refl (rw (decoded c n) at n))
   where
     number : (q : ℕ) → outcomeOf q c .refused ≡ 0 → q ≡ 0
     number zero f = refl
@@ -50,11 +53,3 @@ key-ordinary c e = key-of (reading c .out .text) (go (decoding.refusal (decoding
     none-is : (n : ℕ) (u : Bool) → eqb n 0 ≡ u → _≡_ {A = ℕ} (cond u 0 11) 0 → n ≡ 0
     none-is n true f h = eqb-true n 0 f
     none-is n false f h = absurd (omega arith)
-
-    asked : (q : ℕ) (u : Bool) → _≡_ {A = ℕ} (cond u 10 (suc q)) 0 → ⊥
-    asked q true f = omega arith
-    asked q false f = omega arith
-
-    go : (q : ℕ) → decoding.refusal (decodingOf c) ≡ q → refusal c ≡ 0 → privateUse (reading c .out .text) ≡ 0
-    go zero f h = none-is (privateUse (reading c .out .text)) (eqb (privateUse (reading c .out .text)) 0) refl (rw f at h)
-    go (suc q) f h = absurd (asked q (eqb (suc q) 9) (rw f at h))

@@ -37,9 +37,9 @@ text-well-formed g initial t = well-formed (decode g initial .out .text) (text-s
 
 module _ (c : Lent) where
   -- a call that is not refused passed questions 1 to 3, and its text fits
-  accepted : refusal c ≡ 0 → (firstRefusal (c .cells) (c .initial) (c .width) decodeLimit (length (c .input)) ≡ 0) × (length (textBytes c) ≤ c .textRoom)
+  pub accepted-call : refusal c ≡ 0 → (firstRefusal (c .cells) (c .initial) (c .width) decodeLimit (length (c .input)) ≡ 0) × (length (textBytes c) ≤ c .textRoom)
   unfolding refusal fits
-  accepted z = go (firstRefusal (c .cells) (c .initial) (c .width) decodeLimit (length (c .input))) refl
+  accepted-call z = go (firstRefusal (c .cells) (c .initial) (c .width) decodeLimit (length (c .input))) refl
     where
       fitting : (a b : Bool) → leb (length (textBytes c)) (c .textRoom) ≡ a → _≡_ {A = ℕ} (cond a (cond b 0 9) 8) 0 → length (textBytes c) ≤ c .textRoom
       fitting true b e f = leb-true _ _ e
@@ -55,12 +55,12 @@ module _ (c : Lent) where
   unfolding textBytes reading
   returned n z =
       scalars-utf8s (reading c .out .text)
-      (text-scalars (given (c .cells) (c .width) (c .input)) (c .initial) (record { admitted = passed _ _ _ _ _ (accepted z .0) .table; numbers = n }))
+      (text-scalars (given (c .cells) (c .width) (c .input)) (c .initial) (record { admitted = passed _ _ _ _ _ (accepted-call z .0) .table; numbers = n }))
 
 pub text-private-use : TextPrivateUse
 unfolding outcome outcomeOf scalars privateUse
 text-private-use c n = go (refusal c) refl
   where
     go : (q : ℕ) → refusal c ≡ q → outcomeOf q c .privateUse ≡ privateUse (scalars (take (outcomeOf q c .text) (outcomeOf q c .textBuffer)))
-    go zero e = sym (ap (λ (l : List ℕ). privateUse (scalars l)) (take-padded (c .textRoom) (textBytes c) (accepted c e .1)) ∙ ap privateUse (returned c n e))
+    go zero e = sym (ap (λ (l : List ℕ). privateUse (scalars l)) (take-padded (c .textRoom) (textBytes c) (accepted-call c e .1)) ∙ ap privateUse (returned c n e))
     go (suc q) e = refl
