@@ -117,7 +117,8 @@ module _ (narrow : Bool) (c : ℕ) where
   unfolding letter
   letter-wide e = rw e (fullwidth-at c)
 
-  pub letter-none : {z : ℕ} → (z ≡ 1 → ⊥) → (z ≡ 2 → ⊥) → (z ≡ 3 → ⊥) → (z ≡ 8 → ⊥) → (z ≡ 9 → ⊥) → (z ≡ 10 → ⊥) → (z ≡ 11 → ⊥) → 0 ≡ letter narrow z c
+  pub letter-none : {z : ℕ} → (z ≡ 1 → ⊥) → (z ≡ 2 → ⊥) → (z ≡ 3 → ⊥) → (z ≡ 8 → ⊥) → (z ≡ 9 → ⊥) → (z ≡ 10 → ⊥) → (z ≡ 11 → ⊥)
+      → 0 ≡ letter narrow z c
   unfolding letter
   letter-none {z} h1 h2 h3 h8 h9 h10 h11 =
       rw (ne-eqb z 1 h1, ne-eqb z 8 h8, ne-eqb z 2 h2, ne-eqb z 9 h9, ne-eqb z 3 h3, ne-eqb z 10 h10, ne-eqb z 11 h11)
@@ -146,7 +147,8 @@ module _ (cells : List ℕ) (z row cell : ℕ) where
   unfolding cellAt
   cell-kanji = go (eqb z 0) refl (eqb z 12) refl
     where
-      go : (a : Bool) → eqb z 0 ≡ a → (b : Bool) → eqb z 12 ≡ b → (a || (b && leb row 84)) ≡ true → cellAt cells z row cell ≡ kanjiAt cells row cell
+      go : (a : Bool) → eqb z 0 ≡ a → (b : Bool) → eqb z 12 ≡ b → (a || (b && leb row 84)) ≡ true
+          → cellAt cells z row cell ≡ kanjiAt cells row cell
       go true p b q h = rw p
       go false p true q h = rw (p, ne-eqb z 14 (λ e. omega (arith, e, eqb-true z 12 q)), q, h)
       go false p false q h = absurd (false≢true h)

@@ -255,7 +255,8 @@ module _ {cells b : List ℕ} {j to : ℕ} {fits annex : Bool} {l : List ℕ} {n
   running-start h r f = record { runs = runs-none h f; as-long = refl; room = r }
 
   -- characters, a character, and controls more
-  pub running-more : {j₁ : ℕ} {l₁ : List ℕ} {n₁ p₁ : ℕ} {t₁ : List ℕ} {v : Invoked} {j₂ n₂ p₂ : ℕ} {t₂ : List ℕ} {j₃ n₃ p₃ : ℕ} {t₃ : List ℕ} {j₄ : ℕ} {l₄ : List ℕ}
+  pub running-more : {j₁ : ℕ} {l₁ : List ℕ} {n₁ p₁ : ℕ} {t₁ : List ℕ} {v : Invoked} {j₂ n₂ p₂ : ℕ} {t₂ : List ℕ}
+      {j₃ n₃ p₃ : ℕ} {t₃ : List ℕ} {j₄ : ℕ} {l₄ : List ℕ}
       → Running cells b j to fits annex l n p t j₁ l₁ n₁ p₁ t₁
       → v .gl ≡ getD l₁ (getD l₁ 4 0) 0 → v .gr ≡ getD l₁ (getD l₁ 5 0) 0 → v .narrow ≡ (annex || eqb (getD l₁ 6 0) 1)
       → Letters cells b j₁ v n₁ p₁ t₁ j₂ n₂ p₂ t₂ → Letters cells b j₂ v n₂ p₂ t₂ j₃ n₃ p₃ t₃ → Controls b j₃ l₁ j₄ l₄
@@ -271,9 +272,10 @@ module _ {cells b : List ℕ} {j to : ℕ} {fits annex : Bool} {l : List ℕ} {n
       }
 
 -- the whole run
-pub stretch-runs : {cells b : List ℕ} {j : ℕ} {l : List ℕ} {n p : ℕ} {c : Core} {t : List ℕ} {j₁ : ℕ} {l₁ : List ℕ} {n₁ p₁ : ℕ} {t₁ : List ℕ} {r : Core}
-    (i : List ℕ) (base origin : ℕ)
-    → MayTake (length b - j) c → c ≡ coreAt l n p c → r ≡ coreAt l₁ n₁ p₁ c → RunsTo cells b j (c .annex) l n p t j₁ l₁ n₁ p₁ t₁ → Stretch cells base origin b j c t i j₁ r t₁ i
+pub stretch-runs : {cells b : List ℕ} {j : ℕ} {l : List ℕ} {n p : ℕ} {c : Core} {t : List ℕ}
+    {j₁ : ℕ} {l₁ : List ℕ} {n₁ p₁ : ℕ} {t₁ : List ℕ} {r : Core} (i : List ℕ) (base origin : ℕ)
+    → MayTake (length b - j) c → c ≡ coreAt l n p c → r ≡ coreAt l₁ n₁ p₁ c → RunsTo cells b j (c .annex) l n p t j₁ l₁ n₁ p₁ t₁
+    → Stretch cells base origin b j c t i j₁ r t₁ i
 stretch-runs {cells} {b} {j} {l} {n} {p} {c} {t} {j₁} {l₁} {n₁} {p₁} {t₁} i base origin may e d w =
     let past = w .past in
     let most = w .most in

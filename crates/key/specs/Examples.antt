@@ -36,7 +36,7 @@ record Worked : Type 0 where
   -- あ with an issue; in too little room 8 comes first
   issue : call zeros 0 (0x24 ∷ 0xA2 ∷ []) 3 ≡ refused 10 (replicate 3 0)
   both : call zeros 0 (0x24 ∷ 0xA2 ∷ []) 2 ≡ refused 8 (replicate 2 0)
-  -- 92-26, U+E290: "8 before 10 before 11"; after an issue 10; in too little room 8
+  -- 92-26, U+E290; with an issue behind it 10; in too little room for both 8
   private-use : call zeros 0 (0x7C ∷ 0x3A ∷ []) 3 ≡ refused 11 (replicate 3 0)
   private-issue : call zeros 0 (0x7C ∷ 0x3A ∷ 0x24 ∷ 0xA2 ∷ []) 6 ≡ refused 10 (replicate 6 0)
   private-full : call zeros 0 (0x7C ∷ 0x3A ∷ 0x24 ∷ 0xA2 ∷ []) 5 ≡ refused 8 (replicate 5 0)
