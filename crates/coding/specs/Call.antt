@@ -56,7 +56,7 @@ refuse number place = record { number = number; place = place }
 unfoldable pub question8 : ℕ → Coded → Refusal
 question8 room k = cond (leb (length (k .out)) room) (refuse 0 0) (refuse 8 0)
 
--- "If no, 7": at each layer the states fit the store
+-- "If no, 7": at each layer what the search needs fits the store
 unfoldable pub question7 : Lent → Refusal
 unfolding fit needs choices question8 coding
 question7 c = cond (fit (c .storeRoom) (needs (choices c) (c .initial))) (question8 (c .codingRoom) (coding c)) (refuse 7 0)

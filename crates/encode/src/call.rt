@@ -55,12 +55,12 @@ fn write(
     layers: &mut [u32],
     coding: &mut [u8],
 ) -> Answer
-    requires { ⌜ Held (now chars) (now kanji) (now symbols) (target .count) × Searched annex (now chars) (now kanji) (now symbols) (target .count) (now layers) (target .from) (target .node) ⌝ }
+    requires { ⌜ Held (now chars) (now kanji) (now symbols) (target .count) ×
+        Searched annex (now chars) (now kanji) (now symbols) (target .count) (now layers) (target .node) (target .length) ⌝ }
     ensures { λ r. ⌜ ((k : Coded) → Leading annex k target (now (layers .entry)) (now (chars .entry)) (now (kanji .entry)) (now (symbols .entry)) →
         Answers (question8 (lib.ListN.length (now (coding .entry))) k) k (now (layers .entry)) (now (coding .entry)) r (now (layers .exit)) (now (coding .exit))) ⌝ }
 {
     let count = target.count;
-    let from = target.from;
     let node = target.node;
     let length = target.length;
     let gap = target.gap;
@@ -73,8 +73,8 @@ fn write(
         symbols,
         Goal {
             count,
-            from,
             node,
+            length,
             annex,
         },
         &*layers,

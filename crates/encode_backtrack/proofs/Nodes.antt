@@ -1,5 +1,5 @@
 -- The nodes of the layers in the store. Assumes nothing.
-use mathlib.Core.Path.{_≡_, refl, sym, ap, subst, _∙_}
+use mathlib.Core.Path.{_≡_, refl, ap, subst, _∙_}
 use mathlib.Core.List.{List, [], _∷_, map}
 use Prim.Native.Nat.{ℕ, zero, suc, _+_, _*_, _≤_, _<_}
 use native.Mathlib.Omega.{arith}
@@ -10,11 +10,10 @@ use borrow.Author.Tests.{eq-eqb, ne-eqb}
 use Rattle.coding.specs.State.{State}
 use Rattle.coding.specs.Candidates.{Cand}
 use Rattle.coding.specs.Search.{Node, node, newest, firstOf, nodeAt}
-use Rattle.encode_layer.specs.Entries.{Entry, entry, nodeOf, entriesOf, layerOf, entryAt}
-use Rattle.encode_layer.specs.Layer.{Sound}
-use Rattle.encode_search.specs.Layers.{Layers, first, behind}
+use Rattle.encode_layer.specs.Entries.{entry, nodeOf, entriesOf, layerOf, entryAt}
+use Rattle.encode_search.specs.Layers.{lastOf, OneNumber, Older, none, behind}
 use Rattle.encode_layer.proofs.Entries.{length-of, entry-of}
-use Rattle.base.proofs.Every.{all-map, all-at}
+use Rattle.base.proofs.Every.{all-map}
 use Rattle.laws_coding.proofs.Chains.{Link, Chain, begins, grows, at}
 use Rattle.base.specs.Lists.{All}
 
@@ -38,32 +37,22 @@ module _ (s : List ℕ) (from count : ℕ) (fits : (from + count) * 4 ≤ length
   unfolding layerOf
   at-layer cs i h =
       let e = length-of s from count fits in
-      get-map (nodeOf cs) (entriesOf s from count) i _ (entry 0 0 0 0) (omega arith) ∙ ap (nodeOf cs) (entry-of s from count fits i (entry 0 0 0 0) h)
+      get-map (nodeOf cs) (entriesOf s from count) i _ (entry 0 0 0) (omega arith) ∙ ap (nodeOf cs) (entry-of s from count fits i (entry 0 0 0) h)
 
-  pub entry-has : (P : Entry → Type 0) → All P (entriesOf s from count) → (i : ℕ) → i < count → P (entryAt s (from + i))
-  entry-has P a i h =
-      let e = length-of s from count fits in
-      rw (sym (entry-of s from count fits i (entry 0 0 0 0) h)) (all-at P (entry 0 0 0 0) (entriesOf s from count) a i (omega arith))
-
--- the node before, in the layer l, and the cost of what was written from there
-pub record Linking (l : List Node) (m : Node) : Type 0 where
-  pub from : m .prev < length l
-  pub cost : m .cost ≡ at l (m .prev) .cost + length (m .bytes)
-
--- layers, the newest first, from a start on
+-- layers, the newest first, from a start on: each node was reached from one of the layer before
 pub data Linked (t : State) : List (List Node) → Type 0 where
   starts : Linked t ((node 0 0 t [] ∷ []) ∷ [])
-  follows : {l : List Node} {ls : List (List Node)} → All (Linking (newest ls)) l → Linked t ls → Linked t (l ∷ ls)
+  follows : {l : List Node} {ls : List (List Node)} → All (λ m. m .prev < length (newest ls)) l → Linked t ls → Linked t (l ∷ ls)
 
 pub linked-of : {C : Type 0} {t : State} {css : List (List Cand)} {ls : List (List Node)} → Chain C t css ls → Linked t ls
 linked-of begins = starts
-linked-of (grows {l = l} {ls = ls} a c) = follows (all-map (Link _ _ (newest ls)) (Linking (newest ls)) l (λ m k. record { from = k .from; cost = k .step .cost }) a) (linked-of c)
+linked-of (grows {l = l} {ls = ls} a c) = follows (all-map (Link _ _ (newest ls)) (λ m. m .prev < length (newest ls)) l (λ m k. k .from) a) (linked-of c)
 
 linked-some : {t : State} {ls : List (List Node)} → Linked t ls → 1 ≤ length ls
 linked-some starts = omega arith
 linked-some (follows a c) = omega arith
 
-pub linked-link : {t : State} {l : List Node} {ls : List (List Node)} → 1 ≤ length ls → Linked t (l ∷ ls) → All (Linking (newest ls)) l
+pub linked-link : {t : State} {l : List Node} {ls : List (List Node)} → 1 ≤ length ls → Linked t (l ∷ ls) → All (λ m. m .prev < length (newest ls)) l
 linked-link h starts = absurd (omega arith)
 linked-link h (follows a c) = a
 
@@ -75,52 +64,40 @@ pub linked-start : {t : State} {l : List Node} → Linked t (l ∷ []) → l ≡
 linked-start starts = refl
 linked-start (follows a c) = absurd (omega (arith, linked-some c))
 
--- the newest of the layers in the store
-pub record Newest (css : List (List Cand)) (s : List ℕ) (from count : ℕ) (ls : List (List Node)) : Type 0 where
-  pub cs : List Cand
-  pub is : newest ls ≡ layerOf cs s from count
-  pub some : 1 ≤ length ls
-
-pub newest-of : {css : List (List Cand)} {s : List ℕ} {j from count : ℕ} {ls : List (List Node)} → Layers css s j from count ls → Newest css s from count ls
-unfolding newest
-newest-of (first l e) = record { cs = []; is = e; some = omega arith }
-newest-of {css} {s} (behind {j = j} from count most l r f e a) = record { cs = getD css j []; is = e; some = omega arith }
-
--- the layers before it
-pub record Behind (css : List (List Cand)) (s : List ℕ) (j from count : ℕ) (ls : List (List Node)) : Type 0 where
-  pub back : ℕ
+-- the newest of the older layers: where it is, and what is before it
+pub record Newest (css : List (List Cand)) (s : List ℕ) (j end count : ℕ) (ls : List (List Node)) : Type 0 where
+  pub from : ℕ
   pub before : ℕ
+  pub layer : List Node
   pub rest : List (List Node)
-  pub most : ℕ
-  pub layers : Layers css s j back before rest
-  pub place : from ≡ back + before
-  pub whole : ls ≡ layerOf (getD css j []) s from count ∷ rest
-  pub sound : All (Sound back most) (entriesOf s from count)
+  pub older : Older css s j from before rest
+  pub ends : end ≡ from + count
+  pub long : count ≡ length layer
+  pub whole : ls ≡ layer ∷ rest
+  pub each : (i : ℕ) → i < count → OneNumber (lastOf css j) s from before layer i
 
-pub behind-of : {css : List (List Cand)} {s : List ℕ} {k from count : ℕ} {ls : List (List Node)} (j : ℕ) → k ≡ suc j → Layers css s k from count ls → Behind css s j from count ls
-behind-of j e (first l f) = absurd (omega arith)
-behind-of {css} {s} j e (behind {j = i} {back = back} {before = before} {ls = ls} from count most l r f g a) =
+pub newest-of : {css : List (List Cand)} {s : List ℕ} {k end count : ℕ} {ls : List (List Node)} (j : ℕ) → k ≡ suc j → Older css s k end count ls → Newest css s j end count ls
+newest-of j e none = absurd (omega arith)
+newest-of {css} {s} j e (behind {j = i} {from = from} {before = before} {ls = ls} end count l x ee el o) =
     let q : i ≡ j = omega arith in
     record {
-      back = back;
+      from = from;
       before = before;
+      layer = l;
       rest = ls;
-      most = most;
-      layers = subst (λ (x : ℕ). Layers css s x back before ls) q r;
-      place = f;
-      whole = ap (λ (x : List Node). x ∷ ls) g ∙ ap (λ (x : ℕ). layerOf (getD css x []) s from count ∷ ls) q;
-      sound = a;
+      older = subst (λ (x : ℕ). Older css s x from before ls) q x;
+      ends = ee;
+      long = el;
+      whole = refl;
+      each = λ i h. subst (λ (x : ℕ). OneNumber (lastOf css x) s from before l i) q (o i h);
     }
 
--- the start alone
-pub record Alone (s : List ℕ) (from count : ℕ) (ls : List (List Node)) : Type 0 where
-  pub place : from ≡ 0
-  pub one : count ≡ 1
-  pub whole : ls ≡ layerOf [] s from count ∷ []
-
-pub alone-of : {css : List (List Cand)} {s : List ℕ} {k from count : ℕ} {ls : List (List Node)} → k ≡ 0 → Layers css s k from count ls → Alone s from count ls
-alone-of e (first l f) = record { place = refl; one = refl; whole = ap (λ (x : List Node). x ∷ []) f }
-alone-of e (behind from count most l r f g a) = absurd (omega arith)
+pub alone-of : {css : List (List Cand)} {s : List ℕ} {end count : ℕ} {ls : List (List Node)} → Older css s 0 end count ls → ls ≡ []
+alone-of x = go refl x
+  where
+    go : {css : List (List Cand)} {s : List ℕ} {j end count : ℕ} {ls : List (List Node)} → j ≡ 0 → Older css s j end count ls → ls ≡ []
+    go e none = refl
+    go e (behind end count l x ee el o) = absurd (omega arith)
 
 -- the first node of a cost, where none before the i-th has it
 first-yes : (cost : ℕ) (n : Node) (l : List Node) → n .cost ≡ cost → firstOf cost (n ∷ l) ≡ 0

@@ -1,12 +1,12 @@
 -- The search for a coding, against the definition. Assumes nothing.
 use mathlib.Core.Path.{_≡_, refl, sym, ap, subst, _∙_}
 use mathlib.Core.Bool.{Bool, true, false, cond, not}
-use mathlib.Core.List.{List, [], _∷_, reverseAux}
+use mathlib.Core.List.{List, [], _∷_, _++_, reverseAux}
 use Prim.Native.Nat.{ℕ, zero, suc, _+_, _-_, _*_, _≤_, _<_}
 use native.Mathlib.Omega.{arith}
 use mathlib.Core.Option.{none}
 use lib.Dec.{eqb}
-use lib.ListN.{length, getD}
+use lib.ListN.{length, getD, take, drop, length-drop}
 use lib.Seq.{getD-take}
 use Rattle.coding.specs.State.{start}
 use Rattle.coding.specs.Candidates.{Cand, candidates, candidatesOf}
@@ -20,10 +20,13 @@ use Rattle.encode_tokens.specs.Contracts as tokens-contracts
 use Rattle.encode_tokens.specs.declared.Tokens.{Tokens}
 use Rattle.encode_tokens.specs.declared.Tokens.the-variants as tokens-variants
 use Rattle.encode_layer.specs.Entries.{layerOf}
-use Rattle.encode_search.specs.Layers.{Found, Arrays}
+use Rattle.encode_search.specs.Layers.{lastOf, Older, Found, Inside, Arrays}
 use Rattle.encode_search.specs.Layers as search
 use Rattle.encode_backtrack.specs.Contracts.{Chosen, Searched, Held}
-use Rattle.encode_backtrack.proofs.Nodes.{length-layer, Newest, newest-of}
+use Rattle.encode_layer.specs.Kept.{Squeezed}
+use Rattle.encode_search.proofs.Squeezing.{newest-older}
+use Rattle.encode_search.proofs.Parts.{lentPart, givenBack, lent-part, given-back, joined-long, joined-front, joined-part}
+use Rattle.encode_backtrack.proofs.Nodes.{length-layer}
 use Rattle.laws_coding.proofs.Chains.{Chain, begins, run-chain, back-length}
 use Rattle.base.specs.Lists.{All}
 use Rattle.laws_coding.proofs.Choices.{choices-filled}
@@ -75,6 +78,19 @@ fit-none : (room initial : ℕ) → fit room (needs [] initial) ≡ true
 unfolding fit needs
 fit-none room initial = refl
 
+-- the first of a cost is one of the layer, or behind it
+first-most : (cost : ℕ) (l : List Node) → firstOf cost l ≤ length l
+unfolding firstOf
+first-most cost [] = omega arith
+first-most cost (n ∷ l) = go (eqb (n .cost) cost) refl (first-most cost l)
+  where
+    go : (b : Bool) → eqb (n .cost) cost ≡ b → firstOf cost l ≤ length l → firstOf cost (n ∷ l) ≤ length (n ∷ l)
+    go true e h = rw (e, firstOf) (omega arith)
+    go false e h = rw (e, firstOf) (omega arith)
+
+pub place-most : (part : List ℕ) (count cost place : ℕ) → count * 4 ≤ length part → ((cs : List Cand) → place ≡ firstOf cost (layerOf cs part 0 count)) → place ≤ count
+place-most part count cost place h e = omega (arith, e [], first-most cost (layerOf [] part 0 count), length-layer part 0 count (omega arith) [])
+
 -- a test the other way round
 pub not-so : (b : Bool) → not b ≡ true → b ≡ false
 not-so true e = sym e
@@ -103,7 +119,7 @@ module _ (annexE : Bool) (initial : ℕ) (s s′ chs ks ss : List ℕ) (n rest :
       let f : fit (length s′) (needs css initial) ≡ true = ap (λ (x : List (List Cand)). fit (length s′) (needs x initial)) n ∙ fit-none (length s′) initial in
       record { answer = λ room. rw f refl; found = (ap (λ (x : Coded). x .out) k, ap (λ (x : Coded). x .gap) k) }
 
-  module _ {fits : Bool} {from count floor : ℕ} (d : search.Searched chs ks ss n annexE initial rest s s′ fits from count floor) where
+  module _ {fits : Bool} {from count before floor : ℕ} (d : search.Searched chs ks ss n annexE initial rest s s′ fits from count before floor) where
     pub led-full : fits ≡ false → Led annexE (code css initial) (needs css initial) (Refused 7 0) s′ chs ks ss
     unfolding planned leads
     led-full e =
@@ -111,14 +127,30 @@ module _ (annexE : Bool) (initial : ℕ) (s s′ chs ks ss : List ℕ) (n rest :
         record { answer = λ room. rw h refl; found = omega arith }
 
     module _ (e : fits ≡ true) where
-      found-at : Found css initial s′ n from count floor
+      found-at : Found css initial s′ n from count before floor
       found-at = d .done (t .cells) (t .chars) (t .holds) (t .count) (t .shortest) e
 
-      pub found-fits : (from + count) * 4 ≤ length s′
-      found-fits = omega (arith, d .inside e, same)
+      inside : Inside s from count before
+      inside = d .inside e
 
-      head : Newest css s′ from count (ran .layers)
-      head = newest-of (found-at .layers)
+      abbrev part : List ℕ
+      part = drop from s′
+
+      long : length part ≡ length s′ - from
+      long = length-drop from s′
+
+      part-fits : count * 4 ≤ length part
+      part-fits = omega (arith, inside .store, same, long)
+
+      pub lent-fits : count * 4 ≤ length (lentPart s′ from)
+      lent-fits = rw lent-part part-fits
+
+      abbrev layer : List Node
+      layer = layerOf (lastOf css n) part 0 count
+
+      head : last ≡ layer
+      unfolding newest
+      head = ap newest (found-at .layers .whole)
 
       chain : Chain ⊥ (start initial) (reverseAux css []) (ran .layers)
       unfolding begin
@@ -128,37 +160,63 @@ module _ (annexE : Bool) (initial : ℕ) (s s′ chs ks ss : List ℕ) (n rest :
       unfolding begin newest
       filled = run-filled css (t .each) (begin initial) (here tt)
 
-      pub led-found : (best node gap : ℕ) → Held chs ks ss n → ((cs : List Cand) → best ≡ least (layerOf cs s′ from count)) →
-          ((cs : List Cand) → node ≡ firstOf best (layerOf cs s′ from count)) → gap ≡ gapOf best floor →
-          Led annexE (code css initial) (needs css initial) (Leads (record { count = n; from = from; node = node; length = best; gap = gap })) s′ chs ks ss
-      unfolding code finish planned leads
-      led-found best node gap held eb en eg =
-          let f = found-at in
-          let b : best ≡ least last = eb (head .cs) ∙ ap least (sym (head .is)) in
-          let i : node ≡ firstOf (least last) last = en (head .cs) ∙ ap (λ (x : ℕ). firstOf x (layerOf (head .cs) s′ from count)) b ∙ ap (firstOf (least last)) (sym (head .is)) in
-          let q = cheapest last filled in
-          let m : length last ≡ count = ap length (head .is) ∙ length-layer s′ from count found-fits (head .cs) in
-          let o : length (code css initial .out) ≡ least last = omega (arith, back-length ⊥ (start initial) chain (firstOf (least last) last) (q .0) [], q .1) in
-          let z : best ≡ length (code css initial .out) = b ∙ sym o in
-          record {
-            answer = λ room. rw (f .room) refl;
-            found = record {
-              held = held;
-              searched = record {
-                cells = t .cells;
-                css = css;
-                initial = initial;
-                count = count;
-                chosen = λ j h. chosen-at (t .cells) annexE chs ks ss (t .chars) (t .holds) j (omega (arith, t .count));
-                layers = f .layers;
-                fits = found-fits;
-                node = omega (arith, q .0, m, i);
+      -- the newest layer is squeezed too
+      module _ (p′ : List ℕ) (es : Squeezed (lentPart s′ from) p′ count before) (same-part : length p′ ≡ length (lentPart s′ from)) where
+        fits-from : from ≤ length s′
+        fits-from = omega (arith, inside .store, same)
+
+        abbrev joined : List ℕ
+        joined = take from s′ ++ p′
+
+        older-all : Older css joined (suc n) (from + count) count (ran .layers)
+        older-all =
+            let q : Squeezed part p′ count before = rw lent-part at es in
+            newest-older css s′ joined n from count before (ran .layers) (omega (arith, inside .store, same)) (inside .few) (inside .before-few) (found-at .layers)
+            (joined-front s′ p′ from fits-from) (λ i k. joined-part s′ p′ from fits-from i ∙ q .each i k)
+
+        joined-same : length joined ≡ length s′
+        joined-same = joined-long s′ p′ from fits-from (rw lent-part at same-part)
+
+        pub led-found : (best place gap : ℕ) → best ≤ 4294967295 → Held chs ks ss n → ((cs : List Cand) → best ≡ least (layerOf cs (lentPart s′ from) 0 count)) →
+            ((cs : List Cand) → place ≡ firstOf best (layerOf cs (lentPart s′ from) 0 count)) → gap ≡ gapOf best floor →
+            Led annexE (code css initial) (needs css initial) (Leads (record { count = n; node = from + place; length = best; gap = gap })) (givenBack s′ from p′) chs ks ss
+        unfolding code finish planned leads
+        led-found best place gap small held eb en eg =
+            let f = found-at in
+            let lp = lent-part s′ from in
+            let b : best ≡ least last = eb (lastOf css n) ∙ ap (λ (x : List ℕ). least (layerOf (lastOf css n) x 0 count)) lp ∙ ap least (sym head) in
+            let i : place ≡ firstOf (least last) last =
+            en (lastOf css n) ∙ ap (λ (x : List ℕ). firstOf best (layerOf (lastOf css n) x 0 count)) lp ∙ ap (λ (x : ℕ). firstOf x layer) b ∙ ap (firstOf (least last)) (sym head) in
+            let q = cheapest last filled in
+            let m : length last ≡ count = ap length head ∙ length-layer part 0 count (omega (arith, part-fits)) (lastOf css n) in
+            let o : length (code css initial .out) ≡ least last = omega (arith, back-length ⊥ (start initial) chain (firstOf (least last) last) (q .0) [], q .1) in
+            let z : best ≡ length (code css initial .out) = b ∙ sym o in
+            let w : back (ran .layers) place [] ≡ code css initial .out = ap (λ (x : ℕ). back (ran .layers) x []) i in
+            rw given-back
+            (record {
+              answer = λ room. rw (joined-same, f .room) refl;
+              found = record {
+                held = held;
+                searched = record {
+                  cells = t .cells;
+                  css = css;
+                  initial = initial;
+                  end = from + count;
+                  count = count;
+                  place = place;
+                  chosen = λ j h. chosen-at (t .cells) annexE chs ks ss (t .chars) (t .holds) j (omega (arith, t .count));
+                  layers = older-all;
+                  fits = omega (arith, joined-same, inside .store, same);
+                  inside = omega (arith, q .0, m, i);
+                  stands = omega arith;
+                  bytes-are = z ∙ ap length (sym w);
+                  bytes-few = small;
+                };
+                out = w;
+                length-is = z;
+                gap-is = eg ∙ ap (λ (x : ℕ). gapOf x floor) z ∙ ap (gapOf (length (code css initial .out))) (sym (f .floors));
               };
-              out = ap (λ (x : ℕ). back (ran .layers) x []) i;
-              length-is = z;
-              gap-is = eg ∙ ap (λ (x : ℕ). gapOf x floor) z ∙ ap (gapOf (length (code css initial .out))) (sym (f .floors));
-            };
-          }
+            })
 
 -- questions 4 to 6
 pub filled-all : (cells : List ℕ) (width : ℕ) (text : List ℕ) → without (inOrder (tokens text)) (candidatesOf cells (eqb width 1) (chars (inOrder (tokens text)))) ≡ none →

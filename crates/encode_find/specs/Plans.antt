@@ -40,8 +40,8 @@ planned (Refused number place) room k = refuse number place
 -- a node of the newest layer in the store s to which the coding of k leads, with the coding's length and its gap; the arrays hold the characters
 pub record Leading (annexE : Bool) (k : Coded) (l : Target) (s chs kanji symbols : List ℕ) : Type 0 where
   pub held : Held chs kanji symbols (l .count)
-  pub searched : Searched annexE chs kanji symbols (l .count) s (l .from) (l .node)
-  pub out : back (run (searched .css) (begin (searched .initial)) .layers) (l .node) [] ≡ k .out
+  pub searched : Searched annexE chs kanji symbols (l .count) s (l .node) (l .length)
+  pub out : back (run (searched .css) (begin (searched .initial)) .layers) (searched .place) [] ≡ k .out
   pub length-is : l .length ≡ length (k .out)
   pub gap-is : l .gap ≡ k .gap
 

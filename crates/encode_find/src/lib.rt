@@ -17,11 +17,10 @@ pub struct Options {
     pub width: u32,
 }
 
-/// Where the coding is: how many characters there are, the node to which it leads, by its place in the
-/// layer that begins at the node from of the store, its length and its gap.
+/// Where the coding is: how many characters there are, the number of the store at which the node
+/// stands to which it leads, its length and its gap.
 pub struct Target {
     pub count: usize,
-    pub from: usize,
     pub node: usize,
     pub length: usize,
     pub gap: usize,
@@ -72,14 +71,14 @@ fn lead(chars: &[u32], kanji: &[u16], symbols: &[u16], task: Task, store: &mut [
     }
     let from = last.from;
     let count = last.count;
-    let best = encode_layer::least(&*store, from, count);
-    let node = encode_backtrack::first_of(&*store, from, count, best);
+    let best = encode_layer::least(&store[from..], 0, count);
+    let place = encode_backtrack::first_of(&store[from..], 0, count, best);
+    encode_layer::squeeze(&mut store[from..], count, last.before);
     let length = best as usize;
     let gap = gap_of(length, last.floor);
     Plan::Leads(Target {
         count: n,
-        from,
-        node,
+        node: from + place,
         length,
         gap,
     })
@@ -97,8 +96,8 @@ pub fn find(
     symbols: &mut [u16],
 ) -> Plan
     requires { ⌜ (length (now text) ≤ 7281) × tokens.ArraysFit (now text) (now chars) (now kanji) (now symbols) ⌝ }
-    ensures { λ r. ⌜ ((room : ℕ) → Planned (asked (now (cells .entry)) (options .initial) (options .width) (now (text .entry)) (now (store .entry)) room) r (now (store .exit)) (now (chars .exit))
-        (now (kanji .exit)) (now (symbols .exit))) ⌝ }
+    ensures { λ r. ⌜ ((room : ℕ) → Planned (asked (now (cells .entry)) (options .initial) (options .width) (now (text .entry)) (now (store .entry)) room) r (now (store .exit))
+        (now (chars .exit)) (now (kanji .exit)) (now (symbols .exit))) ⌝ }
 {
     let initial = options.initial;
     let annex = options.width == 1;

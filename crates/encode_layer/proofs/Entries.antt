@@ -1,10 +1,11 @@
--- The nodes of a store: how many, which, and after one is written. Assumes nothing.
+-- The nodes of a part of the store: how many, which, and after one is written. Assumes nothing.
 use mathlib.Core.Path.{_≡_, refl, sym, ap, _∙_}
 use mathlib.Core.List.{List, [], _∷_}
-use Prim.Native.Nat.{ℕ, zero, suc, _+_, _*_, _/_, _≤_, _<_}
+use Prim.Native.Nat.{ℕ, zero, suc, _+_, _-_, _*_, _/_, _≤_, _<_}
+use native.Mathlib.Nat.{zero-add}
 use native.Mathlib.Omega.{arith}
 use lib.ListN.{length, getD, set, take, drop, length-set, length-drop}
-use lib.Seq.{take-nil, length-take-le, getD-take, getD-drop, take-set-le}
+use lib.Seq.{take-nil, length-take-le, getD-take, getD-drop, getD-set-other, take-set-le, drop-drop}
 use Rattle.encode_layer.specs.Entries.{Entry, entry, entries, entriesOf, entryAt, setEntry}
 
 four : ℕ → ℕ
@@ -25,7 +26,6 @@ length-entries (a ∷ b ∷ c ∷ []) = refl
 length-entries (a ∷ b ∷ c ∷ d ∷ xs) = let e = length-entries xs in omega arith
 
 at-four : (s : List ℕ) (i : ℕ) (z : Entry) → four i + 3 < length s → getD (entries s) i z ≡ entry (getD s (four i) 0) (getD s (suc (four i)) 0) (getD s (suc (suc (four i))) 0)
-    (getD s (suc (suc (suc (four i)))) 0)
 unfolding entries four
 at-four [] i z h = absurd (omega arith)
 at-four (a ∷ []) i z h = absurd (omega arith)
@@ -34,15 +34,25 @@ at-four (a ∷ b ∷ c ∷ []) i z h = absurd (omega arith)
 at-four (a ∷ b ∷ c ∷ d ∷ xs) zero z h = refl
 at-four (a ∷ b ∷ c ∷ d ∷ xs) (suc i) z h = at-four xs i z (omega arith)
 
-set-four : (s : List ℕ) (i a b c d : ℕ) → four i + 3 < length s →
-    entries (set (set (set (set s (four i) a) (suc (four i)) b) (suc (suc (four i))) c) (suc (suc (suc (four i)))) d) ≡ set (entries s) i (entry a b c d)
+set-four : (s : List ℕ) (i a b c : ℕ) → four i + 3 < length s →
+    entries (set (set (set s (four i) a) (suc (four i)) b) (suc (suc (four i))) c) ≡ set (entries s) i (entry a b c)
 unfolding entries four
-set-four [] i a b c d h = absurd (omega arith)
-set-four (x ∷ []) i a b c d h = absurd (omega arith)
-set-four (x ∷ y ∷ []) i a b c d h = absurd (omega arith)
-set-four (x ∷ y ∷ z ∷ []) i a b c d h = absurd (omega arith)
-set-four (x ∷ y ∷ z ∷ w ∷ xs) zero a b c d h = refl
-set-four (x ∷ y ∷ z ∷ w ∷ xs) (suc i) a b c d h = ap (λ (l : List Entry). entry x y z w ∷ l) (set-four xs i a b c d (omega arith))
+set-four [] i a b c h = absurd (omega arith)
+set-four (x ∷ []) i a b c h = absurd (omega arith)
+set-four (x ∷ y ∷ []) i a b c h = absurd (omega arith)
+set-four (x ∷ y ∷ z ∷ []) i a b c h = absurd (omega arith)
+set-four (x ∷ y ∷ z ∷ w ∷ xs) zero a b c h = refl
+set-four (x ∷ y ∷ z ∷ w ∷ xs) (suc i) a b c h = ap (λ (l : List Entry). entry x y z ∷ l) (set-four xs i a b c (omega arith))
+
+-- the fourth number of a node is not the node's
+chain-four : (s : List ℕ) (i x : ℕ) → four i + 3 < length s → entries (set s (suc (suc (suc (four i)))) x) ≡ entries s
+unfolding entries four
+chain-four [] i x h = absurd (omega arith)
+chain-four (a ∷ []) i x h = absurd (omega arith)
+chain-four (a ∷ b ∷ []) i x h = absurd (omega arith)
+chain-four (a ∷ b ∷ c ∷ []) i x h = absurd (omega arith)
+chain-four (a ∷ b ∷ c ∷ d ∷ xs) zero x h = refl
+chain-four (a ∷ b ∷ c ∷ d ∷ xs) (suc i) x h = ap (λ (l : List Entry). entry a b c ∷ l) (chain-four xs i x (omega arith))
 
 -- the same at the code's places
 module _ (s : List ℕ) (i : ℕ) (h : i * 4 + 4 ≤ length s) where
@@ -59,22 +69,30 @@ module _ (s : List ℕ) (i : ℕ) (h : i * 4 + 4 ≤ length s) where
   e3 = let q = four-is i in omega arith
 
   pub entries-at : (z : Entry) → getD (entries s) i z ≡ entryAt s i
-  entries-at z = rw (e3, e2, e1, e0) (at-four s i z (let q = four-is i in omega arith))
+  entries-at z = rw (e2, e1, e0) (at-four s i z (let q = four-is i in omega arith))
 
-  pub entries-set : (e : Entry) → entries (setEntry s i e) ≡ set (entries s) i e
-  entries-set e = rw (e3, e2, e1, e0) (set-four s i (e .state) (e .cost) (e .link) (e .back) (let q = four-is i in omega arith))
+  pub entries-set : (e : Entry) → entries (setEntry s (i * 4) e) ≡ set (entries s) i e
+  entries-set e = rw (e2, e1, e0) (set-four s i (e .state) (e .cost) (e .link) (let q = four-is i in omega arith))
 
-pub length-set-entry : (s : List ℕ) (p : ℕ) (e : Entry) → length (setEntry s p e) ≡ length s
-length-set-entry s p e = simp length-set
+  pub entries-chain : (x : ℕ) → entries (set s (i * 4 + 3) x) ≡ entries s
+  entries-chain x = rw e3 (chain-four s i x (let q = four-is i in omega arith))
 
--- the numbers before a place where a node is written
-pub before-set : (s : List ℕ) (n p : ℕ) (e : Entry) → n ≤ p → take (n * 4) (setEntry s p e) ≡ take (n * 4) s
-before-set s n p e h =
-    let a : n * 4 ≤ p * 4 = omega arith in
-    let b : n * 4 ≤ p * 4 + 1 = omega arith in
-    let c : n * 4 ≤ p * 4 + 2 = omega arith in
-    let d : n * 4 ≤ p * 4 + 3 = omega arith in
-    rw (take-set-le (n * 4) _ (p * 4 + 3) _ d, take-set-le (n * 4) _ (p * 4 + 2) _ c, take-set-le (n * 4) _ (p * 4 + 1) _ b, take-set-le (n * 4) _ (p * 4) _ a)
+pub length-set-entry : (s : List ℕ) (at : ℕ) (e : Entry) → length (setEntry s at e) ≡ length s
+length-set-entry s at e = simp length-set
+
+-- a number that is none of a node's, where the node is written, and the fourth numbers so
+pub other-set : (s : List ℕ) (at k : ℕ) (e : Entry) → (k ≡ at → ⊥) → (k ≡ at + 1 → ⊥) → (k ≡ at + 2 → ⊥) → getD (setEntry s at e) k 0 ≡ getD s k 0
+other-set s at k e n0 n1 n2 =
+    getD-set-other (set (set s at (e .state)) (at + 1) (e .cost)) (at + 2) k (e .link) 0 n2 ∙
+    (getD-set-other (set s at (e .state)) (at + 1) k (e .cost) 0 n1 ∙ getD-set-other s at k (e .state) 0 n0)
+
+pub chain-set : (s : List ℕ) (p v : ℕ) (e : Entry) → getD (setEntry s (p * 4) e) (v * 4 + 3) 0 ≡ getD s (v * 4 + 3) 0
+chain-set s p v e = other-set s (p * 4) (v * 4 + 3) e (λ q. omega arith) (λ q. omega arith) (λ q. omega arith)
+
+-- the nodes before a place where a node is written
+pub before-set : (s : List ℕ) (n p : ℕ) (e : Entry) → p * 4 + 4 ≤ length s → n ≤ p → entriesOf (setEntry s (p * 4) e) 0 n ≡ entriesOf s 0 n
+unfolding entriesOf
+before-set s n p e h k = rw (entries-set s p h e) (take-set-le n (entries s) p e k)
 
 -- a layer's nodes
 module _ (s : List ℕ) (from count : ℕ) (fits : (from + count) * 4 ≤ length s) where
@@ -86,30 +104,43 @@ module _ (s : List ℕ) (from count : ℕ) (fits : (from + count) * 4 ≤ length
   unfolding entriesOf
   entry-of i z h = rw (getD-take, getD-drop) (entries-at s (from + i) (omega arith) z)
 
--- the nodes of the numbers before a place
-take-four : (s : List ℕ) (n : ℕ) → take n (entries s) ≡ entries (take (four n) s)
+-- those with which a part begins
+pub entry-first : (s : List ℕ) (count : ℕ) → count * 4 ≤ length s → (i : ℕ) (z : Entry) → i < count → getD (entriesOf s 0 count) i z ≡ entryAt s i
+entry-first s count fits i z h = entry-of s 0 count (omega arith) i z h ∙ ap (entryAt s) (zero-add i)
+
+-- the nodes from a place on are those of the numbers from there on
+drop-four : (s : List ℕ) (n : ℕ) → drop n (entries s) ≡ entries (drop (four n) s)
 unfolding entries four
-take-four [] zero = refl
-take-four [] (suc n) = refl
-take-four (a ∷ []) zero = refl
-take-four (a ∷ []) (suc n) = refl
-take-four (a ∷ b ∷ []) zero = refl
-take-four (a ∷ b ∷ []) (suc n) = refl
-take-four (a ∷ b ∷ c ∷ []) zero = refl
-take-four (a ∷ b ∷ c ∷ []) (suc n) = refl
-take-four (a ∷ b ∷ c ∷ d ∷ xs) zero = refl
-take-four (a ∷ b ∷ c ∷ d ∷ xs) (suc n) = ap (λ (l : List Entry). entry a b c d ∷ l) (take-four xs n)
+drop-four [] zero = refl
+drop-four [] (suc n) = refl
+drop-four (a ∷ []) zero = refl
+drop-four (a ∷ []) (suc n) = refl
+drop-four (a ∷ b ∷ []) zero = refl
+drop-four (a ∷ b ∷ []) (suc n) = refl
+drop-four (a ∷ b ∷ c ∷ []) zero = refl
+drop-four (a ∷ b ∷ c ∷ []) (suc n) = refl
+drop-four (a ∷ b ∷ c ∷ d ∷ xs) zero = refl
+drop-four (a ∷ b ∷ c ∷ d ∷ xs) (suc n) = drop-four xs n
 
-take-drop : (f c : ℕ) (l : List Entry) → take c (drop f l) ≡ drop f (take (f + c) l)
-take-drop zero c l = let e : c ≡ 0 + c = omega arith in ap (λ (k : ℕ). take k l) e
-take-drop (suc f) c [] = take-nil c ∙ sym (ap (drop (suc f)) (take-nil (suc f + c)))
-take-drop (suc f) c (x ∷ xs) = let e : suc f + c ≡ suc (f + c) = omega arith in rw e (take-drop f c xs)
+pub drop-entries : (s : List ℕ) (n : ℕ) → drop n (entries s) ≡ entries (drop (n * 4) s)
+drop-entries s n = rw (← four-is n) (drop-four s n)
 
--- they are those of any store that has the same numbers there
-pub same-entries : (s s′ : List ℕ) (from count : ℕ) → take ((from + count) * 4) s′ ≡ take ((from + count) * 4) s → entriesOf s′ from count ≡ entriesOf s from count
+-- they are those of any part that has the same numbers there
+pub same-entries : (s s′ : List ℕ) (m from count : ℕ) → m ≤ from * 4 → drop m s′ ≡ drop m s → entriesOf s′ from count ≡ entriesOf s from count
 unfolding entriesOf
-same-entries s s′ from count e =
-    let q = four-is (from + count) in
-    let h : take (four (from + count)) s′ ≡ take (four (from + count)) s = rw q e in
-    let g : take (from + count) (entries s′) ≡ take (from + count) (entries s) = take-four s′ (from + count) ∙ (ap entries h ∙ sym (take-four s (from + count))) in
-    take-drop from count (entries s′) ∙ (ap (drop from) g ∙ sym (take-drop from count (entries s)))
+same-entries s s′ m from count h e =
+    let q : m + (from * 4 - m) ≡ from * 4 = omega arith in
+    let d : drop (from * 4) s′ ≡ drop (from * 4) s = sym (ap (λ (k : ℕ). drop k s′) q) ∙ (sym (drop-drop (from * 4 - m) m s′) ∙
+    (ap (drop (from * 4 - m)) e ∙ (drop-drop (from * 4 - m) m s ∙ ap (λ (k : ℕ). drop k s) q))) in
+    ap (take count) (drop-entries s′ from ∙ (ap entries d ∙ sym (drop-entries s from)))
+
+-- those behind the first i of a layer
+take-drop : (i c : ℕ) (l : List Entry) → drop i (take (i + c) l) ≡ take c (drop i l)
+take-drop zero c l = let e : 0 + c ≡ c = omega arith in ap (λ (k : ℕ). take k l) e
+take-drop (suc i) c [] = let e : suc i + c ≡ suc (i + c) = omega arith in rw (take-nil c, e)
+take-drop (suc i) c (x ∷ xs) = let e : suc i + c ≡ suc (i + c) = omega arith in rw e (take-drop i c xs)
+
+pub entries-behind : (s : List ℕ) (from count i : ℕ) → count ≡ i + (count - i) → drop i (entriesOf s from count) ≡ entriesOf s (from + i) (count - i)
+unfolding entriesOf
+entries-behind s from count i e =
+    ap (λ (k : ℕ). drop i (take k (drop from (entries s)))) e ∙ (take-drop i (count - i) (drop from (entries s)) ∙ ap (take (count - i)) (drop-drop i from (entries s)))

@@ -32,7 +32,7 @@ push-grows (m ∷ ms) n = go (sameState (m .state) (n .state)) refl (push-grows 
     go false e r = rw (push-other m ms n e) (omega arith)
 
 abbrev pub blank : Entry
-blank = entry 0 0 0 0
+blank = entry 0 0 0
 
 module _ (cs : List Cand) where
   same-node : (m e : Entry) → m .state ≡ e .state → sameState (nodeOf cs m .state) (nodeOf cs e .state) ≡ true
@@ -68,7 +68,8 @@ module _ (cs : List Cand) where
       push-other (nodeOf cs m) (map (nodeOf cs) ms) (nodeOf cs e) (other-node m e (n 0 (omega arith))) ∙
       ap (λ (x : List Node). nodeOf cs m ∷ x) (push-replaced ms e p (omega arith) h (λ j i. n (suc j) (omega arith)) k)
 
-  pub push-new : (q : List Entry) (e : Entry) → ((j : ℕ) → j < length q → getD q j blank .state ≡ e .state → ⊥) → push (map (nodeOf cs) q) (nodeOf cs e) ≡ map (nodeOf cs) (q ++ (e ∷ []))
+  pub push-new : (q : List Entry) (e : Entry) → ((j : ℕ) → j < length q → getD q j blank .state ≡ e .state → ⊥) →
+      push (map (nodeOf cs) q) (nodeOf cs e) ≡ map (nodeOf cs) (q ++ (e ∷ []))
   unfolding push
   push-new [] e n = refl
   push-new (m ∷ ms) e n =

@@ -1,4 +1,4 @@
--- The nodes that a store of numbers holds, four numbers a node.
+-- The nodes that a part of the store holds, four numbers a node: three of its own, and one of the chains by which nodes are found.
 use Prim.Native.Nat.{ℕ, _+_, _*_, _/_, _%_}
 use mathlib.Core.List.{List, [], _∷_, map}
 use lib.ListN.{take, drop, getD, set}
@@ -7,28 +7,27 @@ use Rattle.coding.specs.Search.{Node}
 use Rattle.encode_states.specs.Packed.{unpack}
 use Rattle.encode_states.specs.Written.{written}
 
--- the packed state, the cost, how it was written × 131,072 + its place before, and where the layer before begins, in nodes
+-- the packed state, the cost, and how it was written × 131,072 + its place before
 pub record Entry : Type 0 where
   pub state : ℕ
   pub cost : ℕ
   pub link : ℕ
-  pub back : ℕ
 
-abbrev pub entry : ℕ → ℕ → ℕ → ℕ → Entry
-entry a b c d = record { state = a; cost = b; link = c; back = d }
+abbrev pub entry : ℕ → ℕ → ℕ → Entry
+entry a b c = record { state = a; cost = b; link = c }
 
 -- the node, of a character with the candidates cs
 unfoldable pub nodeOf : List Cand → Entry → Node
 unfolding unpack written
 nodeOf cs e = record { state = unpack (e .state); cost = e .cost; prev = e .link % 131072; bytes = written cs (e .link / 131072) }
 
--- all nodes of a store, a remainder unused
+-- all nodes of a part, a remainder unused
 unfoldable pub entries : List ℕ → List Entry
 entries [] = []
 entries (a ∷ []) = []
 entries (a ∷ b ∷ []) = []
 entries (a ∷ b ∷ c ∷ []) = []
-entries (a ∷ b ∷ c ∷ d ∷ xs) = entry a b c d ∷ entries xs
+entries (a ∷ b ∷ c ∷ d ∷ xs) = entry a b c ∷ entries xs
 
 -- the count nodes from the node from on
 unfoldable pub entriesOf : List ℕ → ℕ → ℕ → List Entry
@@ -42,8 +41,8 @@ layerOf cs s from count = map (nodeOf cs) (entriesOf s from count)
 
 -- the node at a place
 abbrev pub entryAt : List ℕ → ℕ → Entry
-entryAt s p = entry (getD s (p * 4) 0) (getD s (p * 4 + 1) 0) (getD s (p * 4 + 2) 0) (getD s (p * 4 + 3) 0)
+entryAt s p = entry (getD s (p * 4) 0) (getD s (p * 4 + 1) 0) (getD s (p * 4 + 2) 0)
 
--- a node written at a place
+-- a node written from the number `at` on
 abbrev pub setEntry : List ℕ → ℕ → Entry → List ℕ
-setEntry s p e = set (set (set (set s (p * 4) (e .state)) (p * 4 + 1) (e .cost)) (p * 4 + 2) (e .link)) (p * 4 + 3) (e .back)
+setEntry s at e = set (set (set s at (e .state)) (at + 1) (e .cost)) (at + 2) (e .link)

@@ -51,17 +51,17 @@ module _ (k : Cands) where
       }
 
 -- the next layer, for the character
-module _ (s s′ : List ℕ) (pfrom pcount c kanji symbol : ℕ) (annexE : Bool) (rest floor left : ℕ) (k : Cands) (fits : Bool) (count floor′ : ℕ)
+module _ (s s′ : List ℕ) (pcount before c kanji symbol : ℕ) (annexE : Bool) (rest floor left : ℕ) (k : Cands) (fits : Bool) (count floor′ : ℕ)
     (p : StandsForCandidates c kanji symbol annexE k) (e : left ≡ rest - shortest (candsOf k))
-    (a : Advanced s s′ pfrom pcount (k .count) (k .sets) (k .codes) (k .sizes) left floor fits count floor′) where
-  pub turned : Turned s s′ pfrom pcount c kanji symbol annexE rest floor fits count left floor′
+    (a : Advanced s s′ pcount before (k .count) (k .sets) (k .codes) (k .sizes) left floor fits count floor′) where
+  pub turned : Turned s s′ pcount before c kanji symbol annexE rest floor fits count left floor′
   turned =
       record {
-        before = a .before;
         few = a .few;
         inside = a .inside;
         less = omega arith;
         sound = a .sound;
+        squeezed = a .squeezed;
         left = λ cells ek es. e ∙ ap (λ (l : List Cand). rest - shortest l) (p .list cells ek es);
         full = λ cells ek es h cs₀. rw (p .list cells ek es) at (a .full h (candsOf k) cs₀ (matched k (p .fits)));
         kept = λ cells ek es h cs₀. rw (p .list cells ek es) at (a .kept h (candsOf k) cs₀ (matched k (p .fits)));

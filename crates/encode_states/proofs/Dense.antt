@@ -67,6 +67,3 @@ dense-small a p =
     let q2 = p .g2 in
     let q3 = p .g3 in
     omega arith
-
-pub below : (a : ℕ) → Proper a → a < 98304
-below a p = let q = p .g0 in omega arith

@@ -93,7 +93,7 @@ module _ (cs : List Cand) (k : Cand) (ks : List Cand) (link z : ℕ) (at : drop 
 abbrev pub turnOf : ℕ → Size → ℕ → ℕ → List ℕ → Turn
 turnOf a size cost link code = record { base = cost; place = link % 131072; pre = sizeBytes (unpack a) size; code = code }
 
-module _ (cs ks : List Cand) (n : Node) (a b x size len cost link z c back : ℕ) (h : link < 2097152) (i : Is n a cost) (q : Control z (sizeBytes (unpack a) (sizeOf size)))
+module _ (cs ks : List Cand) (n : Node) (a b x size len cost link z c : ℕ) (h : link < 2097152) (i : Is n a cost) (q : Control z (sizeBytes (unpack a) (sizeOf size)))
     (lc : c ≡ length (sizeControl z)) (u : unpack b ≡ sized (unpack a) (sizeOf size)) where
   pub graphic-numbers : (s : ℕ) (w : Size) (code : List ℕ) → drop (link / 131072) cs ≡ graphic s code w ∷ ks → setOf x ≡ s → len ≡ length code →
       By cs (turnOf a (sizeOf size) cost link code) x (cost + c + len) (link + z * 2097152)
@@ -108,16 +108,16 @@ module _ (cs ks : List Cand) (n : Node) (a b x size len cost link z c back : ℕ
             (λ j. q .is j ++ ((cond (eqb d 1) (designation (sym es j) e) [] ++ invocation v e) ++ map (λ b. b + half v) code));
       }
 
-  pub graphic-nodes : (s : ℕ) (w : Size) (code : List ℕ) → setOf x ≡ s → sizeOf size ≡ w → byWays cost (link % 131072) (sizeBytes (unpack a) (sizeOf size)) code (ways (unpack b) (setOf x)) ≡ byCand n
-      (link % 131072) (graphic s code w)
+  pub graphic-nodes : (s : ℕ) (w : Size) (code : List ℕ) → setOf x ≡ s → sizeOf size ≡ w →
+      byWays cost (link % 131072) (sizeBytes (unpack a) (sizeOf size)) code (ways (unpack b) (setOf x)) ≡ byCand n (link % 131072) (graphic s code w)
   unfolding byCand
   graphic-nodes s w code es ew =
       ap (λ (y : State). byWays cost (link % 131072) (sizeBytes (unpack a) (sizeOf size)) code (ways y (setOf x))) u ∙
       (λ j. byWays (sym (i .costs) j) (link % 131072) (sizeBytes (sym (i .state) j) (ew j)) code (ways (sized (sym (i .state) j) (ew j)) (es j)))
 
   -- SP or APR: its node
-  plain-node : (y : ℕ) (w : Size) → drop (link / 131072) cs ≡ plain y w ∷ ks → sizeOf size ≡ w → nodeOf cs (entry b (cost + c + 1) (link + z * 2097152) back) ≡ node (n .cost) (link % 131072)
-      (sized (n .state) w) (sizeBytes (n .state) w ++ (y ∷ []))
+  plain-node : (y : ℕ) (w : Size) → drop (link / 131072) cs ≡ plain y w ∷ ks → sizeOf size ≡ w →
+      nodeOf cs (entry b (cost + c + 1) (link + z * 2097152)) ≡ node (n .cost) (link % 131072) (sized (n .state) w) (sizeBytes (n .state) w ++ (y ∷ []))
   unfolding nodeOf writtenBy
   plain-node y w at ew =
       let e0 : link + z * 2097152 ≡ link + z * 2097152 + 0 * 8388608 = omega arith in
@@ -125,23 +125,24 @@ module _ (cs ks : List Cand) (n : Node) (a b x size len cost link z c back : ℕ
       let eb : sizeBytes (unpack a) (sizeOf size) ++ (y ∷ []) ≡ sizeBytes (n .state) w ++ (y ∷ []) = λ j. sizeBytes (sym (i .state) j) (ew j) ++ (y ∷ []) in
       let ep : (link + z * 2097152) % 131072 ≡ link % 131072 = ap (λ (v : ℕ). v % 131072) e0 ∙ place cs (plain y w) ks link z at h (q .small) 0 in
       let ew : written cs ((link + z * 2097152) / 131072) ≡ sizeBytes (n .state) w ++ (y ∷ []) =
-      ap (λ (v : ℕ). written cs (v / 131072)) e0 ∙ (how cs (plain y w) ks link z at h (q .small) 0 0 0 (omega arith) (omega arith) ∙ (ap (λ (v : List ℕ). v ++ (y ∷ [])) (q .is) ∙ eb)) in
+      ap (λ (v : ℕ). written cs (v / 131072)) e0 ∙ (how cs (plain y w) ks link z at h (q .small) 0 0 0 (omega arith) (omega arith) ∙
+      (ap (λ (v : List ℕ). v ++ (y ∷ [])) (q .is) ∙ eb)) in
       let m : length (sizeBytes (unpack a) (sizeOf size)) ≡ c = ap length (sym (q .is)) ∙ sym lc in
       let ec : cost + c + 1 ≡ n .cost + length (sizeBytes (n .state) w ++ (y ∷ [])) = omega (arith, i .costs, ap length eb, length-append (sizeBytes (unpack a) (sizeOf size)) (y ∷ [])) in
       λ j. record { state = es j; cost = ec j; prev = ep j; bytes = ew j }
 
-  module _ {r : Bounds} {s ix s′ ix′ : List ℕ} {count count′ : ℕ} where
+  module _ {r : Bounds} {s s′ : List ℕ} {count count′ : ℕ} where
     pub as-plain : (k : Cand) → drop (link / 131072) cs ≡ k ∷ ks → Matches x size len k → 6 ≤ x →
-        Pushes cs r s ix count s′ ix′ count′ (nodeOf cs (entry b (cost + c + 1) (link + z * 2097152) back) ∷ []) →
-        Pushes cs r s ix count s′ ix′ count′ (byCand n (link % 131072) k)
+        Pushes cs r s count s′ count′ (nodeOf cs (entry b (cost + c + 1) (link + z * 2097152)) ∷ []) →
+        Pushes cs r s count s′ count′ (byCand n (link % 131072) k)
     unfolding Matches byCand
     as-plain (graphic y code w) at m e p = absurd (omega (arith, m .0))
     as-plain (plain y w) at m e p = pushes-as _ _ (ap (λ (v : Node). v ∷ []) (plain-node y w at (m .1))) p
 
     pub as-graphic : (k : Cand) → drop (link / 131072) cs ≡ k ∷ ks → Matches x size len k → x < 6 →
         ((t : Turn) → By cs t x (cost + c + len) (link + z * 2097152) →
-        Pushes cs r s ix count s′ ix′ count′ (byWays (t .base) (t .place) (t .pre) (t .code) (ways (unpack b) (setOf x)))) →
-        Pushes cs r s ix count s′ ix′ count′ (byCand n (link % 131072) k)
+        Pushes cs r s count s′ count′ (byWays (t .base) (t .place) (t .pre) (t .code) (ways (unpack b) (setOf x)))) →
+        Pushes cs r s count s′ count′ (byCand n (link % 131072) k)
     unfolding Matches
     as-graphic (plain y w) at m e p = absurd (omega (arith, m .0))
     as-graphic (graphic y code w) at m e p = pushes-as _ _ (graphic-nodes y w code (m .1) (m .2)) (p (turnOf a (sizeOf size) cost link code) (graphic-numbers y w code at (m .1) (m .3)))

@@ -78,27 +78,27 @@ byWays-append t [] vs = refl
 byWays-append t (w ∷ ws) vs = ap (λ (l : List Node). reached t (w .pre) (w .to) (w .hi) ∷ l) (byWays-append t ws vs)
 
 -- the pushes through a code element are those of `byElement`
-module _ {cs : List Cand} {r : Bounds} {s ix s′ ix′ : List ℕ} {count count′ : ℕ} (t : Turn) (q : State) (n y x b : ℕ) (c : Codes y (setIn q n)) (e : unpack b ≡ designate q n (setOf x)) where
-  pub element-standing : y ≡ x → Pushes cs r s ix count s′ ix′ count′ (byWays (t .base) (t .place) (t .pre) (t .code) (through [] (unpack b) n)) →
-      Pushes cs r s ix count s′ ix′ count′ (byWays (t .base) (t .place) (t .pre) (t .code) (byElement q (setOf x) n))
+module _ {cs : List Cand} {r : Bounds} {s s′ : List ℕ} {count count′ : ℕ} (t : Turn) (q : State) (n y x b : ℕ) (c : Codes y (setIn q n)) (e : unpack b ≡ designate q n (setOf x)) where
+  pub element-standing : y ≡ x → Pushes cs r s count s′ count′ (byWays (t .base) (t .place) (t .pre) (t .code) (through [] (unpack b) n)) →
+      Pushes cs r s count s′ count′ (byWays (t .base) (t .place) (t .pre) (t .code) (byElement q (setOf x) n))
   element-standing h p = pushes-as _ _ (ap (byWays (t .base) (t .place) (t .pre) (t .code)) (ap (λ (z : State). through [] z n) e ∙ sym (stands-there q n y x c h))) p
 
-  pub element-designated : (y ≡ x → ⊥) → Pushes cs r s ix count s′ ix′ count′
+  pub element-designated : (y ≡ x → ⊥) → Pushes cs r s count s′ count′
       (byWays (t .base) (t .place) (t .pre) (t .code) (through (designation (setOf x) n) (unpack b) n)) →
-      Pushes cs r s ix count s′ ix′ count′ (byWays (t .base) (t .place) (t .pre) (t .code) (byElement q (setOf x) n))
+      Pushes cs r s count s′ count′ (byWays (t .base) (t .place) (t .pre) (t .code) (byElement q (setOf x) n))
   element-designated h p =
       pushes-as _ _ (ap (byWays (t .base) (t .place) (t .pre) (t .code)) (ap (λ (z : State). through (designation (setOf x) n) z n) e ∙ sym (is-designated q n y x c h))) p
 
 -- no code element, and one more
-pub up-none : (cs : List Cand) (r : Bounds) (s ix : List ℕ) (count : ℕ) (t : Turn) (q : State) (x : ℕ) →
-    Pushes cs r s ix count s ix count (byWays (t .base) (t .place) (t .pre) (t .code) (upTo q x 0))
+pub up-none : (cs : List Cand) (r : Bounds) (s : List ℕ) (count : ℕ) (t : Turn) (q : State) (x : ℕ) →
+    Pushes cs r s count s count (byWays (t .base) (t .place) (t .pre) (t .code) (upTo q x 0))
 unfolding upTo byWays
-up-none cs r s ix count t q x = none cs r s ix count
+up-none cs r s count t q x = none cs r s count
 
-pub up-one : {cs : List Cand} {r : Bounds} {s ix s₁ ix₁ s₂ ix₂ : List ℕ} {count count₁ count₂ : ℕ} (t : Turn) (q : State) (x n : ℕ) →
-    Pushes cs r s ix count s₁ ix₁ count₁ (byWays (t .base) (t .place) (t .pre) (t .code) (upTo q x n)) →
-    Pushes cs r s₁ ix₁ count₁ s₂ ix₂ count₂ (byWays (t .base) (t .place) (t .pre) (t .code) (byElement q x n)) →
-    Pushes cs r s ix count s₂ ix₂ count₂ (byWays (t .base) (t .place) (t .pre) (t .code) (upTo q x (n + 1)))
+pub up-one : {cs : List Cand} {r : Bounds} {s s₁ s₂ : List ℕ} {count count₁ count₂ : ℕ} (t : Turn) (q : State) (x n : ℕ) →
+    Pushes cs r s count s₁ count₁ (byWays (t .base) (t .place) (t .pre) (t .code) (upTo q x n)) →
+    Pushes cs r s₁ count₁ s₂ count₂ (byWays (t .base) (t .place) (t .pre) (t .code) (byElement q x n)) →
+    Pushes cs r s count s₂ count₂ (byWays (t .base) (t .place) (t .pre) (t .code) (upTo q x (n + 1)))
 unfolding upTo
 up-one t q x n a b =
     pushes-as _ _ (sym (ap (λ (m : ℕ). byWays (t .base) (t .place) (t .pre) (t .code) (upTo q x m)) (add-one n) ∙ byWays-append t (upTo q x n) (byElement q x n)))

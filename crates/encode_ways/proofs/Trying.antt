@@ -31,15 +31,15 @@ few-bytes-code code = go (ltb code 256)
     go false = omega arith
 
 -- a change seen as another function, no change, and pushes after a change
-module _ {cs : List Cand} {r : Bounds} {s ix s′ ix′ : List ℕ} {count count′ : ℕ} where
-  pub changes-as : (f g : List Node → List Node) → ((l : List Node) → f l ≡ g l) → Changes cs r s ix count s′ ix′ count′ f → Changes cs r s ix count s′ ix′ count′ g
-  changes-as f g e c = record { stands = λ l x. subst (Represents cs r s′ ix′ count′) (e l) (c .stands l x); before = c .before }
+module _ {cs : List Cand} {r : Bounds} {s s′ : List ℕ} {count count′ : ℕ} where
+  pub changes-as : (f g : List Node → List Node) → ((l : List Node) → f l ≡ g l) → Changes cs r s count s′ count′ f → Changes cs r s count s′ count′ g
+  changes-as f g e c = record { stands = λ l x. subst (Represents cs r s′ count′) (e l) (c .stands l x); before = c .before }
 
-pub no-change : (cs : List Cand) (r : Bounds) (s ix : List ℕ) (count : ℕ) → Changes cs r s ix count s ix count (λ l. l)
-no-change cs r s ix count = record { stands = λ l x. x; before = refl }
+pub no-change : (cs : List Cand) (r : Bounds) (s : List ℕ) (count : ℕ) → Changes cs r s count s count (λ l. l)
+no-change cs r s count = record { stands = λ l x. x; before = refl }
 
-module _ {cs : List Cand} {r : Bounds} {s ix s₁ ix₁ s₂ ix₂ : List ℕ} {count count₁ count₂ : ℕ} where
-  pub then : (f g : List Node → List Node) → Changes cs r s ix count s₁ ix₁ count₁ f → Changes cs r s₁ ix₁ count₁ s₂ ix₂ count₂ g → Changes cs r s ix count s₂ ix₂ count₂ (λ l. g (f l))
+module _ {cs : List Cand} {r : Bounds} {s s₁ s₂ : List ℕ} {count count₁ count₂ : ℕ} where
+  pub then : (f g : List Node → List Node) → Changes cs r s count s₁ count₁ f → Changes cs r s₁ count₁ s₂ count₂ g → Changes cs r s count s₂ count₂ (λ l. g (f l))
   then f g a b = record { stands = λ l x. b .stands (f l) (a .stands l x); before = b .before ∙ a .before }
 
 -- the candidates before the k-th, and it

@@ -4,12 +4,13 @@
 ghost use mathlib.Core.Path.{_≡_};
 ghost use mathlib.Core.List.{List, _∷_};
 ghost use Prim.Native.Nat.{ℕ, _+_, _*_, _/_, _%_, _≤_, _<_};
-ghost use lib.ListN.{length, take, drop};
+ghost use lib.ListN.{length, drop};
 ghost use Rattle.coding.specs.Candidates.{Cand};
 ghost use Rattle.coding.specs.Ways.{through, byElement, ways};
 ghost use Rattle.coding.specs.Search.{Node, sizeBytes, sized, byWays, byCand, byCands};
 ghost use Rattle.encode_states.specs.Packed.{setOf, sizeOf, unpack, Proper, Packs};
 ghost use Rattle.encode_states.specs.Written.{sizeControl};
+ghost use Rattle.encode_layer.specs.Entries.{entriesOf};
 ghost use Rattle.encode_layer.specs.Layer.{bounds, HasRoom, Changes, Pushes};
 ghost use Rattle.encode_ways.specs.Turn.{Apart, Invoked, Sized, Small, Turn, Through, By, upTo, Control, Is, Matches, lengthOf, MatchAll, Sizes};
 
@@ -35,33 +36,31 @@ const DESIGNATED: u32 = 33554432;
 /// Pushes the ways through the code element n of the state a, in which it is not invoked.
 fn by_shift(
     store: &mut [u32],
-    index: &mut [u16],
     from: usize,
     cap: usize,
+    buckets: usize,
     count: usize,
     a: u32,
     n: u32,
     cost: u32,
     link: u32,
-    back: u32,
 ) -> usize
-    requires { ⌜ HasRoom from cap (now store) (now index) × Proper a × Apart (unpack a) n × Sized cost link × (n < 4) ⌝ }
+    requires { ⌜ HasRoom from cap buckets (now store) × Proper a × Apart (unpack a) n × Sized cost link × (n < 4) ⌝ }
     ensures { λ c. ⌜ ((cs : List Cand) (most : ℕ) (t : Turn) (p : List ℕ) → Through cs t p n cost link → cost + 2 ≤ most →
-        Pushes cs (bounds from cap back most) (now (store .entry)) (now (index .entry)) count (now (store .exit)) (now (index .exit)) c
+        Pushes cs (bounds from cap buckets most) (now (store .entry)) count (now (store .exit)) c
         (byWays (t .base) (t .place) (t .pre) (t .code) (through p (unpack a) n))) ⌝ }
 {
     let left = encode_states::to_gl(a, n);
     let lock = cost + encode_states::lock_length(n);
     let c = encode_layer::push(
         &mut *store,
-        &mut *index,
         from,
         cap,
+        buckets,
         count,
         left,
         lock,
         link + TO_GL,
-        back,
     );
     if n == 0 {
         return c;
@@ -69,37 +68,35 @@ fn by_shift(
     let right = encode_states::to_gr(a, n);
     let d = encode_layer::push(
         &mut *store,
-        &mut *index,
         from,
         cap,
+        buckets,
         c,
         right,
         cost + 2,
         link + TO_GR,
-        back,
     );
     if n < 2 {
         return d;
     }
     encode_layer::push(
         &mut *store,
-        &mut *index,
         from,
         cap,
+        buckets,
         d,
         a,
         cost + 1,
         link + SINGLE,
-        back,
     )
 }
 
 /// Pushes the ways through the code element n of the state a, in which l is in GL and r in GR.
 fn through(
     store: &mut [u32],
-    index: &mut [u16],
     from: usize,
     cap: usize,
+    buckets: usize,
     count: usize,
     a: u32,
     l: u32,
@@ -107,74 +104,41 @@ fn through(
     n: u32,
     cost: u32,
     link: u32,
-    back: u32,
 ) -> usize
-    requires { ⌜ HasRoom from cap (now store) (now index) × Proper a × Invoked (unpack a) l r × Sized cost link × (n < 4) ⌝ }
+    requires { ⌜ HasRoom from cap buckets (now store) × Proper a × Invoked (unpack a) l r × Sized cost link × (n < 4) ⌝ }
     ensures { λ c. ⌜ ((cs : List Cand) (most : ℕ) (t : Turn) (p : List ℕ) → Through cs t p n cost link → cost + 2 ≤ most →
-        Pushes cs (bounds from cap back most) (now (store .entry)) (now (index .entry)) count (now (store .exit)) (now (index .exit)) c
+        Pushes cs (bounds from cap buckets most) (now (store .entry)) count (now (store .exit)) c
         (byWays (t .base) (t .place) (t .pre) (t .code) (through p (unpack a) n))) ⌝ }
 {
     if l == n {
-        let c = encode_layer::push(
-            &mut *store,
-            &mut *index,
-            from,
-            cap,
-            count,
-            a,
-            cost,
-            link,
-            back,
-        );
+        let c = encode_layer::push(&mut *store, from, cap, buckets, count, a, cost, link);
         if r == n {
-            return encode_layer::push(
-                &mut *store,
-                &mut *index,
-                from,
-                cap,
-                c,
-                a,
-                cost,
-                link + IN_GR,
-                back,
-            );
+            return encode_layer::push(&mut *store, from, cap, buckets, c, a, cost, link + IN_GR);
         }
         return c;
     }
     if r == n {
         return encode_layer::push(
             &mut *store,
-            &mut *index,
             from,
             cap,
+            buckets,
             count,
             a,
             cost,
             link + IN_GR,
-            back,
         );
     }
-    by_shift(
-        &mut *store,
-        &mut *index,
-        from,
-        cap,
-        count,
-        a,
-        n,
-        cost,
-        link,
-        back,
-    )
+    by_shift(&mut *store, from, cap, buckets, count, a, n, cost, link)
 }
 
 /// Pushes the ways through the code element n, to which the set of code x is designated unless it
 /// stands there.
 fn by_element(
     store: &mut [u32],
-    index: &mut [u16],
     from: usize,
     cap: usize,
+    buckets: usize,
     count: usize,
     a: u32,
     l: u32,
@@ -183,11 +147,10 @@ fn by_element(
     x: u32,
     cost: u32,
     link: u32,
-    back: u32,
 ) -> usize
-    requires { ⌜ HasRoom from cap (now store) (now index) × Proper a × Invoked (unpack a) l r × Small cost link × (n < 4) × (x < 6) ⌝ }
+    requires { ⌜ HasRoom from cap buckets (now store) × Proper a × Invoked (unpack a) l r × Small cost link × (n < 4) × (x < 6) ⌝ }
     ensures { λ c. ⌜ ((cs : List Cand) (most : ℕ) (t : Turn) → By cs t x cost link → cost + 6 ≤ most →
-        Pushes cs (bounds from cap back most) (now (store .entry)) (now (index .entry)) count (now (store .exit)) (now (index .exit)) c
+        Pushes cs (bounds from cap buckets most) (now (store .entry)) count (now (store .exit)) c
         (byWays (t .base) (t .place) (t .pre) (t .code) (byElement (unpack a) (setOf x) n))) ⌝ }
 {
     let b = encode_states::designate(a, n, x);
@@ -197,38 +160,24 @@ fn by_element(
         more = cost + encode_states::designation_length(x, n);
         k = k + DESIGNATED;
     }
-    through(
-        &mut *store,
-        &mut *index,
-        from,
-        cap,
-        count,
-        b,
-        l,
-        r,
-        n,
-        more,
-        k,
-        back,
-    )
+    through(&mut *store, from, cap, buckets, count, b, l, r, n, more, k)
 }
 
 /// Pushes the ways through each code element.
 fn by_elements(
     store: &mut [u32],
-    index: &mut [u16],
     from: usize,
     cap: usize,
+    buckets: usize,
     count: usize,
     a: u32,
     x: u32,
     cost: u32,
     link: u32,
-    back: u32,
 ) -> usize
-    requires { ⌜ HasRoom from cap (now store) (now index) × Proper a × Small cost link × (x < 6) ⌝ }
+    requires { ⌜ HasRoom from cap buckets (now store) × Proper a × Small cost link × (x < 6) ⌝ }
     ensures { λ c. ⌜ ((cs : List Cand) (most : ℕ) (t : Turn) → By cs t x cost link → cost + 6 ≤ most →
-        Pushes cs (bounds from cap back most) (now (store .entry)) (now (index .entry)) count (now (store .exit)) (now (index .exit)) c
+        Pushes cs (bounds from cap buckets most) (now (store .entry)) count (now (store .exit)) c
         (byWays (t .base) (t .place) (t .pre) (t .code) (upTo (unpack a) (setOf x) 4))) ⌝ }
 {
     let l = encode_states::gl(a);
@@ -238,9 +187,9 @@ fn by_elements(
     while n < 4 {
         c = by_element(
             &mut *store,
-            &mut *index,
             from,
             cap,
+            buckets,
             c,
             a,
             l,
@@ -249,7 +198,6 @@ fn by_elements(
             x,
             cost,
             link,
-            back,
         );
         n += 1;
     }
@@ -259,75 +207,42 @@ fn by_elements(
 /// Pushes the ways to the set of code x.
 fn by_ways(
     store: &mut [u32],
-    index: &mut [u16],
     from: usize,
     cap: usize,
+    buckets: usize,
     count: usize,
     a: u32,
     x: u32,
     cost: u32,
     link: u32,
-    back: u32,
 ) -> usize
-    requires { ⌜ HasRoom from cap (now store) (now index) × Proper a × Small cost link × (x < 6) ⌝ }
+    requires { ⌜ HasRoom from cap buckets (now store) × Proper a × Small cost link × (x < 6) ⌝ }
     ensures { λ c. ⌜ ((cs : List Cand) (most : ℕ) (t : Turn) → By cs t x cost link → cost + 6 ≤ most →
-        Pushes cs (bounds from cap back most) (now (store .entry)) (now (index .entry)) count (now (store .exit)) (now (index .exit)) c
+        Pushes cs (bounds from cap buckets most) (now (store .entry)) count (now (store .exit)) c
         (byWays (t .base) (t .place) (t .pre) (t .code) (ways (unpack a) (setOf x)))) ⌝ }
 {
     let left = encode_states::set_in(a, encode_states::gl(a));
     let right = encode_states::set_in(a, encode_states::gr(a));
     if left == x {
-        let c = encode_layer::push(
-            &mut *store,
-            &mut *index,
-            from,
-            cap,
-            count,
-            a,
-            cost,
-            link,
-            back,
-        );
+        let c = encode_layer::push(&mut *store, from, cap, buckets, count, a, cost, link);
         if right == x {
-            return encode_layer::push(
-                &mut *store,
-                &mut *index,
-                from,
-                cap,
-                c,
-                a,
-                cost,
-                link + IN_GR,
-                back,
-            );
+            return encode_layer::push(&mut *store, from, cap, buckets, c, a, cost, link + IN_GR);
         }
         return c;
     }
     if right == x {
         return encode_layer::push(
             &mut *store,
-            &mut *index,
             from,
             cap,
+            buckets,
             count,
             a,
             cost,
             link + IN_GR,
-            back,
         );
     }
-    by_elements(
-        &mut *store,
-        &mut *index,
-        from,
-        cap,
-        count,
-        a,
-        x,
-        cost,
-        link,
-        back,
-    )
+    by_elements(&mut *store, from, cap, buckets, count, a, x, cost, link)
 }
 
 /// The size control before a candidate of a size: none (0), MSZ (1) or NSZ (2).
@@ -376,9 +291,9 @@ fn sized(a: u32, size: u32) -> u32
 /// set, or 7, its size, and the bytes of a graphic one's code. The link has the node's place and the candidate's.
 fn by_candidate(
     store: &mut [u32],
-    index: &mut [u16],
     from: usize,
     cap: usize,
+    buckets: usize,
     count: usize,
     a: u32,
     x: u32,
@@ -386,11 +301,10 @@ fn by_candidate(
     len: u32,
     cost: u32,
     link: u32,
-    back: u32,
 ) -> usize
-    requires { ⌜ HasRoom from cap (now store) (now index) × Proper a × (cost ≤ 65535) × (size ≤ 2) × (len ≤ 2) × (link < 2097152) ⌝ }
+    requires { ⌜ HasRoom from cap buckets (now store) × Proper a × (cost ≤ 65535) × (size ≤ 2) × (len ≤ 2) × (link < 2097152) ⌝ }
     ensures { λ c. ⌜ ((cs : List Cand) (k : Cand) (ks : List Cand) (most : ℕ) (n : Node) → drop (link / 131072) cs ≡ k ∷ ks → Matches x size len k → Is n a cost →
-        cost + 9 ≤ most → Pushes cs (bounds from cap back most) (now (store .entry)) (now (index .entry)) count (now (store .exit)) (now (index .exit)) c
+        cost + 9 ≤ most → Pushes cs (bounds from cap buckets most) (now (store .entry)) count (now (store .exit)) c
         (byCand n (link % 131072) k)) ⌝ }
 {
     let b = sized(a, size);
@@ -400,28 +314,17 @@ fn by_candidate(
     if x < 6 {
         return by_ways(
             &mut *store,
-            &mut *index,
             from,
             cap,
+            buckets,
             count,
             b,
             x,
             control + len,
             k,
-            back,
         );
     }
-    encode_layer::push(
-        &mut *store,
-        &mut *index,
-        from,
-        cap,
-        count,
-        b,
-        control + 1,
-        k,
-        back,
-    )
+    encode_layer::push(&mut *store, from, cap, buckets, count, b, control + 1, k)
 }
 
 /// The bytes of a code: one, or row and cell.
@@ -440,23 +343,22 @@ fn wide(x: u8) -> u32
 /// Pushes the nodes that the i-th node, of the state a and a cost, reaches by each of m candidates.
 pub fn by_candidates<'a>(
     store: &mut [u32],
-    index: &mut [u16],
     from: usize,
     cap: usize,
+    buckets: usize,
     count: usize,
     a: u32,
     cost: u32,
     i: u32,
-    back: u32,
     m: usize,
     sets: &'a [u8; 9],
     codes: &'a [u16; 9],
     sizes: &'a [u8; 9],
 ) -> usize
-    requires { ⌜ HasRoom from cap (now store) (now index) × Proper a × (cost ≤ 65535) × (i < 131072) × (m ≤ 9) × Sizes m (now sizes) ⌝ }
-    ensures kept { λ _. ⌜ take (from * 4) (now (store .exit)) ≡ take (from * 4) (now (store .entry)) ⌝ }
+    requires { ⌜ HasRoom from cap buckets (now store) × Proper a × (cost ≤ 65535) × (i < 131072) × (m ≤ 9) × Sizes m (now sizes) ⌝ }
+    ensures kept { λ _. ⌜ entriesOf (now (store .exit)) 0 from ≡ entriesOf (now (store .entry)) 0 from ⌝ }
     ensures reached { λ c. ⌜ ((cs : List Cand) (most : ℕ) (n : Node) → MatchAll cs m (now (sets .entry)) (now (codes .entry)) (now (sizes .entry)) → Is n a cost →
-        cost + 9 ≤ most → Changes cs (bounds from cap back most) (now (store .entry)) (now (index .entry)) count (now (store .exit)) (now (index .exit)) c
+        cost + 9 ≤ most → Changes cs (bounds from cap buckets most) (now (store .entry)) count (now (store .exit)) c
         (λ l. byCands n i l cs)) ⌝ }
 {
     let mut c = count;
@@ -468,9 +370,9 @@ pub fn by_candidates<'a>(
         let link = i + (k as u32) * CANDIDATE;
         c = by_candidate(
             &mut *store,
-            &mut *index,
             from,
             cap,
+            buckets,
             c,
             a,
             x,
@@ -478,7 +380,6 @@ pub fn by_candidates<'a>(
             len,
             cost,
             link,
-            back,
         );
         k += 1;
     }

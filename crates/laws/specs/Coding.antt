@@ -10,7 +10,7 @@ use Rattle.utf8.specs.Utf8.{utf8s}
 use Rattle.control.specs.Codes.{SP}
 use Rattle.coding.specs.Candidates.{Cand, graphic, plain, narrow, wide, candidatesOf}
 use Rattle.coding.specs.Search.{code}
-use Rattle.coding.specs.Store.{needs}
+use Rattle.coding.specs.Store.{needs, needsStates}
 use Rattle.coding.specs.Call.{outcome}
 use Rattle.coding.specs.Examples.{codesWith, zeros, codes, accepted}
 
@@ -53,9 +53,13 @@ pub record Drops : Type 0 where
   pub candidates : candidatesOf zeros false (0x27A1 ∷ 0x301C ∷ []) ≡ arrow ∷ wave ∷ []
   -- the second layer drops four states of 21; the floor is 27, a dropped state's 15 and a byte for each space, and the gap 28 - 27
   pub coding : code (arrow ∷ wave ∷ spaces 6) 0 ≡ record { out = 0x7C ∷ 0x21 ∷ 0x21 ∷ 0x41 ∷ sizedSpaces 6; gap = 1 }
-  -- 1 and 8, then 9 and 21, then 26 and 17; after that each layer reaches and keeps 17
-  pub store : needs (arrow ∷ wave ∷ spaces 6) 0 ≡ 9 ∷ 30 ∷ 43 ∷ 60 ∷ 77 ∷ 94 ∷ 111 ∷ 128 ∷ 145 ∷ 162 ∷ 179 ∷ 196 ∷ 213 ∷ 230 ∷ []
+  -- the start and 8, then the start, 8 and 21, then 9, 17 and 17; after that each layer reaches and keeps 17. Those of the previous layer and those
+  -- reached count four numbers, the others one
+  pub store : needs (arrow ∷ wave ∷ spaces 6) 0 ≡
+      36 ∷ 117 ∷ 145 ∷ 162 ∷ 179 ∷ 196 ∷ 213 ∷ 230 ∷ 247 ∷ 264 ∷ 281 ∷ 298 ∷ 315 ∷ 332 ∷ []
+  -- the older count, of states
+  pub states : needsStates (arrow ∷ wave ∷ spaces 6) 0 ≡ 9 ∷ 30 ∷ 43 ∷ 60 ∷ 77 ∷ 94 ∷ 111 ∷ 128 ∷ 145 ∷ 162 ∷ 179 ∷ 196 ∷ 213 ∷ 230 ∷ []
 
 pub drops : Drops
-unfolding candidatesOf code needs
-drops = record { candidates = refl; coding = refl; store = refl }
+unfolding candidatesOf code needs needsStates
+drops = record { candidates = refl; coding = refl; store = refl; states = refl }

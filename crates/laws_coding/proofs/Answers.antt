@@ -2,9 +2,9 @@
 -- none but 7. Assumes nothing.
 use mathlib.Core.Path.{_≡_, refl, sym, _∙_, subst}
 use mathlib.Core.Bool.{Bool, true, false, cond, _&&_, false≢true}
-use mathlib.Core.List.{List, [], _∷_}
+use mathlib.Core.List.{List, [], _∷_, map}
 use mathlib.Core.Option.{Option, none, some}
-use Prim.Native.Nat.{ℕ, zero, suc, _≤_, _<_, _/_}
+use Prim.Native.Nat.{ℕ, zero, suc, _*_, _≤_, _<_, _/_}
 use native.Mathlib.Omega.{arith}
 use lib.Dec.{leb}
 use lib.ListN.{length}
@@ -16,9 +16,10 @@ use Rattle.utf8.specs.declared.Text.{Text}
 use Rattle.utf8.specs.declared.Text.the-variants.{WellFormed, FaultAt}
 use Rattle.coding.specs.Tokens.{tokens, baseless}
 use Rattle.coding.specs.Search.{Coded}
-use Rattle.coding.specs.Store.{needs, fit}
+use Rattle.base.specs.Lists.{All}
+use Rattle.coding.specs.Store.{Counts, counts, numbers, states, needs, needsStates, fit, fitStates}
 use Rattle.coding.specs.Call.{Lent, ordering, choices, coding, without, Refusal, refuse, question4, question5, question6, question7, question8, refusal, outcomeOf, outcome}
-use Rattle.laws_coding.specs.Coding.{lending, Alike, StoreFree, MoreStore}
+use Rattle.laws_coding.specs.Coding.{lending, Alike, StoreFree, MoreStore, LargerStore}
 
 -- the first refusal, the answers to 1 to 6 being known, and more the rest
 abbrev answers : ℕ → Text → Option ℕ → Option ℕ → Refusal → Refusal
@@ -145,10 +146,10 @@ whatever-store c n h k =
 fit-more : (a b : ℕ) → a ≤ b → (ns : List ℕ) → fit a ns ≡ true → fit b ns ≡ true
 unfolding fit
 fit-more a b h [] e = refl
-fit-more a b h (n ∷ ns) e = go (leb n (a / 4)) refl e (fit-more a b h ns)
+fit-more a b h (n ∷ ns) e = go (leb n a) refl e (fit-more a b h ns)
   where
-    go : (t : Bool) → leb n (a / 4) ≡ t → (t && fit a ns) ≡ true → (fit a ns ≡ true → fit b ns ≡ true) → (leb n (b / 4) && fit b ns) ≡ true
-    go true k e f = let q : n ≤ b / 4 = omega (arith, leb-true n (a / 4) k) in rw (le-leb n (b / 4) q) (f e)
+    go : (t : Bool) → leb n a ≡ t → (t && fit a ns) ≡ true → (fit a ns ≡ true → fit b ns ≡ true) → (leb n b && fit b ns) ≡ true
+    go true k e f = let q : n ≤ b = omega (arith, leb-true n a k) in rw (le-leb n b q) (f e)
     go false k e f = absurd (false≢true e)
 
 not-eight : (room : ℕ) (k : Coded) → question8 room k .number ≡ 7 → ⊥
@@ -166,3 +167,39 @@ larger-store c n h m =
     seven (first c) (firstFault (c .text)) (baseless false (tokens (c .text))) (without (ordering c) (choices c)) (fits c (c .storeRoom)) (fits c n) (question8 (c .codingRoom) (coding c))
     (fit-more (c .storeRoom) n m (needs (choices c) (c .initial))) (not-eight (c .codingRoom) (coding c))
     (sym (number-is (refusal (lending c n) .number) (refusal (lending c n) .place) (lending c n)) ∙ e)))
+
+-- a layer's states in four numbers each
+pub four-each : (l : List Counts) → All (λ n. numbers n ≤ 4 * states n) l
+four-each [] = tt
+four-each (n ∷ l) = (omega arith, four-each l)
+
+-- what fits by the older count fits
+fit-states : (room : ℕ) (l : List Counts) → fit (room / 4) (map states l) ≡ true → fit room (map numbers l) ≡ true
+unfolding fit
+fit-states room [] e = refl
+fit-states room (n ∷ l) e = go (leb (states n) (room / 4)) refl e (fit-states room l)
+  where
+    go : (t : Bool) → leb (states n) (room / 4) ≡ t → (t && fit (room / 4) (map states l)) ≡ true → (fit (room / 4) (map states l) ≡ true → fit room (map numbers l) ≡ true) →
+        (leb (numbers n) room && fit room (map numbers l)) ≡ true
+    go true k e f = let q : numbers n ≤ room = omega (arith, leb-true (states n) (room / 4) k) in rw (le-leb (numbers n) room q) (f e)
+    go false k e f = absurd (false≢true e)
+
+not-answered : (q : ℕ) (t : Text) (b w : Option ℕ) (fits : Bool) (more : Refusal) → q ≤ 3 → fits ≡ true → (more .number ≡ 7 → ⊥) →
+    answers q t b w (cond fits more (refuse 7 0)) .number ≡ 7 → ⊥
+not-answered (suc q) t b w fits more h f k e = absurd (omega arith)
+not-answered zero (FaultAt p) b w fits more h f k e = absurd (omega arith)
+not-answered zero WellFormed (some p) w fits more h f k e = absurd (omega arith)
+not-answered zero WellFormed none (some p) fits more h f k e = absurd (omega arith)
+not-answered zero WellFormed none none true more h f k e = k e
+not-answered zero WellFormed none none false more h f k e = absurd (false≢true f)
+
+pub still-fits : (c : Lent) → fitStates (c .storeRoom) (needsStates (choices c) (c .initial)) ≡ true → outcome c .refused ≡ 7 → ⊥
+unfolding outcome refusal question4 question5 question6 question7 firstRefusal needs needsStates
+still-fits c f e =
+    not-answered (first c) (firstFault (c .text)) (baseless false (tokens (c .text))) (without (ordering c) (choices c)) (fits c (c .storeRoom)) (question8 (c .codingRoom) (coding c))
+    (three (cellsHold (c .cells)) (optionsHold (c .initial) (c .width)) (lengthHolds encodeLimit (length (c .text)))) (fit-states (c .storeRoom) (counts (choices c) (c .initial)) f)
+    (not-eight (c .codingRoom) (coding c)) (sym (number-is (refusal c .number) (refusal c .place) c) ∙ e)
+
+pub as-in-larger : LargerStore
+unfolding choices ordering
+as-in-larger c n h f = whatever-store c n h (still-fits (lending c n) f)

@@ -8,15 +8,16 @@ use Rattle.questions.proofs.Buffers.{take-padded}
 use Rattle.utf8.specs.Utf8.{scalars}
 use Rattle.coding.specs.Candidates.{Cand, candidates}
 use Rattle.coding.specs.Search.{Node, byCand}
+use Rattle.coding.specs.Store.{counts}
 use Rattle.coding.specs.Admissible.{here}
 use Rattle.coding.specs.Call.{Lent, choices, coding, outcomeOf}
 use Rattle.base.specs.Lists.{All}
-use Rattle.laws_coding.specs.Coding.{NoShorter, CodingAdmissible, GapExact, NineBytes, returned, Accepted, StoreFree, MoreStore, NineSuffice}
+use Rattle.laws_coding.specs.Coding.{NoShorter, CodingAdmissible, GapExact, NineBytes, returned, Accepted, StoreFree, MoreStore, StillAccepted, LargerStore, NineSuffice}
 use Rattle.base.proofs.Every.{all-map}
 use Rattle.laws_coding.proofs.Written.{OfTables, Step, cand-steps}
 use Rattle.laws_coding.proofs.Choices.{candidates-fine, choices-fine, choices-length, scalars-most, choices-filled}
 use Rattle.laws_coding.proofs.Searches.{out-admissible, out-nine, gap-by, no-shorter-any}
-use Rattle.laws_coding.proofs.Answers.{Passes, passes, overfull, whatever-store, larger-store}
+use Rattle.laws_coding.proofs.Answers.{Passes, passes, overfull, whatever-store, larger-store, four-each, still-fits, as-in-larger}
 
 pub no-shorter : NoShorter
 unfolding coding
@@ -71,6 +72,12 @@ store-free = whatever-store
 
 pub more-store : MoreStore
 more-store = larger-store
+
+pub still-accepted : StillAccepted
+still-accepted = record { need = λ css initial. four-each (counts css initial); fits = still-fits }
+
+pub as-with-larger-store : LargerStore
+as-with-larger-store = as-in-larger
 
 pub nine-suffice : NineSuffice
 nine-suffice =

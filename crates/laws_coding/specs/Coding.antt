@@ -1,7 +1,7 @@
 -- The laws of coding, as statements: 01, "Coding", and demand 3. proofs/Coding.antt proves each under its name.
 use Prim.Native.Nat.{ℕ, _+_, _-_, _*_, _≤_}
 use mathlib.Core.Path.{_≡_}
-use mathlib.Core.Bool.{Bool, cond}
+use mathlib.Core.Bool.{Bool, true, cond}
 use mathlib.Core.List.{List, [], _∷_, _++_}
 use mathlib.Core.Option.{none}
 use lib.Dec.{leb}
@@ -11,6 +11,7 @@ use Rattle.utf8.specs.Utf8.{scalars}
 use Rattle.coding.specs.State.{start}
 use Rattle.coding.specs.Candidates.{Cand, candidates, restOf}
 use Rattle.coding.specs.Search.{Node, byCand, reach, top, keep, alone, code}
+use Rattle.coding.specs.Store.{counts, numbers, states, needsStates, fitStates}
 use Rattle.coding.specs.Admissible.{Some, Admissible}
 use Rattle.coding.specs.Call.{Lent, ordering, choices, coding, without, Outcome, outcome}
 use Rattle.base.specs.Lists.{All}
@@ -92,6 +93,16 @@ StoreFree = (c : Lent) (n : ℕ) → (outcome c .refused ≡ 7 → ⊥) → (out
 -- more store never brings 7: a call that is not answered 7, and so each that is accepted, has the same answer, coding and gap with a larger store
 abbrev pub MoreStore : Type 0
 MoreStore = (c : Lent) (n : ℕ) → (outcome c .refused ≡ 7 → ⊥) → c .storeRoom ≤ n → Alike (outcome c) (outcome (lending c n))
+
+-- Request 7, "Everything accepted earlier is still accepted": no layer needs more numbers than four for each of its states, so a store in which the
+-- older count of states fits is not answered 7
+pub record StillAccepted : Type 0 where
+  pub need : (css : List (List Cand)) (initial : ℕ) → All (λ n. numbers n ≤ 4 * states n) (counts css initial)
+  pub fits : (c : Lent) → fitStates (c .storeRoom) (needsStates (choices c) (c .initial)) ≡ true → outcome c .refused ≡ 7 → ⊥
+
+-- "The coding and its gap are to be those of the larger store": unless the answer is 7, it is that of a store in which the older count fits
+abbrev pub LargerStore : Type 0
+LargerStore = (c : Lent) (n : ℕ) → (outcome c .refused ≡ 7 → ⊥) → fitStates n (needsStates (choices c) (c .initial)) ≡ true → Alike (outcome c) (outcome (lending c n))
 
 -- a buffer of nine bytes for each character of the text suffices: 8 is not answered; and so does one of nine for each byte of the longest text
 pub record NineSuffice : Type 0 where

@@ -1,9 +1,9 @@
 -- `encode_backtrack::put_character` meets its contract: by the candidate's set. Assumes nothing.
 use Prim.Native.Nat.{_%_}
-use mathlib.Core.Path.{ap, _∙_}
+use mathlib.Core.Path.{sym}
 use native.Mathlib.Omega.{arith}
 use lib.ListN.{getD}
-use lib.Seq.{sets}
+use Rattle.lent.proofs.Putting.{put-none, put-as}
 use Rattle.encode_states.specs.Packed.{sizeOf}
 use Rattle.encode_candidates.specs.Packed.{FitsAt}
 use Rattle.encode_backtrack.proofs.Character.{written-none, written-plain, written-graphic}
@@ -15,7 +15,10 @@ cast-j : tie.Need-cast-j
 cast-j c = search needs
 
 returns : tie.Need-returns
-returns c = ap (sets (c .before .before .args .coding .now) (c .before .before .args .at)) (written-none (c .before .before .args .t3) (c .before .before .args .how) (c .if1 .taken))
+returns c =
+    let at-start = c .before .before in
+    let a = at-start .args in
+    put-as (sym (written-none (a .t3) (a .how) (c .if1 .taken))) (put-none (a .coding .now) (a .at))
 
 element-copy-out-x : tie.Need-element-copy-out-x
 element-copy-out-x c = search needs
@@ -30,7 +33,8 @@ cast-put-plain : tie.Need-cast-put-plain
 cast-put-plain c =
     let at-if2 = c .before in
     let at-start = at-if2 .before .before .before .before .before in
-    let q : FitsAt (at-start .args .t3) (at-start .args .how % 16) = at-start .pre .1 .fits (at-start .args .how % 16) (omega arith) in omega (arith, q .plain (at-if2 .if2 .taken))
+    let q : FitsAt (at-start .args .t3) (at-start .args .how % 16) = at-start .pre .1 .fits (at-start .args .how % 16) (omega arith) in
+    omega (arith, q .plain (at-if2 .if2 .taken))
 
 put-plain-requires : tie.Need-put-plain-requires
 put-plain-requires c κs = search needs
@@ -43,8 +47,8 @@ returns-2 c =
     let at-put-plain = c .before .before in
     let at-if2 = at-put-plain .before .before in
     let at-start = at-if2 .before .before .before .before .before in
-    at-put-plain .put-plain .ensures (sizeOf (getD (at-start .args .t3 .sizes) (at-start .args .how % 16) 0)) .written ∙
-    ap (sets (at-start .args .coding .now) (at-start .args .at)) (written-plain (at-start .args .t3) (at-start .args .how) (omega arith) (at-if2 .if2 .taken))
+    let a = at-start .args in
+    put-as (sym (written-plain (a .t3) (a .how) (omega arith) (at-if2 .if2 .taken))) (at-put-plain .put-plain .ensures (sizeOf (getD (a .t3 .sizes) (a .how % 16) 0)))
 
 cast-put-graphic : tie.Need-cast-put-graphic
 cast-put-graphic c = search needs
@@ -65,8 +69,7 @@ returns-3 c =
     let at-if2 = at-put-graphic .before .before in
     let at-start = at-if2 .before .before .before .before .before in
     let a = at-start .args in
-    at-put-graphic .put-graphic .ensures (sizeOf (getD (a .t3 .sizes) (a .how % 16) 0)) .written ∙
-    ap (sets (a .coding .now) (a .at)) (written-graphic (a .t3) (a .how) (omega arith) (at-if2 .if2 .left))
+    put-as (sym (written-graphic (a .t3) (a .how) (omega arith) (at-if2 .if2 .left))) (at-put-graphic .put-graphic .ensures (sizeOf (getD (a .t3 .sizes) (a .how % 16) 0)))
 
 pub put-character-spec : {M : Type 1} → statement M
 put-character-spec =

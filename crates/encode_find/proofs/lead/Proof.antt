@@ -1,7 +1,7 @@
 -- `encode_find::lead` meets its contract: by what the search answers. Assumes nothing.
 use mathlib.Core.Path.{refl}
 use native.Mathlib.Omega.{arith}
-use Rattle.encode_find.proofs.Planning.{not-so, so, led-nothing, led-full, led-found}
+use Rattle.encode_find.proofs.Planning.{place-most, not-so, so, led-nothing, led-full, led-found}
 use borrow.Author.Needs.{needs}
 use Rattle.encode_find.proofs.lead.Statement.{statement}
 use Rattle.encode_find.proofs.lead.Tie as tie
@@ -28,15 +28,120 @@ returns-2 c =
     (at-start .args .kanji .now) (at-start .args .symbols .now) (at-start .args .task .count) (at-start .args .task .rest) t (at-store .store .given) (at-search .search .ensures)
     (not-so _ (c .if2 .taken))
 
-least-requires : tie.Need-least-requires
-least-requires c κs = omega (arith, c .before .before .before .before .search .ensures .inside (so _ (c .before .if2 .left)), c .before .before .before .store .given)
+mul-least : tie.Need-mul-least
+mul-least c =
+    let at-store = c .before .before in
+    let at-search = at-store .before in
+    let at-start = at-search .before .before .before .before .before .before .before in
+    let q = at-search .search .ensures .inside (so _ (c .if2 .left)) in
+    omega (arith, at-start .good, q .store, q .few, q .before-few, at-store .store .given)
 
-first-of-requires : tie.Need-first-of-requires
-first-of-requires c κs =
+sub-least : tie.Need-sub-least
+sub-least c =
+    let at-store = c .before .before in
+    let at-search = at-store .before in
+    let at-start = at-search .before .before .before .before .before .before .before in
+    let q = at-search .search .ensures .inside (so _ (c .if2 .left)) in
+    omega (arith, at-start .good, q .store, q .few, q .before-few, at-store .store .given)
+
+part-least-start : tie.Need-part-least-start
+part-least-start c =
+    let at-if2 = c .before in
+    let at-store = at-if2 .before .before in
+    let at-search = at-store .before in
+    let at-start = at-search .before .before .before .before .before .before .before in
+    let q = at-search .search .ensures .inside (so _ (at-if2 .if2 .left)) in
+    omega (arith, at-start .good, q .store, q .few, q .before-few, at-store .store .given)
+
+part-least-end : tie.Need-part-least-end
+part-least-end c = search needs
+
+least-requires : tie.Need-least-requires
+least-requires c κs =
+    let at-if2 = c .before .before in
+    let at-store = at-if2 .before .before in
+    let at-search = at-store .before in
+    let at-start = at-search .before .before .before .before .before .before .before in
+    let q = at-search .search .ensures .inside (so _ (at-if2 .if2 .left)) in
+    omega (arith, at-start .good, q .store, q .few, q .before-few, at-store .store .given)
+
+mul-first-of : tie.Need-mul-first-of
+mul-first-of c =
     let at-if2 = c .before .before .before in
     let at-store = at-if2 .before .before in
     let at-search = at-store .before in
-    omega (arith, at-search .search .ensures .inside (so _ (at-if2 .if2 .left)), at-store .store .given)
+    let at-start = at-search .before .before .before .before .before .before .before in
+    let q = at-search .search .ensures .inside (so _ (at-if2 .if2 .left)) in
+    omega (arith, at-start .good, q .store, q .few, q .before-few, at-store .store .given)
+
+sub-first-of : tie.Need-sub-first-of
+sub-first-of c =
+    let at-if2 = c .before .before .before in
+    let at-store = at-if2 .before .before in
+    let at-search = at-store .before in
+    let at-start = at-search .before .before .before .before .before .before .before in
+    let q = at-search .search .ensures .inside (so _ (at-if2 .if2 .left)) in
+    omega (arith, at-start .good, q .store, q .few, q .before-few, at-store .store .given)
+
+part-first-of-start : tie.Need-part-first-of-start
+part-first-of-start c =
+    let at-if2 = c .before .before .before .before in
+    let at-store = at-if2 .before .before in
+    let at-search = at-store .before in
+    let at-start = at-search .before .before .before .before .before .before .before in
+    let q = at-search .search .ensures .inside (so _ (at-if2 .if2 .left)) in
+    omega (arith, at-start .good, q .store, q .few, q .before-few, at-store .store .given)
+
+part-first-of-end : tie.Need-part-first-of-end
+part-first-of-end c = search needs
+
+first-of-requires : tie.Need-first-of-requires
+first-of-requires c κs =
+    let at-if2 = c .before .before .before .before .before in
+    let at-store = at-if2 .before .before in
+    let at-search = at-store .before in
+    let at-start = at-search .before .before .before .before .before .before .before in
+    let q = at-search .search .ensures .inside (so _ (at-if2 .if2 .left)) in
+    omega (arith, at-start .good, q .store, q .few, q .before-few, at-store .store .given)
+
+mul-squeeze : tie.Need-mul-squeeze
+mul-squeeze c =
+    let at-if2 = c .before .before .before .before .before .before in
+    let at-store = at-if2 .before .before in
+    let at-search = at-store .before in
+    let at-start = at-search .before .before .before .before .before .before .before in
+    let q = at-search .search .ensures .inside (so _ (at-if2 .if2 .left)) in
+    omega (arith, at-start .good, q .store, q .few, q .before-few, at-store .store .given)
+
+sub-squeeze : tie.Need-sub-squeeze
+sub-squeeze c =
+    let at-if2 = c .before .before .before .before .before .before in
+    let at-store = at-if2 .before .before in
+    let at-search = at-store .before in
+    let at-start = at-search .before .before .before .before .before .before .before in
+    let q = at-search .search .ensures .inside (so _ (at-if2 .if2 .left)) in
+    omega (arith, at-start .good, q .store, q .few, q .before-few, at-store .store .given)
+
+part-squeeze-start : tie.Need-part-squeeze-start
+part-squeeze-start c =
+    let at-if2 = c .before .before .before .before .before .before in
+    let at-store = at-if2 .before .before in
+    let at-search = at-store .before in
+    let at-start = at-search .before .before .before .before .before .before .before in
+    let q = at-search .search .ensures .inside (so _ (at-if2 .if2 .left)) in
+    omega (arith, at-start .good, q .store, q .few, q .before-few, at-store .store .given)
+
+part-squeeze-end : tie.Need-part-squeeze-end
+part-squeeze-end c = search needs
+
+squeeze-requires : tie.Need-squeeze-requires
+squeeze-requires c κs =
+    let at-if2 = c .before .before .before .before .before .before .before in
+    let at-store = at-if2 .before .before in
+    let at-search = at-store .before in
+    let at-start = at-search .before .before .before .before .before .before .before in
+    let q = at-search .search .ensures .inside (so _ (at-if2 .if2 .left)) in
+    omega (arith, at-start .good, q .store, q .few, q .before-few, at-store .store .given)
 
 cast-length : tie.Need-cast-length
 cast-length c = search needs
@@ -44,22 +149,34 @@ cast-length c = search needs
 gap-of-requires : tie.Need-gap-of-requires
 gap-of-requires c κs = search needs
 
+add-t18 : tie.Need-add-t18
+add-t18 c =
+    let at-first-of = c .before .before .before .before .before in
+    let at-least = at-first-of .before .before .before in
+    let at-if2 = at-least .before .before .before in
+    let at-store = at-if2 .before .before in
+    let at-search = at-store .before in
+    let at-start = at-search .before .before .before .before .before .before .before in
+    let q = at-search .search .ensures .inside (so _ (at-if2 .if2 .left)) in
+    omega (arith, at-start .good, q .store, at-store .store .given, place-most _ _ _ _ (omega (arith, q .store, at-store .store .given)) (at-first-of .first-of .ensures))
+
 same-length-2 : tie.Need-same-length-2
 same-length-2 c = search needs
 
 returns-3 : tie.Need-returns-3
 returns-3 c =
-    let at-first-of = c .before in
-    let at-least = at-first-of .before .before in
-    let at-if2 = at-least .before .before in
+    let at-squeeze = c .before .before .before in
+    let at-first-of = at-squeeze .before .before in
+    let at-least = at-first-of .before .before .before in
+    let at-if2 = at-least .before .before .before in
     let at-store = at-if2 .before .before in
     let at-search = at-store .before in
     let at-if1 = at-search .before .before in
     let at-start = at-if1 .before .before .before .before .before in
     λ t. led-found (at-start .args .task .annex) (at-start .args .task .initial) (at-start .args .store .now) (at-search .search .last .0) (at-start .args .chars .now)
     (at-start .args .kanji .now) (at-start .args .symbols .now) (at-start .args .task .count) (at-start .args .task .rest) t (at-store .store .given) (at-search .search .ensures)
-    (so _ (at-if2 .if2 .left)) _ _ _ (record { chars = at-start .pre .chars; kanji = at-start .pre .kanji; symbols = at-start .pre .symbols }) (at-least .least .ensures)
-    (at-first-of .first-of .ensures) (c .gap-of .ensures)
+    (so _ (at-if2 .if2 .left)) _ (at-squeeze .squeeze .ensures) (omega arith) (at-least .least .result) (at-first-of .first-of .result) (c .gap-of .result) (omega arith)
+    (record { chars = at-start .pre .chars; kanji = at-start .pre .kanji; symbols = at-start .pre .symbols }) (at-least .least .ensures) (at-first-of .first-of .ensures) (c .gap-of .ensures)
 
 pub lead-spec : {M : Type 1} → statement M
 lead-spec =
@@ -69,9 +186,23 @@ lead-spec =
     search-requires
     same-length
     returns-2
+    mul-least
+    sub-least
+    part-least-start
+    part-least-end
     least-requires
+    mul-first-of
+    sub-first-of
+    part-first-of-start
+    part-first-of-end
     first-of-requires
+    mul-squeeze
+    sub-squeeze
+    part-squeeze-start
+    part-squeeze-end
+    squeeze-requires
     cast-length
     gap-of-requires
+    add-t18
     same-length-2
     returns-3)

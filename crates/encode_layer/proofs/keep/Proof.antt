@@ -1,19 +1,25 @@
--- `encode_layer::keep` meets its contract: drops the nodes of the layer that cost over most, the others moved up.
+-- `encode_layer::keep` meets its contract: drops the nodes of the layer that cost over most, which lower the floor, the others moved down.
+use mathlib.Core.Path.{refl, ap, _∙_}
 use mathlib.Core.Logic.{⊎-elim}
-use Prim.Native.Nat.{_-_}
+use Prim.Native.Nat.{ℕ, _+_, _-_}
 use native.Mathlib.Omega.{arith}
-use Rattle.encode_layer.proofs.Keeping.{Going, going-start, going-drop, going-keep, going-end}
+use Rattle.coding.specs.Search.{lower}
+use Rattle.encode_layer.proofs.Costs.{Floored, floored-kept, floored-dropped, floored-end, cost-bound}
+use Rattle.encode_layer.proofs.Keeping.{Going, going-start, same-cost, going-drop, going-keep, going-end}
 use Rattle.encode_layer.proofs.keep.Statement.{statement}
 use Rattle.encode_layer.proofs.keep.Tie as tie
 
 abbrev Inv-loop : tie.InvT-loop
-Inv-loop store₀ from count most i₀ kept₀ store i kept = Going store₀ store from count most i kept
+Inv-loop store₀ from count most rest low f₀ i₀ kept₀ store f i kept = Going store₀ store from count most i kept × Floored store₀ from count most rest low f i
 
 abbrev μ-loop : tie.MeasureT-loop
-μ-loop store₀ from count most i₀ kept₀ store i kept = count - i
+μ-loop store₀ from count most rest low f₀ i₀ kept₀ store f i kept = count - i
 
 loop-holds : tie.Need-loop-holds Inv-loop μ-loop
-loop-holds c = going-start (c .before .args .store .now) (c .before .args .from) (c .before .args .count) (c .before .args .most) (c .before .pre)
+loop-holds c =
+    let at-start = c .before in
+    let a = at-start .args in
+    (going-start (a .store .now) (a .from) (a .count) (a .most) (at-start .pre .0), λ cs. refl)
 
 add-at : tie.Need-add-at Inv-loop μ-loop
 add-at c = omega arith
@@ -45,14 +51,8 @@ mul-link c = omega arith
 slice-read-link : tie.Need-slice-read-link Inv-loop μ-loop
 slice-read-link c = omega arith
 
-add-back : tie.Need-add-back Inv-loop μ-loop
-add-back c = omega arith
-
-mul-back : tie.Need-mul-back Inv-loop μ-loop
-mul-back c = omega arith
-
-slice-read-back : tie.Need-slice-read-back Inv-loop μ-loop
-slice-read-back c = omega arith
+mul-put-node : tie.Need-mul-put-node Inv-loop μ-loop
+mul-put-node c = omega arith
 
 add-put-node : tie.Need-add-put-node Inv-loop μ-loop
 add-put-node c = omega arith
@@ -62,6 +62,30 @@ put-node-requires c κs = omega arith
 
 add-kept : tie.Need-add-kept Inv-loop μ-loop
 add-kept c = omega arith
+
+add-lower : tie.Need-add-lower Inv-loop μ-loop
+add-lower c =
+    let at-loop = c .before .before .before in
+    let at-start = at-loop .before .before in
+    let a = at-start .args in
+    let at = at-loop .loop in
+    omega (
+      arith,
+      same-cost (a .store .now) (a .from) (a .count) (a .most) (at-start .pre .0) (at .store) (at .i) (at .kept) (at .inv .0) (omega arith),
+      cost-bound (a .store .now) (a .from) (a .count) (at-start .pre .0) (at-start .pre .2) (at .i) (omega arith),
+    )
+
+lower-requires : tie.Need-lower-requires Inv-loop μ-loop
+lower-requires c κs =
+    let at-loop = c .before .before .before in
+    let at-start = at-loop .before .before in
+    let a = at-start .args in
+    let at = at-loop .loop in
+    omega (
+      arith,
+      same-cost (a .store .now) (a .from) (a .count) (a .most) (at-start .pre .0) (at .store) (at .i) (at .kept) (at .inv .0) (omega arith),
+      cost-bound (a .store .now) (a .from) (a .count) (at-start .pre .0) (at-start .pre .2) (at .i) (omega arith),
+    )
 
 add-i : tie.Need-add-i Inv-loop μ-loop
 add-i c = omega arith
@@ -73,20 +97,31 @@ loop-again : tie.Need-loop-again Inv-loop μ-loop
 loop-again c =
     let at-loop = c .before .before .before in
     let at-start = at-loop .before .before in
-    ⊎-elim (λ w. rw (w .8, w .9) (going-keep (at-start .args .store .now) (at-start .args .from) (at-start .args .count) (at-start .args .most) (at-start .pre)
-    (at-loop .loop .store) (at-loop .loop .i) (at-loop .loop .kept) (at-loop .loop .inv) _ (omega arith) (w .0 .taken) (w .5 .ensures)))
-    (λ w. rw (w .1, w .2) (going-drop (at-start .args .store .now) (at-start .args .from) (at-start .args .count) (at-start .args .most) (at-start .pre)
-    (at-loop .loop .store) (at-loop .loop .i) (at-loop .loop .kept) (at-loop .loop .inv) (omega arith) (w .0 .left))) (c .if1 .came)
+    let a = at-start .args in
+    let at = at-loop .loop in
+    let cost = same-cost (a .store .now) (a .from) (a .count) (a .most) (at-start .pre .0) (at .store) (at .i) (at .kept) (at .inv .0) (omega arith) in
+    ⊎-elim (λ w. (
+      rw (w .7, w .9) (going-keep (a .store .now) (a .from) (a .count) (a .most) (at-start .pre .0) (at .store) (at .i) (at .kept) (at .inv .0) _ (omega arith) (w .0 .taken) (w .4 .ensures)),
+      rw (w .8) (floored-kept (a .store .now) (a .from) (a .count) (at-start .pre .0) (a .most) (a .rest) (a .low) (at .f) (at .i) (at .inv .1) (omega arith) (omega (arith, w .0 .taken))),
+    ))
+    (λ w. (
+      rw (w .2, w .4) (going-drop (a .store .now) (a .from) (a .count) (a .most) (at-start .pre .0) (at .store) (at .i) (at .kept) (at .inv .0) (omega arith) (w .0 .left)),
+      rw (w .3 ∙ (w .1 .ensures ∙ ap (λ (x : ℕ). lower (at .f) (x + a .rest)) cost))
+          (floored-dropped (a .store .now) (a .from) (a .count) (at-start .pre .0) (a .most) (a .rest) (a .low) (at .f) (at .i) (at .inv .1) (omega arith) (omega (arith, w .0 .left))),
+    )) (c .if1 .came)
 
 same-length : tie.Need-same-length Inv-loop μ-loop
-same-length c = c .before .loop .inv .same
+same-length c = c .before .loop .inv .0 .same
 
 returns : tie.Need-returns Inv-loop μ-loop
 returns c =
     let at-loop = c .before in
     let at-start = at-loop .before .before in
-    going-end (at-start .args .store .now) (at-start .args .from) (at-start .args .count) (at-start .args .most) (at-start .pre) (at-loop .loop .store) (at-loop .loop .i)
-    (at-loop .loop .kept) (at-loop .loop .inv) (c .loop-test .left)
+    let a = at-start .args in
+    let at = at-loop .loop in (
+      going-end (a .store .now) (a .from) (a .count) (a .most) (at-start .pre .0) (at .store) (at .i) (at .kept) (at .inv .0) (c .loop-test .left),
+      floored-end (a .store .now) (a .from) (a .count) (at-start .pre .0) (a .most) (a .rest) (a .low) (at .f) (at .i) (at .inv .1) (c .loop-test .left),
+    )
 
 pub keep-spec : {M : Type 1} → statement M
 keep-spec =
@@ -105,12 +140,12 @@ keep-spec =
     add-link
     mul-link
     slice-read-link
-    add-back
-    mul-back
-    slice-read-back
+    mul-put-node
     add-put-node
     put-node-requires
     add-kept
+    add-lower
+    lower-requires
     add-i
     loop-less
     loop-again

@@ -5,9 +5,6 @@ use borrow.Author.Needs.{needs}
 use Rattle.encode_layer.proofs.put_node.Statement.{statement}
 use Rattle.encode_layer.proofs.put_node.Tie as tie
 
-mul-at : tie.Need-mul-at
-mul-at c = search needs
-
 mul-store : tie.Need-mul-store
 mul-store c = search needs
 
@@ -32,15 +29,6 @@ mul-store-3 c = search needs
 slice-write-store-3 : tie.Need-slice-write-store-3
 slice-write-store-3 c = simp length-set (omega arith)
 
-add-store-3 : tie.Need-add-store-3
-add-store-3 c = search needs
-
-mul-store-4 : tie.Need-mul-store-4
-mul-store-4 c = search needs
-
-slice-write-store-4 : tie.Need-slice-write-store-4
-slice-write-store-4 c = simp length-set (omega arith)
-
 same-length : tie.Need-same-length
 same-length c = search needs
 
@@ -51,7 +39,6 @@ pub put-node-spec : {M : Type 1} → statement M
 put-node-spec =
     tie.close
     (tie.spec
-    mul-at
     mul-store
     slice-write-store
     add-store
@@ -60,8 +47,5 @@ put-node-spec =
     add-store-2
     mul-store-3
     slice-write-store-3
-    add-store-3
-    mul-store-4
-    slice-write-store-4
     same-length
     returns)

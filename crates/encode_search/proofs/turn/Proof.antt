@@ -21,28 +21,26 @@ cast-advance c = search needs
 
 advance-requires : tie.Need-advance-requires
 advance-requires c κs =
-    let at-less = c .before .before in
+    let at-less = c .before in
     let at-candidates = at-less .before .before in
-    let start = at-candidates .before .before .before in
+    let at-start = at-candidates .before .before in
     let k = at-candidates .candidates .ensures in
-    (start .pre .0, start .pre .1, start .pre .2, start .pre .3, k .few, omega (arith, at-less .less .ensures, start .pre .4), start .pre .5, λ j h. k .fits j h .size)
+    (at-start .pre .0, at-start .pre .1, at-start .pre .2, k .few, omega (arith, at-less .less .ensures, at-start .pre .3), at-start .pre .4, λ j h. k .fits j h .size)
 
 same-length : tie.Need-same-length
 same-length c = search needs
 
-same-length-2 : tie.Need-same-length-2
-same-length-2 c = search needs
-
 returns : tie.Need-returns
 returns c =
-    let at-advance = c .before .before .before .before in
-    let at-less = at-advance .before .before .before in
+    let at-advance = c .before .before in
+    let at-less = at-advance .before .before in
     let at-shortest = at-less .before in
     let at-candidates = at-shortest .before in
-    let at-start = at-candidates .before .before .before in
+    let at-start = at-candidates .before .before in
     let a = at-start .args in
-    turned (a .store .now) _ (a .at .from) (a .at .count) (a .x .c) (a .x .kanji) (a .x .symbol) (a .annex) (a .at .rest) (a .at .floor) (at-less .less .result) (at-candidates .candidates .result) _
-    _ _ (at-candidates .candidates .ensures) (at-less .less .ensures ∙ ap (λ (y : ℕ). a .at .rest - y) (at-shortest .shortest .ensures)) (at-advance .advance .ensures)
+    turned (a .store .now) _ (a .at .count) (a .at .before) (a .x .c) (a .x .kanji) (a .x .symbol) (a .annex) (a .at .rest) (a .at .floor) (at-less .less .result)
+    (at-candidates .candidates .result) _ _ _ (at-candidates .candidates .ensures)
+    (at-less .less .ensures ∙ ap (λ (y : ℕ). a .at .rest - y) (at-shortest .shortest .ensures)) (at-advance .advance .ensures)
 
 pub turn-spec : {M : Type 1} → statement M
 turn-spec =
@@ -54,5 +52,4 @@ turn-spec =
     cast-advance
     advance-requires
     same-length
-    same-length-2
     returns)

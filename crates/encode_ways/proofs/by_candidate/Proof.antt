@@ -24,16 +24,16 @@ add-k : tie.Need-add-k
 add-k c = search needs
 
 add-by-ways : tie.Need-add-by-ways
-add-by-ways c = omega (arith, c .before .before .before .control-length .ensures, few-bytes (c .before .before .before .before .size-control .result))
+add-by-ways c = omega (arith, c .before .before .control-length .ensures, few-bytes (c .before .before .before .size-control .result))
 
 by-ways-requires : tie.Need-by-ways-requires
 by-ways-requires c κs =
-    let at-if1 = c .before .before in
+    let at-if1 = c .before in
     let at-control-length = at-if1 .before in
     let at-size-control = at-control-length .before in
     let at-sized = at-size-control .before in
-    let at-start = at-sized .before .before .before in (
-      record { store = omega arith; index = omega arith; few = at-start .pre .0 .few },
+    let at-start = at-sized .before .before in (
+      record { store = omega arith; few = at-start .pre .0 .few; some = at-start .pre .0 .some; heads = at-start .pre .0 .heads; small = at-start .pre .0 .small },
       at-sized .sized .ensures .proper,
       record {
         cost-small = omega (arith, at-control-length .control-length .ensures, few-bytes (at-size-control .size-control .result));
@@ -45,48 +45,42 @@ by-ways-requires c κs =
 same-length : tie.Need-same-length
 same-length c = search needs
 
-same-length-2 : tie.Need-same-length-2
-same-length-2 c = search needs
-
 returns : tie.Need-returns
 returns c =
-    let at-by-ways = c .before .before .before .before in
-    let at-if1 = at-by-ways .before .before .before in
+    let at-by-ways = c .before .before in
+    let at-if1 = at-by-ways .before .before in
     let at-control-length = at-if1 .before in
     let at-size-control = at-control-length .before in
     let at-sized = at-size-control .before in
-    let at-start = at-sized .before .before .before in
+    let at-start = at-sized .before .before in
     let a = at-start .args in
     λ cs k ks most n at m i h.
     as-graphic cs ks n (a .a) (at-sized .sized .result) (a .x) (a .size) (a .len) (a .cost) (a .link) (at-size-control .size-control .result)
-    (at-control-length .control-length .result) (a .back) (at-start .pre .5) i (at-size-control .size-control .ensures) (at-control-length .control-length .ensures)
+    (at-control-length .control-length .result) (at-start .pre .5) i (at-size-control .size-control .ensures) (at-control-length .control-length .ensures)
     (at-sized .sized .ensures .is) k at m (at-if1 .if1 .taken)
     (λ t w. at-by-ways .by-ways .ensures cs most t w (omega (arith, at-control-length .control-length .ensures, few-bytes (at-size-control .size-control .result))))
 
 add-push : tie.Need-add-push
-add-push c = omega (arith, c .before .before .before .control-length .ensures, few-bytes (c .before .before .before .before .size-control .result))
+add-push c = omega (arith, c .before .before .control-length .ensures, few-bytes (c .before .before .before .size-control .result))
 
 push-requires : tie.Need-push-requires
 push-requires c κs = search needs
 
-same-length-3 : tie.Need-same-length-3
-same-length-3 c = search needs
-
-same-length-4 : tie.Need-same-length-4
-same-length-4 c = search needs
+same-length-2 : tie.Need-same-length-2
+same-length-2 c = search needs
 
 returns-2 : tie.Need-returns-2
 returns-2 c =
-    let at-push = c .before .before .before .before in
-    let at-if1 = at-push .before .before .before in
+    let at-push = c .before .before in
+    let at-if1 = at-push .before .before in
     let at-control-length = at-if1 .before in
     let at-size-control = at-control-length .before in
     let at-sized = at-size-control .before in
-    let at-start = at-sized .before .before .before in
+    let at-start = at-sized .before .before in
     let a = at-start .args in
     λ cs k ks most n at m i h.
     as-plain cs ks n (a .a) (at-sized .sized .result) (a .x) (a .size) (a .len) (a .cost) (a .link) (at-size-control .size-control .result)
-    (at-control-length .control-length .result) (a .back) (at-start .pre .5) i (at-size-control .size-control .ensures) (at-control-length .control-length .ensures)
+    (at-control-length .control-length .result) (at-start .pre .5) i (at-size-control .size-control .ensures) (at-control-length .control-length .ensures)
     (at-sized .sized .ensures .is) k at m (at-if1 .if1 .left)
     (at-push .push .ensures cs most (omega (arith, at-control-length .control-length .ensures, few-bytes (at-size-control .size-control .result))))
 
@@ -103,10 +97,8 @@ by-candidate-spec =
     add-by-ways
     by-ways-requires
     same-length
-    same-length-2
     returns
     add-push
     push-requires
-    same-length-3
-    same-length-4
+    same-length-2
     returns-2)

@@ -9,6 +9,7 @@ use lib.ListN.{length, getD, take, drop, replicate}
 use Rattle.coding.specs.Candidates.{either, Cand, plain}
 use Rattle.coding.specs.Search.{Node, pushAll, byCand, byCands}
 use Rattle.encode_states.specs.Packed.{unpack}
+use Rattle.encode_layer.specs.Entries.{entriesOf}
 use Rattle.encode_layer.specs.Layer.{bounds, Changes}
 use Rattle.encode_ways.specs.Turn.{MatchAll, Is}
 use Rattle.encode_ways.proofs.Choosing.{any, any-matches, any-at}
@@ -17,23 +18,22 @@ use Rattle.encode_ways.proofs.by_candidates.Statement.{statement}
 use Rattle.encode_ways.proofs.by_candidates.Tie as tie
 
 abbrev Inv-loop : tie.InvT-loop
-Inv-loop store₀ index₀ from cap count a cost i back m sets codes sizes c₀ k₀ store index c k =
-    (k ≤ m) × (length store ≡ length store₀) × (length index ≡ length index₀) × (take (from * 4) store ≡ take (from * 4) store₀) ×
+Inv-loop store₀ from cap buckets count a cost i m sets codes sizes c₀ k₀ store c k =
+    (k ≤ m) × (length store ≡ length store₀) × (entriesOf store 0 from ≡ entriesOf store₀ 0 from) ×
     ((cs : List Cand) (most : ℕ) (n : Node) → MatchAll cs m sets codes sizes → Is n a cost → cost + 9 ≤ most →
-    Changes cs (bounds from cap back most) store₀ index₀ count store index c (λ l. byCands n i l (take k cs)))
+    Changes cs (bounds from cap buckets most) store₀ count store c (λ l. byCands n i l (take k cs)))
 
 abbrev μ-loop : tie.MeasureT-loop
-μ-loop store₀ index₀ from cap count a cost i back m sets codes sizes c₀ k₀ store index c k = m - k
+μ-loop store₀ from cap buckets count a cost i m sets codes sizes c₀ k₀ store c k = m - k
 
 loop-holds : tie.Need-loop-holds Inv-loop μ-loop
 loop-holds c = (
   omega arith,
   refl,
   refl,
-  refl,
-  λ cs most n m i h. changes-as (λ l. l) _ (none-yet n (c .before .before .args .i) cs)
-      (no-change cs (bounds (c .before .before .args .from) (c .before .before .args .cap) (c .before .before .args .back) most) (c .before .before .args .store .now)
-      (c .before .before .args .index .now) (c .before .before .args .count)),
+  λ cs most n m i h. changes-as (λ l. l) _ (none-yet n (c .before .args .i) cs)
+      (no-change cs (bounds (c .before .args .from) (c .before .args .cap) (c .before .args .buckets) most) (c .before .args .store .now)
+      (c .before .args .count)),
 )
 
 element-copy-out-wide : tie.Need-element-copy-out-wide Inv-loop μ-loop
@@ -68,12 +68,12 @@ add-link c = omega arith
 
 by-candidate-requires : tie.Need-by-candidate-requires Inv-loop μ-loop
 by-candidate-requires c κs =
-    let at-code-length = c .before .before in
+    let at-code-length = c .before in
     let at-wide2 = at-code-length .before .before in
     let at-wide = at-wide2 .before .before in
     let at-loop = at-wide .before .before .before in
-    let at-start = at-loop .before .before .before in (
-      record { store = omega arith; index = omega arith; few = at-start .pre .0 .few },
+    let at-start = at-loop .before .before in (
+      record { store = omega arith; few = at-start .pre .0 .few; some = at-start .pre .0 .some; heads = at-start .pre .0 .heads; small = at-start .pre .0 .small },
       at-start .pre .1,
       at-start .pre .2,
       omega (arith, at-wide2 .wide2 .ensures, at-start .pre .5 (at-loop .loop .k) (omega arith)),
@@ -89,12 +89,12 @@ loop-less c = omega arith
 
 loop-again : tie.Need-loop-again Inv-loop μ-loop
 loop-again c =
-    let at-by-candidate = c .before .before .before .before in
-    let at-code-length = at-by-candidate .before .before .before in
+    let at-by-candidate = c .before .before in
+    let at-code-length = at-by-candidate .before .before in
     let at-wide2 = at-code-length .before .before in
     let at-wide = at-wide2 .before .before in
     let at-loop = at-wide .before .before .before in
-    let at-start = at-loop .before .before .before in
+    let at-start = at-loop .before .before in
     let a = at-start .args in
     let k = at-loop .loop .k in
     let d = decLt (at-wide .wide .result) 6 in
@@ -105,13 +105,12 @@ loop-again c =
     (omega arith) in (
       omega arith,
       omega arith,
-      omega arith,
-      q .before ∙ at-loop .loop .inv .3,
+      q .before ∙ at-loop .loop .inv .2,
       λ cs most n m i h.
           let lt : k < length cs = omega (arith, m .many) in
           changes-as _ _ (λ l. ap (λ (j : ℕ). pushAll (byCands n (a .i) l (take k cs)) (byCand n j (getD cs k (plain 0 either)))) (place-link (a .i) k (at-start .pre .3)) ∙
           one-more n (a .i) cs k lt l)
-          (then _ _ (at-loop .loop .inv .4 cs most n m i h) (at-by-candidate .by-candidate .ensures cs (getD cs k (plain 0 either)) (drop (suc k) cs) most n
+          (then _ _ (at-loop .loop .inv .3 cs most n m i h) (at-by-candidate .by-candidate .ensures cs (getD cs k (plain 0 either)) (drop (suc k) cs) most n
           (at-link cs (a .i) k (at-start .pre .3) lt) (rw (at-wide .wide .ensures, at-wide2 .wide2 .ensures, at-code-length .code-length .ensures)
           (m .each k (omega arith))) i h)),
     )
@@ -119,14 +118,11 @@ loop-again c =
 same-length : tie.Need-same-length Inv-loop μ-loop
 same-length c = c .before .loop .inv .1
 
-same-length-2 : tie.Need-same-length-2 Inv-loop μ-loop
-same-length-2 c = c .before .loop .inv .2
-
 returns : tie.Need-returns Inv-loop μ-loop
 returns c = (
-  c .before .loop .inv .3,
-  λ cs most n m i h. changes-as _ _ (all-of n (c .before .before .before .before .args .i) cs (c .before .loop .k) (omega (arith, m .many)))
-      (c .before .loop .inv .4 cs most n m i h),
+  c .before .loop .inv .2,
+  λ cs most n m i h. changes-as _ _ (all-of n (c .before .before .before .args .i) cs (c .before .loop .k) (omega (arith, m .many)))
+      (c .before .loop .inv .3 cs most n m i h),
 )
 
 pub by-candidates-spec : {M : Type 1} → statement M
@@ -151,5 +147,4 @@ by-candidates-spec =
     loop-less
     loop-again
     same-length
-    same-length-2
     returns)

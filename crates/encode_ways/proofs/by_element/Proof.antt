@@ -31,7 +31,7 @@ designation-length-requires c κs = search needs
 add-more : tie.Need-add-more
 add-more c =
     let at-designate = c .before .before .before in
-    let at-start = at-designate .before .before .before in
+    let at-start = at-designate .before .before in
     omega (arith, c .designation-length .ensures, designation-most (at-start .args .x) (at-start .args .n) (at-start .pre .5))
 
 add-k-2 : tie.Need-add-k-2
@@ -39,9 +39,9 @@ add-k-2 c = search needs
 
 through-requires : tie.Need-through-requires
 through-requires c κs =
-    let at-if1 = c .before .before in
+    let at-if1 = c .before in
     let at-designate = at-if1 .before .before in
-    let at-start = at-designate .before .before .before in
+    let at-start = at-designate .before .before in
     let a = at-start .args in
     let q = at-designate .designate .ensures .is in
     let g : Sized (at-if1 .if1 .more) (at-if1 .if1 .k) =
@@ -49,7 +49,7 @@ through-requires c κs =
     (λ z. record { cost-small = omega (arith, z .1 .ensures, designation-most (a .x) (a .n) (at-start .pre .5)); link-small = omega arith })
     (λ z. record { cost-small = omega arith; link-small = omega arith })
     (at-if1 .if1 .came) in (
-      record { store = omega arith; index = omega arith; few = at-start .pre .0 .few },
+      record { store = omega arith; few = at-start .pre .0 .few; some = at-start .pre .0 .some; heads = at-start .pre .0 .heads; small = at-start .pre .0 .small },
       at-designate .designate .ensures .proper,
       record {
         left = at-start .pre .2 .left ∙ sym (ap (λ (s : State). s .gl) q ∙ same-gl (unpack (a .a)) (a .n) (setOf (a .x)));
@@ -63,16 +63,13 @@ through-requires c κs =
 same-length : tie.Need-same-length
 same-length c = search needs
 
-same-length-2 : tie.Need-same-length-2
-same-length-2 c = search needs
-
 returns : tie.Need-returns
 returns c =
-    let at-through = c .before .before .before .before in
-    let at-if1 = at-through .before .before .before in
+    let at-through = c .before .before in
+    let at-if1 = at-through .before .before in
     let at-set-in = at-if1 .before in
     let at-designate = at-set-in .before in
-    let at-start = at-designate .before .before .before in
+    let at-start = at-designate .before .before in
     let a = at-start .args in
     λ cs most t w h.
     ⊎-elim
@@ -98,5 +95,4 @@ by-element-spec =
     add-k-2
     through-requires
     same-length
-    same-length-2
     returns)

@@ -15,13 +15,13 @@ use Rattle.encode_ways.proofs.by_elements.Statement.{statement}
 use Rattle.encode_ways.proofs.by_elements.Tie as tie
 
 abbrev Inv-loop : tie.InvT-loop
-Inv-loop store₀ index₀ from cap count a x cost link back l r c₀ n₀ store index c n =
-    (n ≤ 4) × (length store ≡ length store₀) × (length index ≡ length index₀) ×
+Inv-loop store₀ from cap buckets count a x cost link l r c₀ n₀ store c n =
+    (n ≤ 4) × (length store ≡ length store₀) ×
     ((cs : List Cand) (most : ℕ) (t : Turn) → By cs t x cost link → cost + 6 ≤ most →
-    Pushes cs (bounds from cap back most) store₀ index₀ count store index c (byWays (t .base) (t .place) (t .pre) (t .code) (upTo (unpack a) (setOf x) n)))
+    Pushes cs (bounds from cap buckets most) store₀ count store c (byWays (t .base) (t .place) (t .pre) (t .code) (upTo (unpack a) (setOf x) n)))
 
 abbrev μ-loop : tie.MeasureT-loop
-μ-loop store₀ index₀ from cap count a x cost link back l r c₀ n₀ store index c n = 4 - n
+μ-loop store₀ from cap buckets count a x cost link l r c₀ n₀ store c n = 4 - n
 
 gl-requires : tie.Need-gl-requires Inv-loop μ-loop
 gl-requires c κs = search needs
@@ -31,21 +31,20 @@ gr-requires c κs = search needs
 
 loop-holds : tie.Need-loop-holds Inv-loop μ-loop
 loop-holds c =
-    let at-start = c .before .before .before .before in (
+    let at-start = c .before .before .before in (
       omega arith,
       refl,
-      refl,
-      λ cs most t w h. up-none cs (bounds (at-start .args .from) (at-start .args .cap) (at-start .args .back) most) (at-start .args .store .now)
-          (at-start .args .index .now) (at-start .args .count) t (unpack (at-start .args .a)) (setOf (at-start .args .x)),
+      λ cs most t w h. up-none cs (bounds (at-start .args .from) (at-start .args .cap) (at-start .args .buckets) most) (at-start .args .store .now)
+          (at-start .args .count) t (unpack (at-start .args .a)) (setOf (at-start .args .x)),
     )
 
 by-element-requires : tie.Need-by-element-requires Inv-loop μ-loop
 by-element-requires c κs =
-    let at-loop-test = c .before .before in
+    let at-loop-test = c .before in
     let at-gr = at-loop-test .before .before in
     let at-gl = at-gr .before in
-    let at-start = at-gl .before .before .before in (
-      record { store = omega arith; index = omega arith; few = at-start .pre .0 .few },
+    let at-start = at-gl .before .before in (
+      record { store = omega arith; few = at-start .pre .0 .few; some = at-start .pre .0 .some; heads = at-start .pre .0 .heads; small = at-start .pre .0 .small },
       at-start .pre .1,
       record { left = at-gl .gl .ensures .is; right = at-gr .gr .ensures .is },
       at-start .pre .2,
@@ -61,24 +60,20 @@ loop-less c = omega arith
 
 loop-again : tie.Need-loop-again Inv-loop μ-loop
 loop-again c =
-    let at-by-element = c .before .before .before .before in
-    let at-loop = at-by-element .before .before .before .before in
-    let at-start = at-loop .before .before .before .before .before in (
-      omega arith,
+    let at-by-element = c .before .before in
+    let at-loop = at-by-element .before .before .before in
+    let at-start = at-loop .before .before .before .before in (
       omega arith,
       omega arith,
       λ cs most t w h. up-one t (unpack (at-start .args .a)) (setOf (at-start .args .x)) (at-loop .loop .n)
-          (at-loop .loop .inv .3 cs most t w h) (at-by-element .by-element .ensures cs most t w h),
+          (at-loop .loop .inv .2 cs most t w h) (at-by-element .by-element .ensures cs most t w h),
     )
 
 same-length : tie.Need-same-length Inv-loop μ-loop
 same-length c = c .before .loop .inv .1
 
-same-length-2 : tie.Need-same-length-2 Inv-loop μ-loop
-same-length-2 c = c .before .loop .inv .2
-
 returns : tie.Need-returns Inv-loop μ-loop
-returns c = let e : c .before .loop .n ≡ 4 = omega arith in rw e at (c .before .loop .inv .3)
+returns c = let e : c .before .loop .n ≡ 4 = omega arith in rw e at (c .before .loop .inv .2)
 
 pub by-elements-spec : {M : Type 1} → statement M
 by-elements-spec =
@@ -94,5 +89,4 @@ by-elements-spec =
     loop-less
     loop-again
     same-length
-    same-length-2
     returns)
