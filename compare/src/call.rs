@@ -5,7 +5,7 @@ use std::fmt::{self, Display, Formatter};
 use oracle::coding::{Refusal, refusal};
 use oracle::options::Options;
 
-use crate::coding::Coding;
+use crate::coding::{Coding, STATE};
 use crate::model::{self, ISSUE, Reading};
 
 /// How many numbers a cell table has.
@@ -120,13 +120,10 @@ impl Display for Rooms {
     }
 }
 
-/// A state takes so many numbers of the store.
-pub const STATE: usize = 4;
-
 impl CodingRooms {
     /// Questions 7 and 8: the refusal's number, or 0.
     pub fn questions(&self, coding: &Coding) -> u32 {
-        if coding.states > self.store / STATE {
+        if coding.numbers > self.store {
             7
         } else if coding.bytes.len() > self.coding {
             8
@@ -137,7 +134,12 @@ impl CodingRooms {
 
     /// Just enough.
     pub fn exact(coding: &Coding) -> CodingRooms {
-        CodingRooms { store: STATE * coding.states, coding: coding.bytes.len() }
+        CodingRooms { store: coding.numbers, coding: coding.bytes.len() }
+    }
+
+    /// With four numbers for each state, as question 7 once asked.
+    pub fn older(coding: &Coding) -> CodingRooms {
+        CodingRooms { store: STATE * coding.states, ..CodingRooms::exact(coding) }
     }
 }
 

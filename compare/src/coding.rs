@@ -18,12 +18,19 @@ use state::State;
 /// A state that costs so much more than the layer's cheapest is still kept.
 pub const KEPT: u32 = 10;
 
+/// A state of the layer that is reached, or of the one before it, takes so many numbers of the
+/// store, a state of an older layer one.
+pub const STATE: usize = 4;
+
 /// What coding gives.
 #[derive(Debug, Clone, Default, PartialEq, Eq)]
 pub struct Coding {
     pub bytes: Vec<u8>,
     pub gap: usize,
-    /// How many states the store must hold.
+    /// How many numbers the store must have.
+    pub numbers: usize,
+    /// The most states at a layer, those kept in all layers before it and those reached in it. A
+    /// store with four numbers for each suffices.
     pub states: usize,
     /// How many states were dropped, over all layers.
     pub dropped: u64,

@@ -5,7 +5,7 @@ pub mod hold;
 mod lent;
 mod questions;
 mod random;
-mod rooms;
+pub mod rooms;
 mod short;
 mod tables;
 mod tally;

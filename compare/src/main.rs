@@ -20,7 +20,7 @@ compare vectors N
 compare encode-vectors N
 compare bench [--subject model]
 compare bench --list
-compare bench --only rust|subject|exact|question CASE PASSES [--subject model]";
+compare bench --only rust|subject|exact|question CASE PASSES [STORE] [--subject model]";
 
 fn main() -> ExitCode {
     let mut words = Words::of_program();
@@ -126,7 +126,8 @@ fn measure(mut words: Words) -> Result<bool, String> {
         let side = Side::named(&side).ok_or("no such side")?;
         let case = words.take().ok_or("which case?")?;
         let passes = number(&words.take().ok_or("how many passes?")?)?;
-        bench::only(subject, side, &case, passes)?;
+        let store = words.take().map(|word| number(&word)).transpose()?;
+        bench::only(subject, side, &case, passes, store.map(|numbers| numbers as usize))?;
     } else {
         println!("subject: {name}");
         bench::print(subject);

@@ -1,9 +1,10 @@
 //! The model of coding on the lines of 01's table of twelve that code, and at corners.
 
-use compare::call::{Call, CodingRooms};
-use compare::cells;
+use compare::bench::{Work, tables};
+use compare::call::{Call, CodingRooms, under_all};
 use compare::coding::Coder;
 use compare::texts::corners::TABLE;
+use compare::{cells, titles};
 use oracle::hex;
 
 /// The cell table, initial state, width, the text; the coding with its gap and the numbers of
@@ -29,16 +30,17 @@ const CORNERS: &[Corner] = &[
     (Zeros, 0, 0, TABLE[1], Coding("20", 0, 8)),
     (Zeros, 0, 0, TABLE[2], Coding("890E41", 0, 32)),
     (Zeros, 0, 0, TABLE[3], Refused(5, 2)),
-    // No layer; a layer of one state.
+    // No layer; layers of one state, of which those two or more back take one number each.
     (Zeros, 0, 0, "", Coding("", 0, 0)),
     (Zeros, 0, 0, "\n", Coding("0D", 0, 8)),
+    (Zeros, 0, 0, "\n\n\n", Coding("0D0D0D", 0, 10)),
     // Marks before their base, by their own cells.
-    (Zeros, 0, 0, "あ\u{301}", Coding("212DA2", 0, 12)),
+    (Zeros, 0, 0, "あ\u{301}", Coding("212DA2", 0, 9)),
     (Zeros, 0, 0, "あ\u{301}\u{1}", Refused(6, 5)),
     (Zeros, 0, 0, "あ\n\u{301}\u{300}", Refused(5, 4)),
     // Of equal costs the state reached first.
-    (Rusts, 0, 0, "アア", Coding("1D221D22", 0, 120)),
-    (Zeros, 0, 0, "アア", Coding("1B6F2222", 0, 60)),
+    (Rusts, 0, 0, "アア", Coding("1D221D22", 0, 117)),
+    (Zeros, 0, 0, "アア", Coding("1B6F2222", 0, 57)),
     (Rusts, 0, 0, "Ａ", Coding("0E41", 0, 36)),
     (Rusts, 0, 0, "年", Coding("472F", 0, 36)),
     (Zeros, 0, 0, "年", Coding("7C27", 0, 36)),
@@ -72,7 +74,7 @@ fn corners() {
     }
 }
 
-/// 31 numbers hold seven states; a remainder is unused.
+/// A has one layer: the start, and seven states reached.
 #[test]
 fn rooms() {
     let cells = cells::zeros();
@@ -82,4 +84,48 @@ fn rooms() {
         |store, coding_room| CodingRooms { store, coding: coding_room }.questions(&coding);
     assert_eq!([31, 32, 35].map(|store| refusal(store, 3)), [7, 0, 0]);
     assert_eq!([refusal(31, 2), refusal(32, 2), refusal(36, 4)], [7, 8, 0]);
+}
+
+/// A title: of its states those two or more layers back take one number each, and a remainder
+/// counts.
+#[test]
+fn older_states_take_one_number() {
+    let call =
+        Call { cells: cells::rusts(), initial: 0, width: 0, input: "ニュース 7:00".as_bytes() };
+    let coding = Coder::default().code(&call).unwrap();
+    assert_eq!((coding.numbers, coding.states), (2_158, 1_018));
+    let rooms = CodingRooms::exact(&coding);
+    let refusal = |store| CodingRooms { store, ..rooms }.questions(&coding);
+    assert_eq!([1_018, 2_157, 2_158, 4_072].map(refusal), [7, 7, 0, 0]);
+}
+
+/// What four numbers a state held is held.
+#[test]
+fn no_title_needs_more_than_four_a_state() {
+    let mut model = Coder::default();
+    for cells in [cells::rusts(), cells::zeros()] {
+        for title in titles::texts() {
+            for call in under_all(cells, title.as_bytes()) {
+                let Ok(coding) = model.code(&call) else { continue };
+                assert!(coding.numbers <= 4 * coding.states, "{title}");
+                assert_eq!(CodingRooms::older(&coding).questions(&coding), 0, "{title}");
+            }
+        }
+    }
+}
+
+/// The stores of the benchmark, by README.md.
+#[test]
+fn stores_of_the_benchmark() {
+    let coded = tables().flat_map(|table| table.cases).filter(|case| case.work == Work::Code);
+    let stores: Vec<_> = coded.map(|case| (case.name, case.ready().stores())).collect();
+    let expected = [
+        ("code-titles", [18_931, 44_356]),
+        ("code-lines", [179_032, 700_072]),
+        ("code-caption", [1_786_733, 7_130_744]),
+        ("code-mixed", [179_002, 675_904]),
+        ("code-marks", [36_780, 133_452]),
+        ("code-newlines", [476_403, 1_717_188]),
+    ];
+    assert_eq!(stores, expected);
 }

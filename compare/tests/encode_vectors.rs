@@ -24,7 +24,7 @@ fn each_vector_is_answered() {
         assert!(call.input.len() <= LONGEST);
         assert!(rooms.store <= MOST.store && rooms.coding <= MOST.coding);
         let bytes = rest.bytes(length).to_vec();
-        let coding = Coding { bytes, gap: gap as usize, states: 0, dropped: 0 };
+        let coding = Coding { bytes, gap: gap as usize, ..Coding::default() };
         let answer = if refusal.number == 0 { Ok(&coding) } else { Err(refusal) };
         let given = subject.encode(call, buffers.lend(rooms));
         assert_eq!(buffers.fault(given, answer), None, "case {case}");

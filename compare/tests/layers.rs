@@ -92,22 +92,24 @@ fn reached(kept: &Layer, codes: &[Code]) -> Layer {
     layer
 }
 
-/// Length, gap, and the states that the store must hold.
-fn search(initial: InitialState, characters: &[Vec<Code>]) -> (usize, usize, usize) {
+/// Length, gap, the numbers that the store must have, and the most states.
+fn search(initial: InitialState, characters: &[Vec<Code>]) -> [usize; 4] {
     let (gl, gr) = initial.invocations();
     let mut kept = Layer::from([((initial.designations(), gl, gr, false), 0)]);
-    let (mut before, mut need, mut floor) = (0, 0, usize::MAX);
+    let (mut before, mut numbers, mut states, mut floor) = (0, 0, 0, usize::MAX);
     for (place, codes) in characters.iter().enumerate() {
-        before += kept.len();
         let (dropped, stay) = split(reached(&kept, codes));
-        need = need.max(before + dropped.len() + stay.len());
+        let near = kept.len() + dropped.len() + stay.len();
+        numbers = numbers.max(before + 4 * near);
+        states = states.max(before + near);
+        before += kept.len();
         let shortest = |codes: &Vec<Code>| codes.iter().map(|code| code.1).min().unwrap();
         let rest: usize = characters[place + 1..].iter().map(shortest).sum();
         floor = dropped.values().map(|cost| cost + rest).fold(floor, usize::min);
         kept = stay;
     }
     let length = *kept.values().min().unwrap();
-    (length, length.saturating_sub(floor), need)
+    [length, length.saturating_sub(floor), numbers, states]
 }
 
 /// Those that cost over the layer's least cost + 10, and the others.
@@ -138,7 +140,7 @@ fn compare(model: &mut Coder, cells: &[u16], text: &str, (initial, width): (u32,
     let state = [InitialState::Si, InitialState::Caption][initial as usize];
     let order = in_order(text);
     let characters: Vec<_> = order.into_iter().map(|c| codes(c, width == 1)).collect();
-    let found = (coding.bytes.len(), coding.gap, coding.states);
+    let found = [coding.bytes.len(), coding.gap, coding.numbers, coding.states];
     assert_eq!(search(state, &characters), found, "{text:?} {initial} {width}");
     true
 }

@@ -2,7 +2,7 @@
 
 use crate::call::{Call, CodingRooms, Rooms};
 use crate::cells;
-use crate::coding::Coder;
+use crate::coding::{Coder, Coding};
 
 /// What is done with an input.
 #[derive(Clone, Copy, PartialEq, Eq)]
@@ -35,12 +35,14 @@ pub struct Ready {
     pub work: Work,
     pub call: Call<'static>,
     pub inputs: Vec<Vec<u8>>,
+    /// The store's length, if it is not to be the greatest need of any text.
+    pub store: Option<usize>,
 }
 
 impl Case {
     pub fn ready(&self) -> Ready {
         let call = Call { cells: cells::rusts(), initial: self.initial, width: 0, input: &[] };
-        Ready { work: self.work, call, inputs: (self.inputs)() }
+        Ready { work: self.work, call, inputs: (self.inputs)(), store: None }
     }
 }
 
@@ -52,18 +54,23 @@ impl Ready {
             Work::Key(text) => [text, 0],
             Work::Clean | Work::Measure | Work::Crate => [0, 0],
             Work::Code => {
-                let CodingRooms { store, coding } = self.greatest();
-                [store, coding]
+                let CodingRooms { store, coding } = self.greatest(CodingRooms::exact);
+                [self.store.unwrap_or(store), coding]
             }
         }
     }
 
-    /// The greatest need of any text.
-    fn greatest(&self) -> CodingRooms {
+    /// The numbers of the store that a case of coding needs, and four for each state.
+    pub fn stores(&self) -> [usize; 2] {
+        [CodingRooms::exact, CodingRooms::older].map(|rooms| self.greatest(rooms).store)
+    }
+
+    /// The greatest rooms of any text.
+    fn greatest(&self, rooms: fn(&Coding) -> CodingRooms) -> CodingRooms {
         let mut model = Coder::default();
         let codings = self.inputs.iter().map(|input| model.code(&Call { input, ..self.call }));
-        let exact = codings.map(|coding| CodingRooms::exact(&coding.expect("no refusal")));
-        exact.fold(CodingRooms::default(), |most, rooms| CodingRooms {
+        let all = codings.map(|coding| rooms(&coding.expect("no refusal")));
+        all.fold(CodingRooms::default(), |most, rooms| CodingRooms {
             store: most.store.max(rooms.store),
             coding: most.coding.max(rooms.coding),
         })

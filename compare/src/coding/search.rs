@@ -3,7 +3,7 @@
 use super::candidates::Candidate;
 use super::state::{STATES, State};
 use super::ways::{Invocation, Way, each_way};
-use super::{Coding, write};
+use super::{Coding, STATE, write};
 
 /// A state of a layer: its cost, and the step by which it is reached.
 #[derive(Clone, Copy)]
@@ -69,11 +69,12 @@ impl Search {
     /// The coding of the characters, each given by its candidates.
     pub fn code(&mut self, start: State, characters: &[Vec<Candidate>]) -> Coding {
         let mut rest: usize = characters.iter().map(|candidates| shortest(candidates)).sum();
-        let (mut states, mut dropped, mut floor) = (0, 0, usize::MAX);
+        let (mut numbers, mut states, mut dropped, mut floor) = (0, 0, 0, usize::MAX);
         self.begin(start);
         for candidates in characters {
             rest -= shortest(candidates);
             self.reach(candidates);
+            numbers = numbers.max(self.numbers());
             states = states.max(1 + self.links.len() + self.reached.len());
             if let Some(cost) = self.drop_dear() {
                 floor = floor.min(cost as usize + rest);
@@ -82,7 +83,7 @@ impl Search {
         }
         let bytes = self.back(characters);
         let gap = bytes.len().saturating_sub(floor);
-        Coding { bytes, gap, states, dropped }
+        Coding { bytes, gap, numbers, states, dropped }
     }
 
     /// Before the first layer stands the start alone, at cost 0.
@@ -104,6 +105,14 @@ impl Search {
             }
         }
         self.kept = kept;
+    }
+
+    /// The numbers of the store that the layer needs: one for each state kept two or more layers
+    /// back, four for each kept in the layer before and each reached in this one. The start is two
+    /// layers back at the second layer.
+    fn numbers(&self) -> usize {
+        let older = self.begins.last().map_or(0, |before| 1 + before);
+        older + STATE * (self.kept.len() + self.reached.len())
     }
 
     /// The states that one candidate reaches from one state.

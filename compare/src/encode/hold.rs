@@ -46,7 +46,7 @@ impl<'a> Holder<'a> {
 
     /// Codes with the model, for a table that the Rust does not have, and decodes again.
     pub fn code(&mut self, call: Call) -> Held {
-        self.by_model(call);
+        self.by_model(call)?;
         self.again(call, |reader, call| {
             reader.read(call);
             reader.ask(call, decode::AMPLE)
@@ -56,7 +56,7 @@ impl<'a> Holder<'a> {
     /// Codes with the model and with the Rust, and decodes again with both. The table is the
     /// Rust's.
     pub fn code_both(&mut self, call: Call) -> Held {
-        self.by_model(call);
+        self.by_model(call)?;
         self.tally.rust += 1;
         let rust = oracle::coding::code(call.options(), call.input);
         let model = self.answer.as_ref().map(|coding| &coding.bytes);
@@ -81,6 +81,7 @@ impl<'a> Holder<'a> {
         self.tally.answers[number as usize] += 1;
         held(fault, &call, |difference| {
             let difference = difference.line("rooms", rooms);
+            let difference = difference.line("store before", self.buffers.before());
             let difference = difference.line("subject", self.buffers.words(given));
             difference.line("model", self.model_words())
         })
@@ -93,19 +94,24 @@ impl<'a> Holder<'a> {
         self.run(call, rooms)
     }
 
-    fn by_model(&mut self, call: Call) {
+    /// Codes with the model. What it needs of the store is no more than four numbers a state.
+    fn by_model(&mut self, call: Call) -> Held {
         assert_eq!(call.text_questions(), 0, "question 1 to 3");
         self.answer = self.model.code(&call);
         let tally = &mut self.tally;
         tally.codings += 1;
         tally.text.see(call.input.len());
-        if let Ok(coding) = &self.answer {
-            tally.dropping += u64::from(coding.dropped > 0);
-            tally.gaps += u64::from(coding.gap > 0);
-            tally.coding.see(coding.bytes.len());
-            tally.gap.see(coding.gap);
-            tally.store.see(CodingRooms::exact(coding).store);
-        }
+        let Ok(coding) = &self.answer else { return Ok(()) };
+        let [exact, older] = [CodingRooms::exact(coding).store, CodingRooms::older(coding).store];
+        tally.dropping += u64::from(coding.dropped > 0);
+        tally.gaps += u64::from(coding.gap > 0);
+        tally.coding.see(coding.bytes.len());
+        tally.gap.see(coding.gap);
+        tally.store.see(exact);
+        tally.numbers += exact as u64;
+        tally.older += older as u64;
+        let fault = (exact > older).then_some("a need above four numbers a state");
+        held(fault, &call, |difference| difference.line("model", self.model_words()))
     }
 
     /// Reads a coding as `read` does and by the subject's `arib_decode`: it is the text, and
@@ -127,7 +133,8 @@ impl<'a> Holder<'a> {
     fn model_words(&self) -> String {
         let bytes = coded(self.answer().map(|coding| &coding.bytes[..]).as_deref());
         self.answer().map_or(bytes.clone(), |coding| {
-            format!("gap {} store {}: {bytes}", coding.gap, CodingRooms::exact(coding).store)
+            let Coding { gap, numbers, states, .. } = coding;
+            format!("gap {gap} store {numbers} states {states}: {bytes}")
         })
     }
 }

@@ -4,6 +4,7 @@ use crate::call::{Answer, CodingRooms, numbered};
 use crate::coding::Coding;
 use crate::difference::digits;
 use crate::lent::{Buffer, Element, answer_fault};
+use crate::random::Random;
 use crate::subject::CodingLent;
 
 /// Buffers that are used again from call to call.
@@ -12,17 +13,20 @@ pub struct Buffers {
     store: Buffer<u32>,
     coding: Buffer<u8>,
     counts: [usize; 3],
-    /// How many calls were lent to.
-    lent: u32,
+    /// How many calls were lent to, and what the store held before the last.
+    lent: u64,
+    content: Content,
 }
 
 impl Buffers {
     /// A store and a buffer of these lengths, in which the call must not find anything.
     pub fn lend(&mut self, rooms: CodingRooms) -> CodingLent<'_> {
-        self.lent = self.lent.wrapping_add(1);
+        self.lent += 1;
         self.counts = [usize::MAX; 3];
+        let mut random = Random::new(0x5708E, self.lent);
+        self.content = random.one_of(&CONTENTS);
         let store = self.store.lend(rooms.store);
-        (0..).zip(&mut *store).for_each(|(index, number)| *number = content(self.lent, index));
+        store.fill_with(|| self.content.number(&mut random));
         CodingLent { store, coding: self.coding.lend(rooms.coding), counts: &mut self.counts }
     }
 
@@ -36,6 +40,11 @@ impl Buffers {
             .or_else(|| self.store.fault("store number", &[]))
     }
 
+    /// What the store held before the call, in words.
+    pub fn before(&self) -> String {
+        format!("{:?}, call {} of its thread", self.content, self.lent)
+    }
+
     /// What the call left, in words.
     pub fn words(&self, given: u32) -> String {
         let [place, length, gap] = self.counts;
@@ -44,13 +53,44 @@ impl Buffers {
     }
 }
 
-/// What a number of the store is before a call: the pattern, zeros as a call leaves them, small
-/// numbers as a search might write them, or numbers of all sizes; in turn from call to call.
-fn content(lent: u32, index: u32) -> u32 {
-    match lent % 4 {
-        0 => u32::PATTERN,
-        1 => 0,
-        2 => index % 7,
-        _ => (index ^ lent).wrapping_mul(0x9E37_79B9),
+/// What the numbers of a store are before a call, one of these from call to call.
+#[derive(Debug, Clone, Copy, Default)]
+enum Content {
+    /// As a call leaves them.
+    #[default]
+    Zeros,
+    Ones,
+    Pattern,
+    /// As a search might write costs.
+    Small,
+    /// Of all sizes.
+    Any,
+    /// Two places below this, as a search might keep where its states stand: the one in the upper
+    /// half is taken from 65,535.
+    Places(usize),
+    /// Each number one of the above.
+    Mixed,
+}
+
+use Content::{Any, Mixed, Ones, Pattern, Places, Small, Zeros};
+
+const CONTENTS: [Content; 10] =
+    [Mixed, Zeros, Ones, Pattern, Small, Any, Places(2), Places(16), Places(256), Places(4_096)];
+
+impl Content {
+    /// The next number.
+    fn number(self, random: &mut Random) -> u32 {
+        match self {
+            Zeros => 0,
+            Ones => u32::MAX,
+            Pattern => u32::PATTERN,
+            Small => random.below(7) as u32,
+            Any => random.number() as u32,
+            Places(count) => {
+                let [upper, lower] = [(); 2].map(|()| random.below(count) as u32);
+                (65_535 - upper) << 16 | lower
+            }
+            Mixed => random.one_of(&CONTENTS[1..]).number(random),
+        }
     }
 }

@@ -11,8 +11,8 @@ const AMPLE: CodingRooms = CodingRooms { store: 250, coding: 40 };
 /// For a text that is refused in any rooms.
 pub const SOME: CodingRooms = CodingRooms { store: 37, coding: 11 };
 
-/// Exact ones first; a remainder of 1 to 3 numbers; ample ones; one number, one byte, and both
-/// less; nothing of the one or the other.
+/// Exact ones first; 1 to 3 numbers more; ample ones; one number, one byte, and both less; nothing
+/// of the one or the other; four numbers for each state, and one for each.
 pub fn all(holder: &Holder) -> Vec<CodingRooms> {
     let exact = exact(holder);
     let CodingRooms { store, coding } = exact;
@@ -32,6 +32,10 @@ pub fn all(holder: &Holder) -> Vec<CodingRooms> {
     }
     if store > 0 && coding > 0 {
         list.push(rooms(store - 1, coding - 1));
+    }
+    if let Ok(need) = holder.answer() {
+        list.push(CodingRooms::older(need));
+        list.extend((need.states < store).then_some(rooms(need.states, coding)));
     }
     list
 }

@@ -27,10 +27,14 @@ tally! {
         pub coding: Greatest,
         pub gap: Greatest,
         pub store: Greatest,
+        /// The numbers that all stores needed, and four for each state.
+        pub numbers: u64,
+        pub older: u64,
     }
 }
 
-/// Four lines: the counts, the states dropped, the greatest, the calls by refusal number.
+/// Five lines: the counts, the states dropped, the greatest, the stores, the calls by refusal
+/// number.
 impl Display for Tally {
     fn fmt(&self, f: &mut Formatter<'_>) -> Result {
         let Tally { texts, codings, rust, again, dropping, gaps, calls, .. } = self;
@@ -40,11 +44,9 @@ impl Display for Tally {
              {again} decoded again, {calls} calls"
         )?;
         writeln!(f, "  states dropped in {dropping}, a gap in {gaps}")?;
-        let Tally { text, coding, gap, store, answers, .. } = self;
-        writeln!(
-            f,
-            "  longest text {text}, longest coding {coding}, greatest gap {gap}, store {store}"
-        )?;
+        let Tally { text, coding, gap, store, numbers, older, answers, .. } = self;
+        writeln!(f, "  longest text {text}, longest coding {coding}, greatest gap {gap}")?;
+        writeln!(f, "  greatest store {store}; all of them {numbers}, by four a state {older}")?;
         write!(f, "  calls by number:{}", by_number(answers))
     }
 }

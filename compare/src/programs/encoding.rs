@@ -74,8 +74,9 @@ pub fn lengths(runs: &Runs) -> Found {
 /// Texts whose search just has the store that it needs, and just has not.
 pub fn store(runs: &Runs) -> Found {
     let mut all = vec![];
-    for text in [long::caption(LONGEST_TEXT), long::mixed(2_400), long::newlines(400)] {
+    for text in [long::caption(LONGEST_TEXT), long::mixed(3_000), long::newlines(400)] {
         let fitting = fitting(&text);
+        assert!(fitting < text.len(), "a text that outgrows the store");
         let next = text.ceil_char_boundary(fitting + 1);
         all.extend([fitting, next, text.len()].map(|end| text[..end].to_string()));
     }

@@ -14,6 +14,8 @@ use crate::{cells, titles};
 const GAPS: usize = 48;
 /// Text and coding of a random case have at most so many bytes.
 const SHORT: usize = 150;
+/// The search of a random case, or of one with a gap, has at most so many states.
+const FEW: usize = 16_384;
 
 /// The whole list, which has no end.
 pub fn all() -> impl Iterator<Item = Case> {
@@ -50,7 +52,7 @@ fn corners() -> impl Iterator<Item = Case> {
 fn tight(case: &Case, needs: &mut Needs) -> Vec<Case> {
     let CodingRooms { store, coding } = needs.rooms(case);
     let mut list = vec![(store, coding)];
-    if needs.of(case).is_some_and(|need| need.states > 0) {
+    if needs.of(case).is_some_and(|need| need.numbers > 0) {
         list.extend([(store - 1, coding + 2), (store + 3, coding - 1), (store - 1, coding - 1)]);
     }
     let rooms = list.into_iter().map(|(store, coding)| CodingRooms { store, coding });
@@ -96,7 +98,7 @@ fn gaps() -> impl Iterator<Item = Case> {
         let length = random.range(20, 90);
         let text = alphabet.mixture(&mut random, length);
         let case = case(random.once_in(4), random.one_of(&OPTIONS), text.as_bytes());
-        let need = needs.of(&case).filter(|need| need.gap > 0)?;
+        let need = needs.of(&case).filter(|need| need.gap > 0 && need.states <= FEW)?;
         fitting(Case { rooms: CodingRooms::exact(&need), ..case })
     });
     found.take(GAPS)
@@ -122,10 +124,12 @@ fn random() -> impl Iterator<Item = Case> {
         let zeros = random.once_in(3);
         let text = texts::random(&mut random, &alphabets[usize::from(zeros)]);
         let case = case(zeros, random.one_of(&OPTIONS), &text);
-        let exact = needs.rooms(&case);
+        let need = needs.of(&case);
+        let exact = need.as_ref().map_or(SOME, CodingRooms::exact);
         let rooms = around(&mut random, exact);
         let short = text.len() + exact.coding <= SHORT;
-        fitting(Case { rooms, ..case }).filter(|_| short)
+        let few = need.is_none_or(|need| need.states <= FEW);
+        fitting(Case { rooms, ..case }).filter(|_| short && few)
     })
 }
 
