@@ -96,20 +96,25 @@ static void finds_an_escape(void)
     assert(arib_unknown_escape(input, 4, 2, 3, part, 2) == 0 && part[0] == 0 && part[1] == 0);
 }
 
+/* Ａ needs 36 numbers of the store: four for the start, and for each of the eight states that its
+ * one layer reaches. */
 static void codes(void)
 {
     const char *text = "Ａ";
-    static uint32_t store[4 * 4096];
+    static uint32_t store[4096];
     uint8_t coding[27];
     size_t counts[3];
     uint32_t refused = arib_encode(cells, 8836, 0, 0, (const uint8_t *)text, strlen(text), store,
-                                   4 * 4096, coding, 27, counts, 3);
+                                   4096, coding, 27, counts, 3);
     assert(refused == 0 && counts[1] == 2 && counts[2] == 0);
     assert(coding[0] == 0x0E && coding[1] == 0x41);
     printf("%s is coded as %02X %02X, gap %zu\n", text, coding[0], coding[1], counts[2]);
-    refused = arib_encode(cells, 8836, 0, 0, (const uint8_t *)text, strlen(text), store, 4, coding,
+    refused = arib_encode(cells, 8836, 0, 0, (const uint8_t *)text, strlen(text), store, 36, coding,
                           27, counts, 3);
-    assert(refused == 7);
+    assert(refused == 0 && counts[1] == 2 && coding[0] == 0x0E && coding[1] == 0x41);
+    refused = arib_encode(cells, 8836, 0, 0, (const uint8_t *)text, strlen(text), store, 35, coding,
+                          27, counts, 3);
+    assert(refused == 7 && counts[1] == 0 && coding[0] == 0);
 }
 
 static void keys(void)

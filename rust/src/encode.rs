@@ -49,6 +49,9 @@ impl fmt::Display for EncodeError {
 
 impl Error for EncodeError {}
 
+/// How many numbers the first store has. Of the 60 titles in `compare/data` 51 need no more.
+const STORE: usize = 8_192;
+
 /// A coding, and the gap: no admissible coding of the text is shorter by more.
 #[derive(Debug, Clone, PartialEq, Eq)]
 pub struct Coded {
@@ -83,7 +86,7 @@ pub fn encode_with(text: &str, opts: &EncodeOptions) -> Result<AribString, Encod
 pub fn code_with(text: &str, opts: &EncodeOptions) -> Result<Coded, EncodeError> {
     let call = cells::call(opts.initial, opts.width, text.as_bytes());
     let mut coding = vec![0; 9 * text.len().min(7_281)];
-    let (mut store, mut counts) = (vec![0; 4 * 2_048], [0; 3]);
+    let (mut store, mut counts) = (vec![0; STORE], [0; 3]);
     loop {
         match ffi::encode(call, &mut store, &mut coding, &mut counts) {
             0 => break,
@@ -107,5 +110,27 @@ fn error(text: &str, number: u32, index: usize) -> EncodeError {
         6 => EncodeError::Unencodable { index, ch },
         3 => EncodeError::TooLong,
         number => unreachable!("refused {number}"),
+    }
+}
+
+#[cfg(test)]
+mod tests {
+    use crate::{cells, ffi};
+
+    /// What a title needs, a number less, one for each of its states, and four.
+    #[test]
+    fn a_title_in_stores() {
+        let text = "ニュース 7:00".as_bytes();
+        let call = cells::call(Default::default(), Default::default(), text);
+        let coded = |numbers| {
+            let (mut store, mut coding, mut counts) = (vec![u32::MAX; numbers], [0; 32], [0; 3]);
+            let refused = ffi::encode(call, &mut store, &mut coding, &mut counts);
+            assert!(store.iter().all(|&number| number == 0));
+            (refused, coding, counts)
+        };
+        let refused = (7, [0; 32], [0; 3]);
+        assert_eq!([2_157, 1_018].map(coded), [refused; 2]);
+        let exact = coded(2_158);
+        assert_eq!((exact.0, exact), (0, coded(4 * 1_018)));
     }
 }
