@@ -114,8 +114,8 @@ size_t arib_unknown_escape(const uint8_t *input, size_t input_len, size_t start,
  * by more than the gap. A buffer of nine bytes a character always suffices. `store` is the search's
  * memory, all zero afterwards. A search has a layer for each character, and at each layer needs one
  * number for every state kept two or more layers back, and four for every state kept in the
- * previous layer or reached in this one. A title needs some thousand numbers, a caption of 7,000
- * bytes some millions. Questions 1 to 8 in this order. Takes at most some 260,000 bytes of
+ * previous layer or reached in this one. A title needs some thousands of numbers, a caption of
+ * 7,000 bytes some two million. Questions 1 to 8 in this order. Takes at most some 63,000 bytes of
  * stack on x86-64, by c/stack. */
 uint32_t arib_encode(const uint16_t *cells, size_t cells_len, uint32_t initial, uint32_t width,
                      const uint8_t *text, size_t text_len, uint32_t *store, size_t store_len,

@@ -114,6 +114,21 @@ fn no_title_needs_more_than_four_a_state() {
     }
 }
 
+/// What the titles need, Si, beside four numbers a state: a title in less than a third, and all.
+#[test]
+fn what_titles_need() {
+    let mut model = Coder::default();
+    let mut needs = |title: &str| {
+        let call = Call { cells: cells::rusts(), initial: 0, width: 0, input: title.as_bytes() };
+        let coding = model.code(&call).unwrap();
+        [coding.numbers, 4 * coding.states]
+    };
+    assert_eq!(needs("英会話\u{3000}Lesson 12 \"At the station\""), [331, 1_084]);
+    let sum = |[a, b]: [usize; 2], [c, d]: [usize; 2]| [a + c, b + d];
+    let all = titles::texts().into_iter().map(|title| needs(title.as_ref())).fold([0, 0], sum);
+    assert_eq!(all, [278_479, 607_072]);
+}
+
 /// The stores of the benchmark, by README.md.
 #[test]
 fn stores_of_the_benchmark() {

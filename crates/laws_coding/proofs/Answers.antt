@@ -160,9 +160,9 @@ not-eight room k = go (leb (length (k .out)) room)
     go true e = absurd (omega arith)
     go false e = absurd (omega arith)
 
-pub larger-store : MoreStore
+pub with-more : MoreStore
 unfolding outcome refusal question4 question5 question6 question7
-larger-store c n h m =
+with-more c n h m =
     whatever-store c n h (λ e. h (number-is (refusal c .number) (refusal c .place) c ∙
     seven (first c) (firstFault (c .text)) (baseless false (tokens (c .text))) (without (ordering c) (choices c)) (fits c (c .storeRoom)) (fits c n) (question8 (c .codingRoom) (coding c))
     (fit-more (c .storeRoom) n m (needs (choices c) (c .initial))) (not-eight (c .codingRoom) (coding c))
@@ -199,6 +199,9 @@ still-fits c f e =
     not-answered (first c) (firstFault (c .text)) (baseless false (tokens (c .text))) (without (ordering c) (choices c)) (fits c (c .storeRoom)) (question8 (c .codingRoom) (coding c))
     (three (cellsHold (c .cells)) (optionsHold (c .initial) (c .width)) (lengthHolds encodeLimit (length (c .text)))) (fit-states (c .storeRoom) (counts (choices c) (c .initial)) f)
     (not-eight (c .codingRoom) (coding c)) (sym (number-is (refusal c .number) (refusal c .place) c) ∙ e)
+
+pub accepted-still : (c : Lent) (n : ℕ) → outcome (lending c n) .refused ≡ 0 → fitStates (c .storeRoom) (needsStates (choices c) (c .initial)) ≡ true → outcome c .refused ≡ 0
+accepted-still c n e f = whatever-store c n (still-fits c f) (λ x. absurd (omega (arith, e, x))) .refused ∙ e
 
 pub as-in-larger : LargerStore
 unfolding choices ordering

@@ -17,7 +17,7 @@ use Rattle.base.proofs.Every.{all-map}
 use Rattle.laws_coding.proofs.Written.{OfTables, Step, cand-steps}
 use Rattle.laws_coding.proofs.Choices.{candidates-fine, choices-fine, choices-length, scalars-most, choices-filled}
 use Rattle.laws_coding.proofs.Searches.{out-admissible, out-nine, gap-by, no-shorter-any}
-use Rattle.laws_coding.proofs.Answers.{Passes, passes, overfull, whatever-store, larger-store, four-each, still-fits, as-in-larger}
+use Rattle.laws_coding.proofs.Answers.{Passes, passes, overfull, whatever-store, with-more, four-each, still-fits, accepted-still, as-in-larger}
 
 pub no-shorter : NoShorter
 unfolding coding
@@ -71,13 +71,13 @@ pub store-free : StoreFree
 store-free = whatever-store
 
 pub more-store : MoreStore
-more-store = larger-store
+more-store = with-more
 
 pub still-accepted : StillAccepted
-still-accepted = record { need = λ css initial. four-each (counts css initial); fits = still-fits }
+still-accepted = record { need = λ css initial. four-each (counts css initial); fits = still-fits; accepted = accepted-still }
 
-pub as-with-larger-store : LargerStore
-as-with-larger-store = as-in-larger
+pub larger-store : LargerStore
+larger-store = as-in-larger
 
 pub nine-suffice : NineSuffice
 nine-suffice =

@@ -95,10 +95,11 @@ abbrev pub MoreStore : Type 0
 MoreStore = (c : Lent) (n : ℕ) → (outcome c .refused ≡ 7 → ⊥) → c .storeRoom ≤ n → Alike (outcome c) (outcome (lending c n))
 
 -- Request 7, "Everything accepted earlier is still accepted": no layer needs more numbers than four for each of its states, so a store in which the
--- older count of states fits is not answered 7
+-- older count of states fits is not answered 7; and a call that is accepted with any store is accepted with such a one
 pub record StillAccepted : Type 0 where
   pub need : (css : List (List Cand)) (initial : ℕ) → All (λ n. numbers n ≤ 4 * states n) (counts css initial)
   pub fits : (c : Lent) → fitStates (c .storeRoom) (needsStates (choices c) (c .initial)) ≡ true → outcome c .refused ≡ 7 → ⊥
+  pub accepted : (c : Lent) (n : ℕ) → outcome (lending c n) .refused ≡ 0 → fitStates (c .storeRoom) (needsStates (choices c) (c .initial)) ≡ true → outcome c .refused ≡ 0
 
 -- "The coding and its gap are to be those of the larger store": unless the answer is 7, it is that of a store in which the older count fits
 abbrev pub LargerStore : Type 0
