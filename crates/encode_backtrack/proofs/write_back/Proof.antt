@@ -23,6 +23,10 @@ Inv-loop chars kanji symbols goal store coding₀ k₀ p₀ to₀ coding k p to 
 abbrev μ-loop : tie.MeasureT-loop
 μ-loop chars kanji symbols goal store coding₀ k₀ p₀ to₀ coding k p to = k
 
+-- the start, from the loop's head
+abbrev start-of : tie.At-loop Inv-loop μ-loop → tie.Start Inv-loop μ-loop
+start-of c = c .before .before .before .before .before .before
+
 loop-holds : tie.Need-loop-holds Inv-loop μ-loop
 loop-holds c =
     let at-start = c .before .before .before .before .before in
@@ -34,43 +38,43 @@ sub-k c = omega arith
 mul-number : tie.Need-mul-number Inv-loop μ-loop
 mul-number c =
     let at-loop = c .before in
-    let at-start = at-loop .before .before .before .before .before .before in
+    let at-start = start-of at-loop in
     omega (arith, at-start .good, going-fits (at-loop .loop .inv .3 (at-start .pre .1)))
 
 shared-slice-read-number : tie.Need-shared-slice-read-number Inv-loop μ-loop
 shared-slice-read-number c =
     let at-loop = c .before .before in
-    let at-start = at-loop .before .before .before .before .before .before in
+    let at-start = start-of at-loop in
     omega (arith, at-start .good, going-fits (at-loop .loop .inv .3 (at-start .pre .1)))
 
 mul-candidates : tie.Need-mul-candidates Inv-loop μ-loop
 mul-candidates c =
-    let at-start = c .before .before .before .before .before .before .before .before in
+    let at-start = start-of (c .before .before) in
     omega (arith, at-start .good, at-start .pre .0 .chars, at-start .pre .0 .kanji, at-start .pre .0 .symbols)
 
 shared-slice-read-candidates : tie.Need-shared-slice-read-candidates Inv-loop μ-loop
 shared-slice-read-candidates c =
-    let at-start = c .before .before .before .before .before .before .before .before .before in
+    let at-start = start-of (c .before .before .before) in
     omega (arith, at-start .good, at-start .pre .0 .chars, at-start .pre .0 .kanji, at-start .pre .0 .symbols)
 
 mul-candidates-2 : tie.Need-mul-candidates-2 Inv-loop μ-loop
 mul-candidates-2 c =
-    let at-start = c .before .before .before .before .before .before .before .before .before in
+    let at-start = start-of (c .before .before .before) in
     omega (arith, at-start .good, at-start .pre .0 .chars, at-start .pre .0 .kanji, at-start .pre .0 .symbols)
 
 shared-slice-read-candidates-2 : tie.Need-shared-slice-read-candidates-2 Inv-loop μ-loop
 shared-slice-read-candidates-2 c =
-    let at-start = c .before .before .before .before .before .before .before .before .before .before in
+    let at-start = start-of (c .before .before .before .before) in
     omega (arith, at-start .good, at-start .pre .0 .chars, at-start .pre .0 .kanji, at-start .pre .0 .symbols)
 
 mul-candidates-3 : tie.Need-mul-candidates-3 Inv-loop μ-loop
 mul-candidates-3 c =
-    let at-start = c .before .before .before .before .before .before .before .before .before .before in
+    let at-start = start-of (c .before .before .before .before) in
     omega (arith, at-start .good, at-start .pre .0 .chars, at-start .pre .0 .kanji, at-start .pre .0 .symbols)
 
 shared-slice-read-candidates-3 : tie.Need-shared-slice-read-candidates-3 Inv-loop μ-loop
 shared-slice-read-candidates-3 c =
-    let at-start = c .before .before .before .before .before .before .before .before .before .before .before in
+    let at-start = start-of (c .before .before .before .before .before) in
     omega (arith, at-start .good, at-start .pre .0 .chars, at-start .pre .0 .kanji, at-start .pre .0 .symbols)
 
 candidates-requires : tie.Need-candidates-requires Inv-loop μ-loop
@@ -78,15 +82,14 @@ candidates-requires c κs = search needs
 
 character-length-requires : tie.Need-character-length-requires Inv-loop μ-loop
 character-length-requires c κs =
-    let at-candidates = c in
-    record { few = at-candidates .candidates .ensures .few; fits = at-candidates .candidates .ensures .fits }
+    record { few = c .candidates .ensures .few; fits = c .candidates .ensures .fits }
 
 sub-to : tie.Need-sub-to Inv-loop μ-loop
 sub-to c =
     let at-candidates = c .before in
     let at-loop-test = at-candidates .before .before .before .before .before in
     let at-loop = at-loop-test .before in
-    let at-start = at-loop .before .before .before .before .before .before in
+    let at-start = start-of at-loop in
     let f = at-start .pre .1 in
     let j = at-loop .loop .k - 1 in
     omega (
@@ -109,7 +112,7 @@ sub-p : tie.Need-sub-p Inv-loop μ-loop
 sub-p c =
     let at-loop-test = c .before .before .before .before .before .before .before .before .before .before in
     let at-loop = at-loop-test .before in
-    let at-start = at-loop .before .before .before .before .before .before in
+    let at-start = start-of at-loop in
     omega (arith, going-before (at-loop .loop .k - 1) (omega (arith, at-loop-test .loop-test .taken)) (at-loop .loop .inv .3 (at-start .pre .1)))
 
 loop-less : tie.Need-loop-less Inv-loop μ-loop
@@ -122,7 +125,7 @@ loop-again c =
     let at-candidates = at-character-length .before in
     let at-loop-test = at-candidates .before .before .before .before .before in
     let at-loop = at-loop-test .before in
-    let at-start = at-loop .before .before .before .before .before .before in
+    let at-start = start-of at-loop in
     let j = at-loop .loop .k - 1 in
     let bs = written (candsOf (at-candidates .candidates .result)) (howOf (at-start .args .store .now) (at-loop .loop .p)) in
     let w = at-put-character .put-character .ensures .written in (

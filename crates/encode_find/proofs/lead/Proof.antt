@@ -1,10 +1,26 @@
 -- `encode_find::lead` meets its contract: by what the search answers. Assumes nothing.
 use mathlib.Core.Path.{refl}
 use native.Mathlib.Omega.{arith}
+use Rattle.encode_search.specs.Layers.{Inside}
 use Rattle.encode_find.proofs.Planning.{place-most, not-so, so, led-nothing, led-full, led-found}
 use borrow.Author.Needs.{needs}
 use Rattle.encode_find.proofs.lead.Statement.{statement}
 use Rattle.encode_find.proofs.lead.Tie as tie
+
+-- the places that answers name, from where the search fits the store: the search, and the start
+abbrev search-of : tie.Else2 → tie.After-search
+search-of c = c .before .before .before
+
+abbrev start-of : tie.Else2 → tie.Start
+start-of c = search-of c .before .before .before .before .before .before .before
+
+-- the newest layer is inside the store that the search left
+inside : (c : tie.Else2) →
+    let led = search-of c .search in
+    Inside (led .last .0) (led .result .from) (led .result .count) (led .result .before)
+inside c =
+    let q = search-of c .search .ensures .inside (so _ (c .if2 .left)) in
+    record { store = omega (arith, q .store, c .before .before .store .given); few = q .few; before-few = q .before-few }
 
 returns : tie.Need-returns
 returns c =
@@ -29,29 +45,15 @@ returns-2 c =
     (not-so _ (c .if2 .taken))
 
 mul-least : tie.Need-mul-least
-mul-least c =
-    let at-store = c .before .before in
-    let at-search = at-store .before in
-    let at-start = at-search .before .before .before .before .before .before .before in
-    let q = at-search .search .ensures .inside (so _ (c .if2 .left)) in
-    omega (arith, at-start .good, q .store, q .few, q .before-few, at-store .store .given)
+mul-least c = omega (arith, start-of c .good, inside c .store, inside c .few, inside c .before-few)
 
 sub-least : tie.Need-sub-least
-sub-least c =
-    let at-store = c .before .before in
-    let at-search = at-store .before in
-    let at-start = at-search .before .before .before .before .before .before .before in
-    let q = at-search .search .ensures .inside (so _ (c .if2 .left)) in
-    omega (arith, at-start .good, q .store, q .few, q .before-few, at-store .store .given)
+sub-least c = omega (arith, start-of c .good, inside c .store, inside c .few, inside c .before-few)
 
 part-least-start : tie.Need-part-least-start
 part-least-start c =
     let at-if2 = c .before in
-    let at-store = at-if2 .before .before in
-    let at-search = at-store .before in
-    let at-start = at-search .before .before .before .before .before .before .before in
-    let q = at-search .search .ensures .inside (so _ (at-if2 .if2 .left)) in
-    omega (arith, at-start .good, q .store, q .few, q .before-few, at-store .store .given)
+    omega (arith, start-of at-if2 .good, inside at-if2 .store, inside at-if2 .few, inside at-if2 .before-few)
 
 part-least-end : tie.Need-part-least-end
 part-least-end c = search needs
@@ -59,38 +61,22 @@ part-least-end c = search needs
 least-requires : tie.Need-least-requires
 least-requires c κs =
     let at-if2 = c .before .before in
-    let at-store = at-if2 .before .before in
-    let at-search = at-store .before in
-    let at-start = at-search .before .before .before .before .before .before .before in
-    let q = at-search .search .ensures .inside (so _ (at-if2 .if2 .left)) in
-    omega (arith, at-start .good, q .store, q .few, q .before-few, at-store .store .given)
+    omega (arith, start-of at-if2 .good, inside at-if2 .store, inside at-if2 .few, inside at-if2 .before-few)
 
 mul-first-of : tie.Need-mul-first-of
 mul-first-of c =
     let at-if2 = c .before .before .before in
-    let at-store = at-if2 .before .before in
-    let at-search = at-store .before in
-    let at-start = at-search .before .before .before .before .before .before .before in
-    let q = at-search .search .ensures .inside (so _ (at-if2 .if2 .left)) in
-    omega (arith, at-start .good, q .store, q .few, q .before-few, at-store .store .given)
+    omega (arith, start-of at-if2 .good, inside at-if2 .store, inside at-if2 .few, inside at-if2 .before-few)
 
 sub-first-of : tie.Need-sub-first-of
 sub-first-of c =
     let at-if2 = c .before .before .before in
-    let at-store = at-if2 .before .before in
-    let at-search = at-store .before in
-    let at-start = at-search .before .before .before .before .before .before .before in
-    let q = at-search .search .ensures .inside (so _ (at-if2 .if2 .left)) in
-    omega (arith, at-start .good, q .store, q .few, q .before-few, at-store .store .given)
+    omega (arith, start-of at-if2 .good, inside at-if2 .store, inside at-if2 .few, inside at-if2 .before-few)
 
 part-first-of-start : tie.Need-part-first-of-start
 part-first-of-start c =
     let at-if2 = c .before .before .before .before in
-    let at-store = at-if2 .before .before in
-    let at-search = at-store .before in
-    let at-start = at-search .before .before .before .before .before .before .before in
-    let q = at-search .search .ensures .inside (so _ (at-if2 .if2 .left)) in
-    omega (arith, at-start .good, q .store, q .few, q .before-few, at-store .store .given)
+    omega (arith, start-of at-if2 .good, inside at-if2 .store, inside at-if2 .few, inside at-if2 .before-few)
 
 part-first-of-end : tie.Need-part-first-of-end
 part-first-of-end c = search needs
@@ -98,38 +84,22 @@ part-first-of-end c = search needs
 first-of-requires : tie.Need-first-of-requires
 first-of-requires c κs =
     let at-if2 = c .before .before .before .before .before in
-    let at-store = at-if2 .before .before in
-    let at-search = at-store .before in
-    let at-start = at-search .before .before .before .before .before .before .before in
-    let q = at-search .search .ensures .inside (so _ (at-if2 .if2 .left)) in
-    omega (arith, at-start .good, q .store, q .few, q .before-few, at-store .store .given)
+    omega (arith, start-of at-if2 .good, inside at-if2 .store, inside at-if2 .few, inside at-if2 .before-few)
 
 mul-squeeze : tie.Need-mul-squeeze
 mul-squeeze c =
     let at-if2 = c .before .before .before .before .before .before in
-    let at-store = at-if2 .before .before in
-    let at-search = at-store .before in
-    let at-start = at-search .before .before .before .before .before .before .before in
-    let q = at-search .search .ensures .inside (so _ (at-if2 .if2 .left)) in
-    omega (arith, at-start .good, q .store, q .few, q .before-few, at-store .store .given)
+    omega (arith, start-of at-if2 .good, inside at-if2 .store, inside at-if2 .few, inside at-if2 .before-few)
 
 sub-squeeze : tie.Need-sub-squeeze
 sub-squeeze c =
     let at-if2 = c .before .before .before .before .before .before in
-    let at-store = at-if2 .before .before in
-    let at-search = at-store .before in
-    let at-start = at-search .before .before .before .before .before .before .before in
-    let q = at-search .search .ensures .inside (so _ (at-if2 .if2 .left)) in
-    omega (arith, at-start .good, q .store, q .few, q .before-few, at-store .store .given)
+    omega (arith, start-of at-if2 .good, inside at-if2 .store, inside at-if2 .few, inside at-if2 .before-few)
 
 part-squeeze-start : tie.Need-part-squeeze-start
 part-squeeze-start c =
     let at-if2 = c .before .before .before .before .before .before in
-    let at-store = at-if2 .before .before in
-    let at-search = at-store .before in
-    let at-start = at-search .before .before .before .before .before .before .before in
-    let q = at-search .search .ensures .inside (so _ (at-if2 .if2 .left)) in
-    omega (arith, at-start .good, q .store, q .few, q .before-few, at-store .store .given)
+    omega (arith, start-of at-if2 .good, inside at-if2 .store, inside at-if2 .few, inside at-if2 .before-few)
 
 part-squeeze-end : tie.Need-part-squeeze-end
 part-squeeze-end c = search needs
@@ -137,11 +107,7 @@ part-squeeze-end c = search needs
 squeeze-requires : tie.Need-squeeze-requires
 squeeze-requires c κs =
     let at-if2 = c .before .before .before .before .before .before .before in
-    let at-store = at-if2 .before .before in
-    let at-search = at-store .before in
-    let at-start = at-search .before .before .before .before .before .before .before in
-    let q = at-search .search .ensures .inside (so _ (at-if2 .if2 .left)) in
-    omega (arith, at-start .good, q .store, q .few, q .before-few, at-store .store .given)
+    omega (arith, start-of at-if2 .good, inside at-if2 .store, inside at-if2 .few, inside at-if2 .before-few)
 
 cast-length : tie.Need-cast-length
 cast-length c = search needs

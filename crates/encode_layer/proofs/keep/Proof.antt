@@ -1,8 +1,9 @@
 -- `encode_layer::keep` meets its contract: drops the nodes of the layer that cost over most, which lower the floor, the others moved down.
 use mathlib.Core.Path.{refl, ap, _∙_}
 use mathlib.Core.Logic.{⊎-elim}
-use Prim.Native.Nat.{ℕ, _+_, _-_}
+use Prim.Native.Nat.{ℕ, _+_, _-_, _*_, _≤_}
 use native.Mathlib.Omega.{arith}
+use lib.ListN.{getD}
 use Rattle.coding.specs.Search.{lower}
 use Rattle.encode_layer.proofs.Costs.{Floored, floored-kept, floored-dropped, floored-end, cost-bound}
 use Rattle.encode_layer.proofs.Keeping.{Going, going-start, same-cost, going-drop, going-keep, going-end}
@@ -63,8 +64,12 @@ put-node-requires c κs = omega arith
 add-kept : tie.Need-add-kept Inv-loop μ-loop
 add-kept c = omega arith
 
-add-lower : tie.Need-add-lower Inv-loop μ-loop
-add-lower c =
+-- the cost of a dropped node is small
+cost-small : (c : tie.Else1 Inv-loop μ-loop) →
+    let at-loop = c .before .before .before in
+    let a = at-loop .before .before .args in
+    getD (at-loop .loop .store) ((a .from + at-loop .loop .i) * 4 + 1) 0 ≤ 65535
+cost-small c =
     let at-loop = c .before .before .before in
     let at-start = at-loop .before .before in
     let a = at-start .args in
@@ -75,17 +80,11 @@ add-lower c =
       cost-bound (a .store .now) (a .from) (a .count) (at-start .pre .0) (at-start .pre .2) (at .i) (omega arith),
     )
 
+add-lower : tie.Need-add-lower Inv-loop μ-loop
+add-lower c = omega (arith, cost-small c)
+
 lower-requires : tie.Need-lower-requires Inv-loop μ-loop
-lower-requires c κs =
-    let at-loop = c .before .before .before in
-    let at-start = at-loop .before .before in
-    let a = at-start .args in
-    let at = at-loop .loop in
-    omega (
-      arith,
-      same-cost (a .store .now) (a .from) (a .count) (a .most) (at-start .pre .0) (at .store) (at .i) (at .kept) (at .inv .0) (omega arith),
-      cost-bound (a .store .now) (a .from) (a .count) (at-start .pre .0) (at-start .pre .2) (at .i) (omega arith),
-    )
+lower-requires c κs = omega (arith, cost-small c)
 
 add-i : tie.Need-add-i Inv-loop μ-loop
 add-i c = omega arith
