@@ -1,4 +1,4 @@
--- The store that a search needs: question 7. The search itself does not ask it.
+-- The store that a search needs: question 7, in the words of request 7. The search itself does not ask it.
 use Prim.Native.Nat.{ℕ, _+_, _*_, _/_}
 use mathlib.Core.Bool.{Bool}
 use mathlib.Core.List.{List, [], _∷_, map}
@@ -8,7 +8,7 @@ use Rattle.questions.specs.Questions.{all}
 use Rattle.coding.specs.Candidates.{Cand}
 use Rattle.coding.specs.Search.{Node, reach, top, keep, alone}
 
--- how many states a layer finds and reaches: kept two or more layers back, kept in the previous layer, reached in it before dropping
+-- the states that question 7 counts at a layer: kept two or more layers back, kept in the previous layer, reached in this one before dropping
 pub record Counts : Type 0 where
   pub older : ℕ
   pub previous : ℕ
@@ -41,7 +41,7 @@ unfoldable pub fit : ℕ → List ℕ → Bool
 unfolding all
 fit storeRoom ns = all (λ n. leb n storeRoom) ns
 
--- The older count, with which the laws compare: "the states kept in all layers before it, the start included, plus those reached in it before
+-- The older count, 01's, with which the laws compare: "the states kept in all layers before it, the start included, plus those reached in it before
 -- dropping", "four to a state, a remainder unused"
 abbrev pub states : Counts → ℕ
 states n = n .older + n .previous + n .reached

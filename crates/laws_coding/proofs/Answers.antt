@@ -142,15 +142,15 @@ whatever-store c n h k =
     (λ x. h (number-is (refusal c .number) (refusal c .place) c ∙ x)) (λ x. k (number-is (refusal (lending c n) .number) (refusal (lending c n) .place) (lending c n) ∙ x)) in
     subst (λ (r : Refusal). Alike (outcome c) (outcomeOf r (lending c n))) e (alike (refusal c .number) (refusal c .place) c n)
 
--- what fits a store fits a larger one
-fit-more : (a b : ℕ) → a ≤ b → (ns : List ℕ) → fit a ns ≡ true → fit b ns ≡ true
+-- what fits by one count fits by another that is no more than the room allows
+fit-by : (f g : Counts → ℕ) (a b : ℕ) → ((n : Counts) → f n ≤ a → g n ≤ b) → (l : List Counts) → fit a (map f l) ≡ true → fit b (map g l) ≡ true
 unfolding fit
-fit-more a b h [] e = refl
-fit-more a b h (n ∷ ns) e = go (leb n a) refl e (fit-more a b h ns)
+fit-by f g a b h [] e = refl
+fit-by f g a b h (n ∷ l) e = go (leb (f n) a) refl e (fit-by f g a b h l)
   where
-    go : (t : Bool) → leb n a ≡ t → (t && fit a ns) ≡ true → (fit a ns ≡ true → fit b ns ≡ true) → (leb n b && fit b ns) ≡ true
-    go true k e f = let q : n ≤ b = omega (arith, leb-true n a k) in rw (le-leb n b q) (f e)
-    go false k e f = absurd (false≢true e)
+    go : (t : Bool) → leb (f n) a ≡ t → (t && fit a (map f l)) ≡ true → (fit a (map f l) ≡ true → fit b (map g l) ≡ true) → (leb (g n) b && fit b (map g l)) ≡ true
+    go true k e r = rw (le-leb (g n) b (h n (leb-true (f n) a k))) (r e)
+    go false k e r = absurd (false≢true e)
 
 not-eight : (room : ℕ) (k : Coded) → question8 room k .number ≡ 7 → ⊥
 unfolding question8
@@ -161,28 +161,17 @@ not-eight room k = go (leb (length (k .out)) room)
     go false e = absurd (omega arith)
 
 pub with-more : MoreStore
-unfolding outcome refusal question4 question5 question6 question7
+unfolding outcome refusal question4 question5 question6 question7 needs
 with-more c n h m =
     whatever-store c n h (λ e. h (number-is (refusal c .number) (refusal c .place) c ∙
     seven (first c) (firstFault (c .text)) (baseless false (tokens (c .text))) (without (ordering c) (choices c)) (fits c (c .storeRoom)) (fits c n) (question8 (c .codingRoom) (coding c))
-    (fit-more (c .storeRoom) n m (needs (choices c) (c .initial))) (not-eight (c .codingRoom) (coding c))
+    (fit-by numbers numbers (c .storeRoom) n (λ x k. omega arith) (counts (choices c) (c .initial))) (not-eight (c .codingRoom) (coding c))
     (sym (number-is (refusal (lending c n) .number) (refusal (lending c n) .place) (lending c n)) ∙ e)))
 
 -- a layer's states in four numbers each
 pub four-each : (l : List Counts) → All (λ n. numbers n ≤ 4 * states n) l
 four-each [] = tt
 four-each (n ∷ l) = (omega arith, four-each l)
-
--- what fits by the older count fits
-fit-states : (room : ℕ) (l : List Counts) → fit (room / 4) (map states l) ≡ true → fit room (map numbers l) ≡ true
-unfolding fit
-fit-states room [] e = refl
-fit-states room (n ∷ l) e = go (leb (states n) (room / 4)) refl e (fit-states room l)
-  where
-    go : (t : Bool) → leb (states n) (room / 4) ≡ t → (t && fit (room / 4) (map states l)) ≡ true → (fit (room / 4) (map states l) ≡ true → fit room (map numbers l) ≡ true) →
-        (leb (numbers n) room && fit room (map numbers l)) ≡ true
-    go true k e f = let q : numbers n ≤ room = omega (arith, leb-true (states n) (room / 4) k) in rw (le-leb (numbers n) room q) (f e)
-    go false k e f = absurd (false≢true e)
 
 not-answered : (q : ℕ) (t : Text) (b w : Option ℕ) (fits : Bool) (more : Refusal) → q ≤ 3 → fits ≡ true → (more .number ≡ 7 → ⊥) →
     answers q t b w (cond fits more (refuse 7 0)) .number ≡ 7 → ⊥
@@ -197,7 +186,8 @@ pub still-fits : (c : Lent) → fitStates (c .storeRoom) (needsStates (choices c
 unfolding outcome refusal question4 question5 question6 question7 firstRefusal needs needsStates
 still-fits c f e =
     not-answered (first c) (firstFault (c .text)) (baseless false (tokens (c .text))) (without (ordering c) (choices c)) (fits c (c .storeRoom)) (question8 (c .codingRoom) (coding c))
-    (three (cellsHold (c .cells)) (optionsHold (c .initial) (c .width)) (lengthHolds encodeLimit (length (c .text)))) (fit-states (c .storeRoom) (counts (choices c) (c .initial)) f)
+    (three (cellsHold (c .cells)) (optionsHold (c .initial) (c .width)) (lengthHolds encodeLimit (length (c .text))))
+    (fit-by states numbers (c .storeRoom / 4) (c .storeRoom) (λ x k. omega arith) (counts (choices c) (c .initial)) f)
     (not-eight (c .codingRoom) (coding c)) (sym (number-is (refusal c .number) (refusal c .place) c) ∙ e)
 
 pub accepted-still : (c : Lent) (n : ℕ) → outcome (lending c n) .refused ≡ 0 → fitStates (c .storeRoom) (needsStates (choices c) (c .initial)) ≡ true → outcome c .refused ≡ 0
