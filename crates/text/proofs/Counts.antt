@@ -22,8 +22,11 @@ use Rattle.clean.specs.declared.CleanAnswer.{CleanAnswer}
 use Rattle.key.specs.Key as key
 use Rattle.key.specs.Contracts as keys
 use Rattle.key.specs.declared.KeyAnswer.{KeyAnswer}
+use Rattle.catalogue.specs.Catalogue as catalogue
+use Rattle.catalogue.specs.Contracts as catalogues
+use Rattle.catalogue.specs.declared.Found as found
 use Rattle.text_counts.specs.Counts.{fronted, escapeStart}
-use Rattle.text.specs.Calls.{counts, Decodes, Escapes, measureCounts, Measures, cleanCounts, Cleans, keyCounts, Keys, codingCounts, Codes}
+use Rattle.text.specs.Calls.{counts, Decodes, Escapes, measureCounts, Measures, cleanCounts, Cleans, keyCounts, Keys, addCounts, Adds, findCounts, Finds, codingCounts, Codes}
 
 -- an answer whose numbers were reported
 pub decodes : {c : Lent} {a : Answer} {before after t i : List ℕ} {n p x y z u : ℕ} → decoded.Answered c a t i
@@ -57,6 +60,22 @@ keyed v n p x y e = record {
   counted = e ∙ rw (p ∙ v .place, x ∙ v .counted, y ∙ v .charged) refl;
   written = v .written;
 }
+
+pub adds : {c : catalogue.Lent} {a : KeyAnswer} {before after s b : List ℕ} {n p x y : ℕ} → catalogues.Added c a s b
+    → n ≡ keys.numberOf a → p ≡ keys.placeOf a → x ≡ keys.lenOf a → y ≡ keys.chargedOf a
+    → after ≡ fronted before (p ∷ x ∷ y ∷ []) → Adds c before n s b after
+unfolding addCounts
+adds v n p x y e = record {
+  number = n ∙ v .number;
+  counted = e ∙ rw (p ∙ v .place, x ∙ v .counted, y ∙ v .charged) refl;
+  stored = v .stored;
+  written = v .written;
+}
+
+pub finds : {store k before after : List ℕ} {a : found.Found} → catalogues.Finds store k a
+    → after ≡ fronted before (0 ∷ a .entries ∷ a .number ∷ []) → Finds store k before (a .refused) after
+unfolding findCounts
+finds v e = record { number = v .number; counted = e ∙ rw (v .counted, v .smallest) refl }
 
 pub coded : {c : coding.Lent} {a : encoded.Answer} {before after s b : List ℕ} {n p x y : ℕ} → codes.Answered c a s b
     → n ≡ codes.numberOf a → p ≡ codes.placeOf a → x ≡ codes.lengthOf a → y ≡ codes.gapOf a

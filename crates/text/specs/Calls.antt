@@ -9,6 +9,7 @@ use Rattle.coding.specs.Call as coding
 use Rattle.measure.specs.Measure as measure
 use Rattle.clean.specs.Clean as clean
 use Rattle.key.specs.Key as key
+use Rattle.catalogue.specs.Catalogue as catalogue
 use Rattle.text_counts.specs.Counts.{fronted, escapeStart}
 
 -- The counts of a decoding: place, bytes of text, issues, charge, private-use characters. "A refusal gives the number and the byte place (0 except for 4, 5, 6), with all counts
@@ -56,6 +57,31 @@ pub record Keys (c : key.Lent) (before : List ℕ) (r : ℕ) (buffer after : Lis
   pub number : r ≡ key.outcome c .refused
   pub counted : after ≡ fronted before (keyCounts (key.outcome c))
   pub written : buffer ≡ key.outcome c .buffer
+
+-- The counts of an add: those of its key. It asks none of 4, 5 and 6.
+unfoldable pub addCounts : catalogue.Added → List ℕ
+addCounts o = 0 ∷ o .len ∷ o .charged ∷ []
+
+-- the number of the refusal as the result (0: none), the counts, and every byte of store and buffer
+pub record Adds (c : catalogue.Lent) (before : List ℕ) (r : ℕ) (store buffer after : List ℕ) : Type 0 where
+  pub number : r ≡ catalogue.added c .refused
+  pub counted : after ≡ fronted before (addCounts (catalogue.added c))
+  pub stored : store ≡ catalogue.added c .store
+  pub written : buffer ≡ catalogue.added c .buffer
+
+-- the number of the refusal as the result (0: none), and every byte of the store
+pub record Removes (before : List ℕ) (number r : ℕ) (after : List ℕ) : Type 0 where
+  pub refused : r ≡ catalogue.removed before number .refused
+  pub stored : after ≡ catalogue.removed before number .store
+
+-- The counts of a find: place, entries that have the key, the smallest of their numbers. It asks none of 4, 5 and 6.
+unfoldable pub findCounts : catalogue.Found → List ℕ
+findCounts o = 0 ∷ o .entries ∷ o .number ∷ []
+
+-- the number of the refusal as the result (0: none), and the counts
+pub record Finds (store k before : List ℕ) (r : ℕ) (after : List ℕ) : Type 0 where
+  pub number : r ≡ catalogue.found store k .refused
+  pub counted : after ≡ fronted before (findCounts (catalogue.found store k))
 
 -- The counts of a coding: place, bytes of the coding, gap.
 unfoldable pub codingCounts : coding.Outcome → List ℕ

@@ -3,8 +3,9 @@
 ghost use Rattle.decode.specs.Answers.{lent};
 ghost use Rattle.reading.specs.WithoutBuffers as unbuffered;
 ghost use Rattle.key.specs.Contracts as keys;
+ghost use Rattle.catalogue.specs.Contracts as catalogues;
 ghost use Rattle.encode.specs.Answers as codes;
-ghost use Rattle.text.specs.Calls.{Decodes, Escapes, Measures, Cleans, Keys, Codes};
+ghost use Rattle.text.specs.Calls.{Decodes, Escapes, Measures, Cleans, Keys, Adds, Removes, Finds, Codes};
 
 /// `decode_with`: the counts are the place of a refusal, then the text's bytes, the issues, the charge
 /// and the private-use characters. Answers the number of the refusal, 0 for none.
@@ -107,6 +108,48 @@ pub extern "C" fn arib_key(
     let numbers = [key::values::len(answer), key::values::charged(answer)];
     text_counts::report(counts, key::values::place(answer), &numbers);
     key::values::number(answer)
+}
+
+/// Adds a title to a catalogue, with a number of the caller's own: the counts are the place of a refusal, then the key's
+/// bytes and the charge. Answers the number of the refusal, 0 for none.
+#[no_mangle]
+pub extern "C" fn arib_catalogue_add(
+    cells: &[u16],
+    initial: u32,
+    width: u32,
+    title: &[u8],
+    number: u32,
+    store: &mut [u8],
+    key: &mut [u8],
+    counts: &mut [usize],
+) -> u32
+    ensures { λ r. ⌜ Adds (catalogues.lent (keys.lent (now (cells .entry)) initial width (now (title .entry)) (now (key .entry))) number (now (store .entry)))
+        (now (counts .entry)) r (now (store .exit)) (now (key .exit)) (now (counts .exit)) ⌝ }
+{
+    let answer = catalogue::add(cells, initial, width, title, number, store, key);
+    let numbers = [key::values::len(answer), key::values::charged(answer)];
+    text_counts::report(counts, key::values::place(answer), &numbers);
+    key::values::number(answer)
+}
+
+/// Removes the entry of a number from a catalogue. Answers the number of the refusal, 0 for none.
+#[no_mangle]
+pub extern "C" fn arib_catalogue_remove(store: &mut [u8], number: u32) -> u32
+    ensures { λ r. ⌜ Removes (now (store .entry)) number r (now (store .exit)) ⌝ }
+{
+    catalogue::remove(store, number)
+}
+
+/// Finds the entries of a catalogue that have a key: the counts are the place of a refusal, then the entries and the
+/// smallest of their numbers. Answers the number of the refusal, 0 for none.
+#[no_mangle]
+pub extern "C" fn arib_catalogue_find(store: &[u8], key: &[u8], counts: &mut [usize]) -> u32
+    ensures { λ r. ⌜ Finds (now (store .entry)) (now (key .entry)) (now (counts .entry)) r (now (counts .exit)) ⌝ }
+{
+    let found = catalogue::find(store, key);
+    let numbers = [found.entries, found.number as usize];
+    text_counts::report(counts, 0, &numbers);
+    found.refused
 }
 
 /// `encode_with`: the counts are the place of a refusal, then the coding's bytes and the gap. Answers

@@ -1,0 +1,4 @@
+pub mod Order
+pub mod Calls
+pub mod Laws
+pub mod Answers

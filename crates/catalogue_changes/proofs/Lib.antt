@@ -1,0 +1,3 @@
+pub mod Keys
+pub mod Bodies
+pub mod Stores

@@ -1,0 +1,31 @@
+-- `new` meets its contract: a key is new where no entry has it. Assumes nothing.
+use Prim.Native.Nat.{ℕ}
+use mathlib.Core.Path.{_≡_, sym, ap, _∙_}
+use mathlib.Core.Bool.{Bool, cond}
+use borrow.Author.Tests.{eq-eqb, ne-eqb}
+use Rattle.catalogue_form.specs.Form.{entriesOf}
+use Rattle.catalogue_changes.proofs.Keys.{among-having}
+use borrow.Author.Needs.{needs}
+use borrow.Author.Needs.{needs}
+use Rattle.catalogue_changes.proofs.new.Statement.{statement}
+use Rattle.catalogue_changes.proofs.new.Tie as tie
+
+having-requires : tie.Need-having-requires
+having-requires c κs = search needs
+
+returns : tie.Need-returns
+returns c =
+    let at-having = c .before .before in
+    let at-start = at-having .before .before .before in
+    let h = at-having .having .ensures .0 in
+    sym (among-having (at-start .args .key .now) (entriesOf (at-start .args .n) (at-start .args .places .now)) ∙ ap (λ (t : Bool). cond {A = ℕ} t 1 0) (eq-eqb _ 0 (sym h ∙ c .if1 .taken)))
+
+returns-2 : tie.Need-returns-2
+returns-2 c =
+    let at-having = c .before .before in
+    let at-start = at-having .before .before .before in
+    let h = at-having .having .ensures .0 in
+    sym (among-having (at-start .args .key .now) (entriesOf (at-start .args .n) (at-start .args .places .now)) ∙ ap (λ (t : Bool). cond {A = ℕ} t 1 0) (ne-eqb _ 0 (λ e. c .if1 .left (h ∙ e))))
+
+pub new-spec : {M : Type 1} → statement M
+new-spec = tie.close (tie.spec having-requires returns returns-2)

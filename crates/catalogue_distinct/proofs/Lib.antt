@@ -1,0 +1,11 @@
+pub mod Same
+pub mod Counting
+pub mod Order
+pub mod Bytes
+pub mod Runs
+pub mod Choosing
+pub mod Merging
+pub mod Slices
+pub mod Standing
+pub mod Sorting
+pub mod Lending
