@@ -1,5 +1,6 @@
 /* Reads, codes and keys a title, counts its private-use characters, asks whether it is clean and
- * how much room it takes: the calls of arib_text.h, as a test. c/test builds and runs it. */
+ * how much room it takes, keeps titles in a catalogue: the calls of arib_text.h, as a test. c/test
+ * builds and runs it. */
 #include <assert.h>
 #include <stdio.h>
 #include <stdlib.h>
@@ -216,6 +217,81 @@ static void allocates(void)
     free(issues);
 }
 
+/* A catalogue, and its bytes before a call. */
+static uint8_t catalogue[ARIB_CATALOGUE_BYTES], before[ARIB_CATALOGUE_BYTES];
+static uint8_t key[512];
+static size_t counts[3];
+
+static uint32_t adds(const uint8_t *title, size_t title_len, uint32_t number)
+{
+    return arib_catalogue_add(cells, 8836, 0, 0, title, title_len, number, catalogue,
+                              sizeof catalogue, key, sizeof key, counts, 3);
+}
+
+static uint32_t removes(uint32_t number)
+{
+    return arib_catalogue_remove(catalogue, sizeof catalogue, number);
+}
+
+static uint32_t finds(const char *sought)
+{
+    return arib_catalogue_find(catalogue, sizeof catalogue, (const uint8_t *)sought, strlen(sought),
+                               counts, 3);
+}
+
+static int unchanged(void)
+{
+    return memcmp(catalogue, before, sizeof catalogue) == 0;
+}
+
+/* ＮＨＫ and NHK, two spellings of one series, are found together. */
+static void catalogues(void)
+{
+    const uint8_t wide[] = {0x0E, 0x4E, 0x48, 0x4B}, narrow[] = {0x89, 0x0E, 0x4E, 0x48, 0x4B};
+    assert(finds("NHK") == 0 && counts[0] == 0 && counts[1] == 0 && counts[2] == 0);
+    assert(adds(wide, sizeof wide, 9) == 0 && counts[1] == 3 && memcmp(key, "NHK\0", 5) == 0);
+    assert(adds(narrow, sizeof narrow, 7) == 0 && counts[1] == 3 && memcmp(key, "NHK\0", 5) == 0);
+    const uint8_t first[] = {0, 0, 0, 2, 0, 0, 0, 1, 0, 0, 0, 7, 3, 'N', 'H', 'K', 0};
+    assert(memcmp(catalogue, first, sizeof first) == 0);
+    assert(finds("NHK") == 0 && counts[0] == 0 && counts[1] == 2 && counts[2] == 7);
+    printf("0E 4E 48 4B and 89 0E 4E 48 4B are %zu entries of NHK, the smallest %zu\n", counts[1],
+           counts[2]);
+    assert(removes(7) == 0);
+    assert(finds("NHK") == 0 && counts[1] == 1 && counts[2] == 9);
+    printf("with 7 removed NHK has %zu entry, %zu\n", counts[1], counts[2]);
+    assert(removes(9) == 0 && unchanged());
+}
+
+/* Keys of 255 and 258 bytes; as many entries as there is room for, and one more. */
+static void refuses_entries(void)
+{
+    static const uint8_t zeros[sizeof key];
+    uint8_t kana[86];
+    memset(kana, 0xA2, sizeof kana);
+    for (uint32_t i = 0; i < ARIB_CATALOGUE_ENTRIES; i++)
+        assert(adds(kana, 85, 2 * i) == 0 && counts[1] == ARIB_CATALOGUE_KEY);
+    memcpy(before, catalogue, sizeof before);
+    assert(adds(kana, 85, 1) == 14 && counts[0] == 0 && counts[1] == 0 && counts[2] == 0);
+    assert(memcmp(key, zeros, sizeof key) == 0);
+    assert(adds(kana, 86, 1) == 13);
+    assert(adds(kana, 86, 0) == 12);
+    assert(removes(1) == 12 && unchanged());
+}
+
+/* A count that is not right, and a byte too few, before all else. */
+static void refuses_catalogues(void)
+{
+    const uint8_t damaged[] = {0x24, 0xA2};
+    catalogue[7]++;
+    memcpy(before, catalogue, sizeof before);
+    counts[1] = 7;
+    assert(finds("") == 12 && counts[0] == 0 && counts[1] == 0 && counts[2] == 0);
+    assert(adds(damaged, 2, 1) == 12 && removes(0) == 12 && unchanged());
+    catalogue[7]--;
+    assert(finds("") == 0 && adds(damaged, 2, 1) == 10);
+    assert(arib_catalogue_remove(catalogue, sizeof catalogue - 1, 0) == 12);
+}
+
 int main(int argc, char **argv)
 {
     assert(argc == 2);
@@ -230,5 +306,8 @@ int main(int argc, char **argv)
     asks();
     measures();
     allocates();
+    catalogues();
+    refuses_entries();
+    refuses_catalogues();
     return 0;
 }

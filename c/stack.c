@@ -14,6 +14,7 @@ enum { STACK = 1 << 22, PATTERN = 0x5A, CAPTION = 1 };
 static uint16_t cells[8836];
 static uint8_t input[256], text[1 << 20], coding[65536];
 static uint32_t issues[1 << 16], store[1 << 20];
+static uint8_t catalogue[ARIB_CATALOGUE_BYTES], kept[ARIB_CATALOGUE_BYTES];
 static size_t input_len, counts[5];
 
 /* Kana in rows 4 and 5, and in the other rows that may hold characters one after another. */
@@ -103,6 +104,53 @@ static void *encodes(void *unused)
     return unused;
 }
 
+/* Four bytes of a number. */
+static void number_at(uint8_t *bytes, uint32_t number)
+{
+    for (int i = 0; i < 4; i++)
+        bytes[i] = (uint8_t)(number >> (24 - 8 * i));
+}
+
+/* So many entries, numbered 1, 3, 5 and on, each with a key of its own of 255 bytes. */
+static void fill_catalogue(uint32_t entries)
+{
+    memset(kept, 0, sizeof kept);
+    number_at(kept, entries);
+    number_at(kept + 4, entries);
+    for (uint32_t i = 0; i < entries; i++) {
+        uint8_t *place = kept + 8 + 260 * i;
+        number_at(place, 2 * i + 1);
+        memset(place + 4, 255, 256);
+        place[5] = (uint8_t)i;
+        place[6] = (uint8_t)(i >> 8);
+    }
+}
+
+/* The number that is added or removed. With 0 the input is sought, else the key of the first place. */
+static uint32_t number;
+
+static void *adds(void *unused)
+{
+    arib_catalogue_add(cells, 8836, CAPTION, 0, input, input_len, number, catalogue, sizeof catalogue, text,
+                       sizeof text, counts, 3);
+    return unused;
+}
+
+static void *removes(void *unused)
+{
+    arib_catalogue_remove(catalogue, sizeof catalogue, number);
+    return unused;
+}
+
+static void *finds(void *unused)
+{
+    if (number == 0)
+        arib_catalogue_find(catalogue, sizeof catalogue, input, input_len, counts, 3);
+    else
+        arib_catalogue_find(catalogue, sizeof catalogue, kept + 13, 255, counts, 3);
+    return unused;
+}
+
 static void *nothing(void *unused)
 {
     return unused;
@@ -134,9 +182,28 @@ static size_t reading(void *(*run)(void *), int deepest)
     for (int deep = 0; deep <= deepest; deep++)
         for (size_t i = 0; i < sizeof innermost / sizeof *innermost; i++) {
             nest(innermost[i], deep);
+            memcpy(catalogue, kept, sizeof catalogue);
             size_t n = used(run);
             most = n > most ? n : most;
         }
+    return most;
+}
+
+/* Of a call over a catalogue: empty, with one entry, with room for one more, and full; a number that is there, and two
+ * that are not, before the first and behind the last. */
+static size_t holding(void *(*run)(void *), int deepest)
+{
+    static const uint32_t entries[] = {0, 1, ARIB_CATALOGUE_ENTRIES - 1, ARIB_CATALOGUE_ENTRIES};
+    static const uint32_t numbers[] = {0, 1, UINT32_MAX};
+    size_t most = 0;
+    for (size_t i = 0; i < sizeof entries / sizeof *entries; i++) {
+        fill_catalogue(entries[i]);
+        for (size_t j = 0; j < sizeof numbers / sizeof *numbers; j++) {
+            number = numbers[j];
+            size_t n = reading(run, deepest);
+            most = n > most ? n : most;
+        }
+    }
     return most;
 }
 
@@ -162,5 +229,8 @@ int main(void)
     printf("measure %zu, without macros %zu\n", reading(measures, 5) - none, reading(measures, 0) - none);
     printf("encode %zu\n", writing(encodes) - none);
     printf("unknown escape %zu\n", reading(finds_escape, 0) - none);
+    printf("catalogue add %zu, without macros %zu\n", holding(adds, 5) - none, holding(adds, 0) - none);
+    printf("catalogue remove %zu\n", holding(removes, 0) - none);
+    printf("catalogue find %zu\n", holding(finds, 0) - none);
     return 0;
 }

@@ -18,10 +18,16 @@
  *    9  the issues are more than their buffer holds
  *   10  a title does not read without issue, so it has no key
  *   11  a title's text has a private-use character, so it has no key
+ *   12  the store of a catalogue has another length or form; or the number to add is present, or
+ *       the number to remove absent
+ *   13  the key to add to a catalogue has more than 255 bytes
+ *   14  the catalogue to add to has 1,024 entries
  *
  * Refused or not, every element of every buffer is written: behind the result stand zeros, and
- * after a refusal zeros throughout. `counts` gets as many of its numbers as it has room for, and
- * what it has beyond them stays as it was; after a refusal all but the place are 0.
+ * after a refusal zeros throughout. The store of a catalogue is not such a buffer: it is lent with
+ * what it holds, and a refusal leaves every byte of it as it was. `counts` gets as many of its
+ * numbers as it has room for, and what it has beyond them stays as it was; after a refusal all but
+ * the place are 0.
  *
  * A private-use character is one from U+E000 to U+F8FF. Unicode gives it no shape, so that most
  * screens show a box. Some additional symbols are read as such, and a cell table may hold others.
@@ -90,6 +96,13 @@ enum arib_set {
     ARIB_MACRO
 };
 
+/* The sizes of a catalogue. */
+enum arib_catalogue {
+    ARIB_CATALOGUE_BYTES = 266248,  /* of its store, whatever it holds */
+    ARIB_CATALOGUE_ENTRIES = 1024,  /* at most */
+    ARIB_CATALOGUE_KEY = 255        /* bytes of an entry's key, at most */
+};
+
 /* Decodes a string to UTF-8. counts: place, bytes of text, issues, charge (the bytes of the macro
  * bodies that ran), private-use characters of the text. Of these each repeat is counted; U+FFFD,
  * which stands for a code without a character, is none. A program that lends four counts gets the
@@ -124,7 +137,7 @@ uint32_t arib_encode(const uint16_t *cells, size_t cells_len, uint32_t initial, 
 /* The key of a title: its text without newline, U+0020 and U+3000, the full-width forms of the 94
  * alphanumerics made half-width (U+FFE5 becomes U+00A5; U+FF3C stays, since backslash is not one of
  * the 94). counts: place, bytes of the key, charge. The buffer must hold the text before removal.
- * Questions 1, 2, 3, 8, 10, 11. Takes at most some 12,000 bytes of stack, as arib_decode does. */
+ * Questions 1, 2, 3, 8, 10, 11. Takes at most some 13,000 bytes of stack on x86-64, by c/stack. */
 uint32_t arib_key(const uint16_t *cells, size_t cells_len, uint32_t initial, uint32_t width,
                   const uint8_t *input, size_t input_len, uint8_t *key, size_t key_len,
                   size_t *counts, size_t counts_len);
@@ -145,6 +158,36 @@ uint32_t arib_clean(const uint16_t *cells, size_t cells_len, uint32_t initial, u
  * Questions 1, 2, 3. Takes at most some 12,000 bytes of stack, as arib_decode does. */
 uint32_t arib_measure(const uint16_t *cells, size_t cells_len, uint32_t initial, uint32_t width,
                       const uint8_t *input, size_t input_len, size_t *counts, size_t counts_len);
+
+/* A catalogue holds entries, each a number of the program's own and the key of a title, in a store
+ * of ARIB_CATALOGUE_BYTES bytes that the program lends to each call. A new one is all zeros. Its
+ * form, numbers big-endian: four bytes count the entries, four the distinct keys among them; then
+ * come ARIB_CATALOGUE_ENTRIES places of 260 bytes, four of number, one of length and 255 of key,
+ * any bytes. Entries stand first, by rising number, no two with one number, and all else is zero.
+ * So what it holds decides every byte. The bytes can be kept in a file and lent again: each call
+ * checks length and form first, the count of distinct keys included, and answers 12 before all
+ * else where they are not right. While a call adds to a store or removes from it, no other call may
+ * run over it. */
+
+/* Adds a title under a number that no entry has. The buffer gets its key; it must hold the text
+ * before removal, as that of arib_key. counts: place, bytes of the key, charge. Question 12 for the
+ * store; then those of arib_key, 1, 2, 3, 8, 10, 11; then 12 for a number that is present, 13, 14.
+ * Takes at most some 13,000 bytes of stack on x86-64, by c/stack. */
+uint32_t arib_catalogue_add(const uint16_t *cells, size_t cells_len, uint32_t initial,
+                            uint32_t width, const uint8_t *title, size_t title_len,
+                            uint32_t number, uint8_t *store, size_t store_len, uint8_t *key,
+                            size_t key_len, size_t *counts, size_t counts_len);
+
+/* Removes the entry of a number. Question 12 for the store, then 12 for a number that is absent.
+ * Takes at most some 11,000 bytes of stack on x86-64, by c/stack. */
+uint32_t arib_catalogue_remove(uint8_t *store, size_t store_len, uint32_t number);
+
+/* Finds the entries that have a key: of any bytes and any length, though none has one of more than
+ * ARIB_CATALOGUE_KEY bytes. counts: place, how many have it, the smallest of their numbers; both
+ * are 0 if none has. Question 12 for the store. Takes at most some 11,000 bytes of stack on x86-64,
+ * by c/stack. */
+uint32_t arib_catalogue_find(const uint8_t *store, size_t store_len, const uint8_t *key,
+                             size_t key_len, size_t *counts, size_t counts_len);
 
 #ifdef __cplusplus
 }

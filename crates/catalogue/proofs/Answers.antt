@@ -1,5 +1,5 @@
 -- The answers of the three calls, from what their functions promise. Assumes nothing.
-use Prim.Native.Nat.{ℕ, zero, suc, _+_, _-_, _*_, _≤_, _<_}
+use Prim.Native.Nat.{ℕ, zero, suc, _-_, _≤_, _<_}
 use mathlib.Core.Path.{_≡_, refl, sym, ap, ap₂, subst, _∙_}
 use mathlib.Core.Bool.{Bool, true, false, cond}
 use mathlib.Core.List.{List, []}
@@ -11,7 +11,7 @@ use lib.Seq.{length-take-le}
 use Rattle.questions.specs.Buffer.{padded}
 use Rattle.questions.proofs.Buffers.{length-padded}
 use Rattle.catalogue_form.specs.Form.{Entry, value, bytes, entriesOf, entries, formed}
-use Rattle.catalogue_form.specs.Entries.{numbered, entered, without, having, smallest}
+use Rattle.catalogue_form.specs.Entries.{numbered, entered, having, smallest}
 use Rattle.catalogue_form.proofs.Forms.{Parts, parts, formed-held, value-bytes}
 use Rattle.catalogue_places.specs.Contracts.{before, headed, firstNumber}
 use Rattle.catalogue_changes.specs.Contracts.{Holds, putAt, takenAt}
@@ -21,10 +21,10 @@ use Rattle.key.specs.Contracts as keys
 use Rattle.key.specs.declared.KeyAnswer.{KeyAnswer}
 use Rattle.key.specs.declared.KeyAnswer.the-variants.{Keyed, Refused}
 use Rattle.key.proofs.Calls.{len-inside, key-bytes}
-use Rattle.catalogue.specs.Catalogue.{Lent, titled, entryRefusal, refusalOf, keyRefusal, addRefusal, addedBy, added, removeRefusal, removedBy, removed, found}
-use Rattle.catalogue.specs.Contracts.{lent, Added, Entered, Removed, Finds}
+use Rattle.catalogue.specs.Catalogue.{Lent, titled, entryRefusal, refusalOf, keyRefusal, addRefusal, addedBy, removedBy}
+use Rattle.catalogue.specs.Contracts.{Added, Entered, Removed, Finds}
 use Rattle.catalogue.proofs.Order.{before-low, numbered-headed, entered-put, without-taken, smallest-first}
-use Rattle.catalogue.proofs.Calls.{added-by, not-formed-add, formed-add, removed-by, removes, removes-not, finds, finds-not}
+use Rattle.catalogue.proofs.Calls.{added-by, formed-add, removed-by, removes, removes-not, finds, finds-not}
 
 pub holds : (store : List ℕ) (n : ℕ) → formed store ≡ true → n ≡ value store → Holds store n
 holds store n f e = record { form = f; count = e ∙ (ap value (formed-held store f .stored) ∙ value-bytes (entries store)) }

@@ -1,18 +1,17 @@
 -- What the three definitions give where they accept, and where they refuse. Assumes nothing.
-use Prim.Native.Nat.{ℕ, zero, suc, _+_, _≤_, _<_}
-use mathlib.Core.Path.{_≡_, refl, sym, ap, subst, _∙_}
+use Prim.Native.Nat.{ℕ, zero, suc, _≤_, _<_}
+use mathlib.Core.Path.{_≡_, refl, sym, ap, subst}
 use mathlib.Core.Bool.{Bool, true, false, cond}
-use mathlib.Core.List.{List, []}
+use mathlib.Core.List.{List}
 use native.Mathlib.Omega.{arith}
 use borrow.Author.Tests.{leb-true, leb-false, le-leb}
 use lib.Dec.{T, leb}
 use lib.ListN.{length}
-use Rattle.questions.specs.Buffer.{padded}
 use Rattle.catalogue_form.specs.Form.{Entry, fits, isCatalogue, bytes, entries, formed}
 use Rattle.catalogue_form.specs.Entries.{numbered, entered, without, having, smallest}
-use Rattle.catalogue_form.proofs.Forms.{Parts, parts, catalogue, formed-held, formed-bytes, entries-bytes}
+use Rattle.catalogue_form.proofs.Forms.{parts, catalogue}
 use Rattle.key.specs.Key as key
-use Rattle.catalogue.specs.Catalogue.{Lent, titled, entryRefusal, refusalOf, keyRefusal, addRefusal, Added, addedBy, added, removeRefusal, removedBy, removed, Found, foundBy, found}
+use Rattle.catalogue.specs.Catalogue.{Lent, titled, entryRefusal, refusalOf, keyRefusal, addRefusal, addedBy, added, removeRefusal, removedBy, removed, foundBy, found}
 use Rattle.catalogue.proofs.Order.{entered-rising, entered-length, entered-fit, without-rising, without-length, without-fit}
 
 false-true : false ≡ true → ⊥
@@ -30,7 +29,8 @@ pub record Free (e : Entry) (es : List Entry) : Type 0 where
 pub passes : (present : Bool) (len n : ℕ) → entryRefusal present len n ≡ 0 → (present ≡ false) × ((len ≤ 255) × (n < 1024))
 passes present len n = go present (leb len 255) (leb 1024 n) refl refl refl
   where
-    go : (a b c : Bool) → present ≡ a → leb len 255 ≡ b → leb 1024 n ≡ c → _≡_ {A = ℕ} (cond a 12 (cond b (cond c 14 0) 13)) 0 → (present ≡ false) × ((len ≤ 255) × (n < 1024))
+    go : (a b c : Bool) → present ≡ a → leb len 255 ≡ b → leb 1024 n ≡ c → _≡_ {A = ℕ} (cond a 12 (cond b (cond c 14 0) 13)) 0
+        → (present ≡ false) × ((len ≤ 255) × (n < 1024))
     go true b c p q r z = absurd (omega arith)
     go false false c p q r z = absurd (omega arith)
     go false true true p q r z = absurd (omega arith)

@@ -1,28 +1,27 @@
 -- The laws of specs/Laws.antt. Assumes nothing.
-use Prim.Native.Nat.{ℕ, zero, suc, min, _+_, _≤_, _<_}
+use Prim.Native.Nat.{ℕ, zero, suc, min, _≤_}
 use mathlib.Core.Path.{_≡_, refl, sym, ap, subst, _∙_}
 use mathlib.Core.Bool.{Bool, true, false, cond}
 use mathlib.Core.List.{List, [], _∷_}
 use native.Mathlib.Omega.{arith}
-use lib.Dec.{T, ltb}
-use lib.ListN.{length, drop, replicate}
+use lib.Dec.{ltb}
+use lib.ListN.{length, drop}
 use Rattle.questions.specs.Buffer.{padded}
 use Rattle.questions.proofs.Buffers.{padded-none}
 use Rattle.base.specs.Lists.{All}
-use Rattle.base.proofs.Every.{all-map}
-use Rattle.key_text.specs.Laws.{SameButWidths}
 use Rattle.catalogue_distinct.specs.Distinct.{same, distinct}
 use Rattle.catalogue_distinct.proofs.Same.{same-refl}
 use Rattle.catalogue_form.specs.Form.{Entry, keys, isCatalogue, value, bytes, entries, formed}
-use Rattle.catalogue_form.specs.Entries.{numbered, entered, without, having, leastFrom, smallest}
+use Rattle.catalogue_form.specs.Entries.{entered, without, having, leastFrom, smallest}
 use Rattle.catalogue_form.specs.Contracts.{Held}
 use Rattle.catalogue_form.proofs.Forms.{T-true, formed-held, formed-bytes, entries-bytes, held-bytes}
 use Rattle.key.specs.Key as key
 use Rattle.key.proofs.OneKey.{readings-one-key}
-use Rattle.catalogue.specs.Catalogue.{Lent, titled, addRefusal, addedBy, added, removeRefusal, removedBy, removed, found}
-use Rattle.catalogue.specs.Laws.{Small, empty, Form, FormMeans, Call, add, remove, find, after, afterAll, SmallCall, Kept, FormKept, FoundAfter, AddFind, RemovedAfter, AddRemove, Least, FindMeans, FindCounts, Together, FoundTogether, EitherWidth}
+use Rattle.catalogue.specs.Catalogue.{Lent, titled, keyRefusal, addRefusal, addedBy, added, removeRefusal, removedBy, removed, found}
+use Rattle.catalogue.specs.Laws.{Small, empty, FormMeans, Call, add, remove, find, after, afterAll}
+use Rattle.catalogue.specs.Laws.{SmallCall, FormKept, AddQuestions, RefusalsKeep, AddFind, AddRemove, Least, FindCounts, FoundTogether, EitherWidth}
 use Rattle.catalogue.proofs.Order.{entered-numbered, without-entered, having-entered}
-use Rattle.catalogue.proofs.Calls.{Free, Accepted, accepted, added-by, entered-catalogue, without-catalogue, removed-by, removes, finds}
+use Rattle.catalogue.proofs.Calls.{Accepted, accepted, added-by, not-formed-add, formed-add, entered-catalogue, without-catalogue, removed-by, removes, finds}
 
 -- ---- The form
 
@@ -80,6 +79,41 @@ form-kept cs s = record { form = form; counted = counted }
     counted : value (drop 4 store) ≡ distinct (keys (entries store))
     counted = ap (λ (l : List ℕ). value (drop 4 l)) (formed-held store form .stored) ∙ held-bytes (entries store)
 
+-- ---- The questions
+
+pub add-questions : AddQuestions
+unfolding addedBy keyRefusal
+add-questions c = record {
+  form = λ f. ap (λ o. o .refused) (added-by c 12 (not-formed-add c f));
+  keyed = λ q f k. ap (λ o. o .refused) (added-by c (suc q) (formed-add c f ∙ ap (λ (i : ℕ). keyRefusal i c) k));
+  rest = λ f k. number ∙ (formed-add c f ∙ ap (λ (i : ℕ). keyRefusal i c) k);
+}
+  where
+    number : added c .refused ≡ addRefusal c
+    number = go (addRefusal c) refl
+      where
+        go : (q : ℕ) → addRefusal c ≡ q → added c .refused ≡ q
+        go zero e = ap (λ o. o .refused) (added-by c zero e)
+        go (suc q) e = ap (λ o. o .refused) (added-by c (suc q) e)
+
+pub refusals-keep : RefusalsKeep
+unfolding addedBy removedBy
+refusals-keep = record { add = add; remove = remove }
+  where
+    add : (c : Lent) (q : ℕ) → added c .refused ≡ suc q → (added c .store ≡ c .store) × (added c .buffer ≡ padded (c .keyed .room) [])
+    add c q e = go (addRefusal c) refl
+      where
+        go : (m : ℕ) → addRefusal c ≡ m → (added c .store ≡ c .store) × (added c .buffer ≡ padded (c .keyed .room) [])
+        go zero p = absurd (omega (arith, e, ap (λ o. o .refused) (added-by c zero p)))
+        go (suc m) p = (ap (λ o. o .store) (added-by c (suc m) p), ap (λ o. o .buffer) (added-by c (suc m) p))
+
+    remove : (store : List ℕ) (n q : ℕ) → removed store n .refused ≡ suc q → removed store n .store ≡ store
+    remove store n q e = go (removeRefusal store n) refl
+      where
+        go : (m : ℕ) → removeRefusal store n ≡ m → removed store n .store ≡ store
+        go zero p = absurd (omega (arith, e, ap (λ o. o .refused) (removed-by store n zero p)))
+        go (suc m) p = ap (λ o. o .store) (removed-by store n (suc m) p)
+
 -- ---- The smallest number
 
 least-below : (n : ℕ) (es : List Entry) → (leastFrom n es ≤ n) × All (λ e. leastFrom n es ≤ e .number) es
@@ -119,7 +153,8 @@ having-all : (P : Entry → Type 0) (e : Entry) (es : List Entry) → same (e .k
 having-all P e [] s h = ((rw s at h) .0, tt)
 having-all P e (f ∷ fs) s h = go (having-all P e fs s) (ltb (f .number) (e .number)) (same (e .key) (f .key)) refl h
   where
-    go : (All P (having (e .key) (entered e fs)) → P e × All P (having (e .key) fs)) → (t q : Bool) → same (e .key) (f .key) ≡ q → All P (having (e .key) (cond t (f ∷ entered e fs) (e ∷ f ∷ fs))) → P e × All P (cond q (f ∷ having (e .key) fs) (having (e .key) fs))
+    go : (All P (having (e .key) (entered e fs)) → P e × All P (having (e .key) fs)) → (t q : Bool) → same (e .key) (f .key) ≡ q
+        → All P (having (e .key) (cond t (f ∷ entered e fs) (e ∷ f ∷ fs))) → P e × All P (cond q (f ∷ having (e .key) fs) (having (e .key) fs))
     go ih true true p a =
         let b = rw p at a in
         let r = ih (b .1) in
@@ -217,11 +252,13 @@ found-together c d n m z e y q = record {
     then : entries (d .store) ≡ more c n z
     then = ap entries e ∙ entries-after c n z
 
-    hits : (smallest (having (key.keyBytes (d .keyed)) (more d m y)) ≤ d .number) × All (λ e. smallest (having (key.keyBytes (d .keyed)) (more d m y)) ≤ e .number) (having (key.keyBytes (d .keyed)) (es d m y))
+    hits : (smallest (having (key.keyBytes (d .keyed)) (more d m y)) ≤ d .number) × All (λ e. smallest (having (key.keyBytes (d .keyed)) (more d m y)) ≤ e .number)
+        (having (key.keyBytes (d .keyed)) (es d m y))
     hits = among-after d m y (λ e. smallest (having (key.keyBytes (d .keyed)) (more d m y)) ≤ e .number) (smallest-least (having (key.keyBytes (d .keyed)) (more d m y)) .low)
 
     again : All (λ e. smallest (having (key.keyBytes (d .keyed)) (more d m y)) ≤ e .number) (having (k c n z) (more c n z))
-    again = subst (λ (fs : List Entry). All (λ e. smallest (having (key.keyBytes (d .keyed)) (more d m y)) ≤ e .number) (having (k c n z) fs)) then (subst (λ (i : List ℕ). All (λ e. smallest (having (key.keyBytes (d .keyed)) (more d m y)) ≤ e .number) (having i (es d m y))) (sym q) (hits .1))
+    again = subst (λ (fs : List Entry). All (λ e. smallest (having (key.keyBytes (d .keyed)) (more d m y)) ≤ e .number) (having (k c n z) fs)) then
+        (subst (λ (i : List ℕ). All (λ e. smallest (having (key.keyBytes (d .keyed)) (more d m y)) ≤ e .number) (having i (es d m y))) (sym q) (hits .1))
 
     first : smallest (having (key.keyBytes (d .keyed)) (more d m y)) ≤ c .number
     first = among-after c n z (λ e. smallest (having (key.keyBytes (d .keyed)) (more d m y)) ≤ e .number) again .0

@@ -1,14 +1,12 @@
 -- Entries by rising number: where one stands, and that entering, removing and finding keep to it. Assumes nothing.
-use Prim.Native.Nat.{ℕ, zero, suc, min, _+_, _≤_, _<_}
+use Prim.Native.Nat.{ℕ, suc, min, _+_, _≤_, _<_}
 use mathlib.Core.Path.{_≡_, refl, sym, ap, subst, _∙_}
-use mathlib.Core.Bool.{Bool, true, false, cond, _&&_, and-eq-true-iff}
+use mathlib.Core.Bool.{Bool, true, false, cond, and-eq-true-iff}
 use mathlib.Core.List.{List, [], _∷_, _++_}
-use native.Mathlib.Numerals.{add-one}
 use native.Mathlib.Omega.{arith}
-use borrow.Author.Tests.{leb-true, leb-false, le-leb, lt-leb, ltb-true, ltb-false, lt-ltb, le-ltb, eqb-true, eqb-false, eq-eqb, ne-eqb}
+use borrow.Author.Tests.{leb-true, le-leb, ltb-true, ltb-false, eqb-true, eqb-false, eq-eqb, ne-eqb}
 use lib.Dec.{T, leb, ltb, eqb}
 use lib.ListN.{length, take, drop}
-use Rattle.base.specs.Lists.{All}
 use Rattle.catalogue_distinct.specs.Distinct.{same}
 use Rattle.catalogue_form.specs.Form.{Entry, fits, allFit, rising}
 use Rattle.catalogue_form.specs.Entries.{numbered, entered, without, having, leastFrom, smallest}
@@ -77,7 +75,8 @@ numbered-headed m n (e ∷ es) r = go (numbered-headed (suc (e .number)) n es (u
         let l : n < suc (e .number) = omega arith in
         absent (suc (e .number)) n es l (u .rest)
 
-    go : numbered n es ≡ headed n (drop (before n es) es) → (t : Bool) → ltb (e .number) n ≡ t → cond (eqb (e .number) n) true (numbered n es) ≡ headed n (drop (cond t (suc (before n es)) 0) (e ∷ es))
+    go : numbered n es ≡ headed n (drop (before n es) es) → (t : Bool) → ltb (e .number) n ≡ t
+        → cond (eqb (e .number) n) true (numbered n es) ≡ headed n (drop (cond t (suc (before n es)) 0) (e ∷ es))
     go ih true p =
         let l : e .number < n = ltb-true (e .number) n p in
         rw (ne-eqb (e .number) n (λ q. omega arith)) ih
@@ -121,7 +120,8 @@ without-taken m n (e ∷ es) r t = go (without-taken (suc (e .number)) n es (up 
         let l : n < suc (e .number) = omega arith in
         absurd (false-true (sym (absent (suc (e .number)) n es l (u .rest)) ∙ rw p at t))
 
-    go : (numbered n es ≡ true → without n es ≡ takenAt (before n es) es) → (q : Bool) → ltb (e .number) n ≡ q → cond (eqb (e .number) n) (without n es) (e ∷ without n es) ≡ takenAt (cond q (suc (before n es)) 0) (e ∷ es)
+    go : (numbered n es ≡ true → without n es ≡ takenAt (before n es) es) → (q : Bool) → ltb (e .number) n ≡ q
+        → cond (eqb (e .number) n) (without n es) (e ∷ without n es) ≡ takenAt (cond q (suc (before n es)) 0) (e ∷ es)
     go ih true p =
         let l : e .number < n = ltb-true (e .number) n p in
         let not : eqb (e .number) n ≡ false = ne-eqb (e .number) n (λ q. omega arith) in
@@ -144,7 +144,8 @@ entered-rising m e (f ∷ fs) h r a = go (λ l. entered-rising (suc (f .number))
     o : (f .number ≡ e .number → ⊥) × (numbered (e .number) fs ≡ false)
     o = other (eqb (f .number) (e .number)) refl a
 
-    go : (suc (f .number) ≤ e .number → numbered (e .number) fs ≡ false → rising (suc (f .number)) (entered e fs) ≡ true) → (t : Bool) → ltb (f .number) (e .number) ≡ t → rising m (cond t (f ∷ entered e fs) (e ∷ f ∷ fs)) ≡ true
+    go : (suc (f .number) ≤ e .number → numbered (e .number) fs ≡ false → rising (suc (f .number)) (entered e fs) ≡ true) → (t : Bool)
+        → ltb (f .number) (e .number) ≡ t → rising m (cond t (f ∷ entered e fs) (e ∷ f ∷ fs)) ≡ true
     go ih true p =
         let l : suc (f .number) ≤ e .number = ltb-true (f .number) (e .number) p in
         upward m f (entered e fs) (u .low) (ih l (o .1))
@@ -244,7 +245,8 @@ having-entered e (f ∷ fs) s = go (having-entered e fs s) (ltb (f .number) (e .
     k : List ℕ
     k = e .key
 
-    more : length (having k (entered e fs)) ≡ suc (length (having k fs)) → (t : Bool) → length (cond t (f ∷ having k (entered e fs)) (having k (entered e fs))) ≡ suc (length (cond t (f ∷ having k fs) (having k fs)))
+    more : length (having k (entered e fs)) ≡ suc (length (having k fs)) → (t : Bool)
+        → length (cond t (f ∷ having k (entered e fs)) (having k (entered e fs))) ≡ suc (length (cond t (f ∷ having k fs) (having k fs)))
     more ih true = ap suc ih
     more ih false = ih
 

@@ -48,7 +48,7 @@ pub record Added : Type 0 where
 
 -- "Adding leaves the key in the key call's buffer." "Every refusal leaves the catalogue untouched."
 unfoldable pub addedBy : ℕ → Lent → Added
-unfolding bytes padded
+unfolding bytes
 addedBy zero c = record {
   refused = 0;
   len = key.outcome (c .keyed) .len;

@@ -1,16 +1,18 @@
 -- What holds of a catalogue over several calls, as statements: request 8 of docs/REQUESTS.md. proofs/Laws.antt proves them.
-use Prim.Native.Nat.{ℕ, suc, min, _+_, _≤_}
+use Prim.Native.Nat.{ℕ, suc, _≤_}
 use mathlib.Core.Path.{_≡_}
-use mathlib.Core.Bool.{true}
+use mathlib.Core.Bool.{true, false, cond}
 use mathlib.Core.List.{List, [], _∷_}
+use lib.Dec.{leb}
 use lib.ListN.{length, drop, replicate}
+use Rattle.questions.specs.Buffer.{padded}
 use Rattle.base.specs.Lists.{All}
 use Rattle.key_text.specs.Laws.{SameButWidths}
 use Rattle.catalogue_distinct.specs.Distinct.{distinct}
 use Rattle.catalogue_form.specs.Form.{Entry, isCatalogue, keys, value, bytes, entries, formed}
-use Rattle.catalogue_form.specs.Entries.{having}
+use Rattle.catalogue_form.specs.Entries.{numbered, having}
 use Rattle.key.specs.Key as key
-use Rattle.catalogue.specs.Catalogue.{Lent, titled, added, removed, found}
+use Rattle.catalogue.specs.Catalogue.{Lent, added, removed, found}
 
 -- a number of 32 bits
 abbrev pub Small : ℕ → Type 0
@@ -61,6 +63,27 @@ pub record Kept (store : List ℕ) : Type 0 where
 
 abbrev pub FormKept : Type 0
 FormKept = (cs : List Call) → All SmallCall cs → Kept (afterAll cs empty)
+
+-- ---- the questions
+
+-- "A store of another length or form, held count included, is 12 before anything else. Question failures of the key come next; then a number already
+-- present on adding .. is 12, an added key over 255 bytes 13, and an add while 1,024 entries are present 14."
+pub record AddAsks (c : Lent) : Type 0 where
+  pub form : formed (c .store) ≡ false → added c .refused ≡ 12
+  pub keyed : (q : ℕ) → formed (c .store) ≡ true → key.refusal (c .keyed) ≡ suc q → added c .refused ≡ suc q
+  pub rest : formed (c .store) ≡ true → key.refusal (c .keyed) ≡ 0 → added c .refused ≡
+      cond (numbered (c .number) (entries (c .store))) 12 (cond (leb (length (key.keyBytes (c .keyed))) 255) (cond (leb 1024 (length (entries (c .store)))) 14 0) 13)
+
+abbrev pub AddQuestions : Type 0
+AddQuestions = (c : Lent) → AddAsks c
+
+-- "Every refusal leaves the catalogue untouched", and the key call's buffer zero
+pub record Untouched : Type 0 where
+  pub add : (c : Lent) (q : ℕ) → added c .refused ≡ suc q → (added c .store ≡ c .store) × (added c .buffer ≡ padded (c .keyed .room) [])
+  pub remove : (store : List ℕ) (n q : ℕ) → removed store n .refused ≡ suc q → removed store n .store ≡ store
+
+abbrev pub RefusalsKeep : Type 0
+RefusalsKeep = Untouched
 
 -- ---- adding, removing and finding
 

@@ -10,7 +10,7 @@ ghost use Prim.Native.Nat.{_≤_};
 ghost use lib.ListN.{length, take};
 ghost use mathlib.Core.List.{[]};
 ghost use Rattle.questions.specs.Buffer.{padded};
-ghost use Rattle.catalogue_form.specs.Form.{Entry, formed};
+ghost use Rattle.catalogue_form.specs.Form.{formed};
 ghost use Rattle.key.specs.Contracts as keys;
 ghost use Rattle.key.specs.declared.KeyAnswer.the-variants as answers;
 ghost use Rattle.catalogue.specs.Catalogue.{entryRefusal};

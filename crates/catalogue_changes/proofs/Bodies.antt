@@ -1,11 +1,10 @@
 -- The places of a catalogue with one entry more or less. Assumes nothing.
-use Prim.Native.Nat.{ℕ, zero, suc, _+_, _-_, _*_, _≤_, _<_}
-use mathlib.Core.Path.{_≡_, refl, sym, ap, ap₂, subst, _∙_}
-use mathlib.Core.List.{List, [], _∷_, _++_, append-assoc}
-use native.Mathlib.Numerals.{add-one}
+use Prim.Native.Nat.{ℕ, _+_, _-_, _*_, _≤_, _<_}
+use mathlib.Core.Path.{_≡_, sym, ap, ap₂, _∙_}
+use mathlib.Core.List.{List, _∷_, _++_, append-assoc}
 use native.Mathlib.Omega.{arith}
-use lib.ListN.{length, getD, take, drop, replicate, take-append-drop, length-append, length-drop, replicate-append-replicate, length-replicate}
-use lib.Seq.{length-take-le, take-at, drop-at, drop-drop, paste}
+use lib.ListN.{length, take, drop, replicate, take-append-drop, length-append, length-drop, replicate-append-replicate}
+use lib.Seq.{length-take-le, take-at, drop-at, drop-drop}
 use Rattle.questions.specs.Buffer.{padded}
 use Rattle.catalogue_form.specs.Form.{Entry, place, places}
 use Rattle.catalogue_form.proofs.Zeros.{padded-zeros, drop-zeros}
@@ -78,12 +77,22 @@ opened-body es at e few h =
     spelt = places-append (take at es) (e ∷ drop at es)
 
     size : length (places (putAt at e es)) ≡ (n + 1) * 260
-    size = omega (arith, ap length spelt, length-append (places (take at es)) (place e ++ rest), length-append (place e) rest, length-place e, front-long es (omega arith) at h, rest-long es (omega arith) at h)
+    size = omega (
+      arith,
+      ap length spelt,
+      length-append (places (take at es)) (place e ++ rest),
+      length-append (place e) rest,
+      length-place e,
+      front-long es
+          (omega arith) at h,
+      rest-long es (omega arith) at h,
+    )
 
     all : body (putAt at e es) ≡ places (take at es) ++ (place e ++ rest) ++ replicate (left - 260) 0
     all =
         let s : 266240 - (n + 1) * 260 ≡ left - 260 = omega arith in
-        padded-zeros 266240 (places (putAt at e es)) (omega (arith, size)) ∙ (ap₂ (λ (l : List ℕ) (k : ℕ). l ++ replicate (266240 - k) 0) spelt size ∙ ap (λ (k : ℕ). places (take at es) ++ (place e ++ rest) ++ replicate k 0) s)
+        padded-zeros 266240 (places (putAt at e es)) (omega (arith, size))
+        ∙ (ap₂ (λ (l : List ℕ) (k : ℕ). l ++ replicate (266240 - k) 0) spelt size ∙ ap (λ (k : ℕ). places (take at es) ++ (place e ++ rest) ++ replicate k 0) s)
 
 -- an entry less
 pub closed-body : (es : List Entry) (at : ℕ) → length es ≤ 1024 → at < length es → closed (body es) (length es) at ≡ body (takenAt at es)

@@ -1,14 +1,13 @@
 -- How one entry more or less changes the number of different keys. Assumes nothing.
-use Prim.Native.Nat.{ℕ, zero, suc, _+_, _-_, _≤_, _<_}
+use Prim.Native.Nat.{ℕ, suc, _+_, _-_, _≤_}
 use mathlib.Core.Path.{_≡_, refl, sym, ap, subst, _∙_}
 use mathlib.Core.Bool.{Bool, true, false, cond}
 use mathlib.Core.List.{List, [], _∷_, _++_}
 use native.Mathlib.Numerals.{add-one}
 use native.Mathlib.Omega.{arith}
-use borrow.Author.Tests.{eq-eqb, ne-eqb, eqb-true, eqb-false}
+use borrow.Author.Tests.{ne-eqb}
 use lib.Dec.{T, eqb, eqb·suc-suc}
-use lib.ListN.{length, getD, take, drop, take-append-drop}
-use lib.Seq.{drop-cons}
+use lib.ListN.{length, take, drop, take-append-drop}
 use Rattle.catalogue_distinct.specs.Distinct.{same, among, distinct}
 use Rattle.catalogue_distinct.proofs.Same.{same-eq, same-refl, among-append}
 use Rattle.catalogue_form.specs.Form.{Entry, keys}

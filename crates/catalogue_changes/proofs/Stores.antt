@@ -2,17 +2,17 @@
 use Prim.Native.Nat.{ℕ, suc, _+_, _-_, _*_, _≤_, _<_}
 use mathlib.Core.Path.{_≡_, refl, sym, ap, ap₂, subst, _∙_}
 use mathlib.Core.Bool.{Bool, true, false, cond}
-use mathlib.Core.List.{List, [], _∷_, _++_, append-nil}
+use mathlib.Core.List.{List, _∷_, _++_, append-nil}
 use native.Mathlib.Omega.{arith}
 use lib.Dec.{eqb}
-use lib.ListN.{length, getD, take, drop, length-append, length-drop, drop-of-length-le}
-use lib.Seq.{sets, sets-eq, length-sets, take-at, drop-at, length-take-le, take-append-le}
+use lib.ListN.{length, take, drop, length-append, length-drop, drop-of-length-le}
+use lib.Seq.{sets, sets-eq, length-sets, take-at, drop-at, length-take-le}
 use Rattle.questions.specs.Buffer.{padded}
 use Rattle.catalogue_distinct.specs.Distinct.{among, distinct}
 use Rattle.catalogue_form.specs.Form.{Entry, keys, bigEndian, value, place, places, bytes, entryOf, entriesOf, entries}
 use Rattle.catalogue_form.specs.Entries.{having}
 use Rattle.catalogue_form.specs.Contracts.{Held}
-use Rattle.catalogue_form.proofs.Zeros.{lent-rest}
+use Rattle.lent.proofs.Parts.{lent-rest}
 use Rattle.catalogue_form.proofs.Forms.{parts, formed-held, length-bytes, value-bytes, held-bytes}
 use Rattle.catalogue_places.specs.Contracts.{opened, closed}
 use Rattle.catalogue_places.proofs.Looking.{entry-at}

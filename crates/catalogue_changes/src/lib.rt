@@ -9,9 +9,9 @@ ghost use mathlib.Core.Bool.{cond};
 ghost use mathlib.Core.List.{_++_};
 ghost use Prim.Native.Nat.{_≤_, _<_, _*_};
 ghost use lib.Dec.{eqb};
-ghost use lib.ListN.{length, getD, drop};
+ghost use lib.ListN.{length, drop};
 ghost use Rattle.catalogue_distinct.specs.Distinct.{among};
-ghost use Rattle.catalogue_form.specs.Form.{Entry, bigEndian, keys, bytes, entryOf, entriesOf, entries};
+ghost use Rattle.catalogue_form.specs.Form.{bigEndian, keys, bytes, entryOf, entriesOf, entries};
 ghost use Rattle.catalogue_form.specs.Entries.{having};
 ghost use Rattle.catalogue_changes.specs.Contracts.{Holds, putAt, takenAt};
 

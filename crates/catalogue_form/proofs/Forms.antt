@@ -6,7 +6,7 @@ use mathlib.Core.List.{List, [], _∷_, _++_}
 use native.Mathlib.Omega.{arith}
 use borrow.Author.Tests.{leb-true, le-leb, eqb-true, eq-eqb}
 use lib.Dec.{T, leb, eqb}
-use lib.ListN.{length, getD, take, drop, replicate, length-drop, take-append-drop}
+use lib.ListN.{length, take, drop, replicate, length-drop, take-append-drop}
 use lib.Seq.{drop-at, drop-drop, take-all}
 use Rattle.questions.specs.Questions.{all, zero?}
 use Rattle.questions.specs.Buffer.{padded}
@@ -76,7 +76,7 @@ pub entries-bytes : (es : List Entry) → isCatalogue es ≡ true → entries (b
 unfolding entries
 entries-bytes es c =
     let p = parts es c in
-    rw (value-bytes es, body-bytes es (p .few)) (entries-places es _ (p .fit))
+    ap₂ entriesOf (value-bytes es) (body-bytes es (p .few)) ∙ entries-places es (replicate (266240 - length es * 260) 0) (p .fit)
 
 pub formed-bytes : (es : List Entry) → isCatalogue es ≡ true → formed (bytes es) ≡ true
 unfolding formed
@@ -87,7 +87,7 @@ formed-bytes es c =
 -- ---- A store of the form
 
 pub held-formed : {es : List Entry} {store : List ℕ} → Held es store → formed store ≡ true
-held-formed {es} {store} h = rw (h .stored) (formed-bytes es (h .catalogue))
+held-formed {es} {store} h = ap formed (h .stored) ∙ formed-bytes es (h .catalogue)
 
 pub formed-held : (store : List ℕ) → formed store ≡ true → Held (entries store) store
 unfolding formed
@@ -106,10 +106,10 @@ pub record Asked (store : List ℕ) : Type 0 where
 asked-bytes : (es : List Entry) → isCatalogue es ≡ true → Asked (bytes es)
 asked-bytes es c = record {
   long = length-bytes es;
-  few = rw value-bytes (p .few);
-  hold = rw (value-bytes es, body) (hold-places es 0 zeros (p .up) (p .fit));
-  rest = rw (value-bytes es, ← drop-drop (length es * 260) 8 (bytes es), body, drop-at (places es) zeros (length es * 260) (length-places es)) (zeros-zero (266240 - length es * 260));
-  held = rw (value-bytes es, body) (held-bytes es ∙ sym (distinct-records es zeros (p .fit)));
+  few = subst (λ (n : ℕ). n ≤ 1024) (sym (value-bytes es)) (p .few);
+  hold = ap₂ (placesHold 0) (value-bytes es) body ∙ hold-places es 0 zeros (p .up) (p .fit);
+  rest = ap (λ (n : ℕ). all zero? (drop (8 + n * 260) (bytes es))) (value-bytes es) ∙ (ap (all zero?) behind ∙ zeros-zero (266240 - length es * 260));
+  held = held-bytes es ∙ sym (ap₂ (λ (n : ℕ) (l : List ℕ). distinct (records n l)) (value-bytes es) body ∙ distinct-records es zeros (p .fit));
 }
   where
     p : Parts es
@@ -120,6 +120,10 @@ asked-bytes es c = record {
 
     body : drop 8 (bytes es) ≡ places es ++ zeros
     body = body-bytes es (p .few)
+
+    behind : drop (8 + length es * 260) (bytes es) ≡ zeros
+    behind =
+        sym (drop-drop (length es * 260) 8 (bytes es)) ∙ (ap (drop (length es * 260)) body ∙ drop-at (places es) zeros (length es * 260) (length-places es))
 
 pub formed-asked : (store : List ℕ) → formed store ≡ true → Asked store
 formed-asked store f =
@@ -154,7 +158,8 @@ asked-formed store b a = held-formed {es = es} (record { catalogue = catalogue e
         ∙ (ap (λ (k : ℕ). distinct (records k (places es ++ drop (n * 260) l))) (sym (s .count)) ∙ distinct-records es (drop (n * 260) l) (s .fit))
 
     zeros : all zero? (drop (n * 260) (take 266240 l)) ≡ true
-    zeros = rw (take-all 266240 l (omega (arith, long)), drop-drop (n * 260) 8 store) (a .rest)
+    zeros =
+        ap (λ (r : List ℕ). all zero? (drop (n * 260) r)) (take-all 266240 l (omega (arith, long))) ∙ (ap (all zero?) (drop-drop (n * 260) 8 store) ∙ a .rest)
 
     padding : padded 266240 (places es) ≡ l
     padding =

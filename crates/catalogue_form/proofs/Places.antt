@@ -3,7 +3,7 @@ use Prim.Native.Nat.{ℕ, zero, suc, _+_, _-_, _*_, _≤_, _<_}
 use mathlib.Core.Path.{_≡_, refl, sym, ap, ap₂, subst, _∙_}
 use mathlib.Core.Bool.{Bool, true, false, _&&_, and-eq-true-iff}
 use mathlib.Core.List.{List, [], _∷_, _++_, append-assoc}
-use native.Mathlib.Nat.{not-suc-le-zero, suc-mul, zero-mul}
+use native.Mathlib.Nat.{zero-mul}
 use native.Mathlib.Omega.{arith}
 use borrow.Author.Tests.{leb-true, le-leb, lt-leb}
 use lib.Dec.{leb}
@@ -13,7 +13,7 @@ use native.Mathlib.Numerals.{add-one}
 use Rattle.questions.specs.Questions.{all, zero?}
 use Rattle.questions.specs.Buffer.{padded}
 use Rattle.questions.proofs.Buffers.{length-padded, take-padded}
-use Rattle.catalogue_form.specs.Form.{Entry, fits, allFit, rising, bigEndian, value, place, places, entryOf, entriesOf}
+use Rattle.catalogue_form.specs.Form.{Entry, fits, allFit, rising, value, place, places, entryOf, entriesOf}
 use Rattle.catalogue_form.specs.Contracts.{zeroBehind, placesHold}
 use Rattle.catalogue_form.proofs.FourBytes.{Bytes, bytes-drop, value-bigEndian, bigEndian-value}
 use Rattle.catalogue_form.proofs.Zeros.{padded-take, padded-behind}

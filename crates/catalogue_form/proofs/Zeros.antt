@@ -1,13 +1,14 @@
 -- Zeros behind a list, as `padded` puts them and as a loop tests them. Assumes nothing.
 use Prim.Native.Nat.{ℕ, zero, suc, _+_, _-_, _≤_}
 use mathlib.Core.Path.{_≡_, refl, sym, ap, ap₂, _∙_}
-use mathlib.Core.Bool.{Bool, true, false, _&&_, and-eq-true-iff}
+use mathlib.Core.Bool.{true, and-eq-true-iff}
 use mathlib.Core.List.{List, [], _∷_, _++_}
 use native.Mathlib.Nat.{not-suc-le-zero, sub-zero, zero-sub, suc-sub-suc}
 use native.Mathlib.Omega.{arith}
-use borrow.Author.Tests.{eqb-true, eq-eqb}
-use lib.ListN.{length, take, drop, replicate, length-drop}
+use borrow.Author.Tests.{eqb-true}
+use lib.ListN.{length, take, drop, replicate}
 use lib.Seq.{take-all}
+use Rattle.lent.proofs.Parts.{lent-rest}
 use Rattle.questions.specs.Questions.{all, zero?}
 use Rattle.questions.specs.Buffer.{padded}
 use Rattle.questions.proofs.Buffers.{padded-none}
@@ -49,10 +50,7 @@ padded-behind m [] h = rw padded-none (zeros-zero m)
 padded-behind zero (x ∷ l) h = absurd (not-suc-le-zero h)
 padded-behind (suc m) (x ∷ l) h = padded-behind m l (omega arith)
 
--- what is lent from a place on, to the end
-pub lent-rest : (s : List ℕ) (k : ℕ) → take (length s - k) (drop k s) ≡ drop k s
-lent-rest s k = take-all (length s - k) (drop k s) (omega (arith, length-drop k s))
-
+-- the rest of a place, as it is lent
 pub behind-part : (p : List ℕ) (k : ℕ) → length p ≡ 260 → all zero? (take (length p - k) (drop k p)) ≡ all zero? (drop k (take 260 p))
 behind-part p k h = ap (all zero?) (lent-rest p k ∙ ap (drop k) (sym (take-all 260 p (omega arith))))
 

@@ -1,7 +1,7 @@
 -- A catalogue, and its bytes in the lent store: request 8 of docs/REQUESTS.md.
 use Prim.Native.Nat.{ℕ, zero, suc, _+_, _*_, _/_, _%_}
-use mathlib.Core.Bool.{Bool, true, false, cond, _&&_}
-use mathlib.Core.List.{List, [], _∷_, _++_, map}
+use mathlib.Core.Bool.{Bool, true, _&&_}
+use mathlib.Core.List.{List, [], _∷_, _++_}
 use lib.Dec.{leb}
 use lib.ListN.{length, getD, take, drop}
 use Rattle.questions.specs.Buffer.{padded}
@@ -51,7 +51,6 @@ places (e ∷ es) = place e ++ places es
 
 -- "four bytes count the entries, four the distinct keys, then places ..; entries stand first .., all else is zero": 266,248 bytes
 unfoldable pub bytes : List Entry → List ℕ
-unfolding padded
 bytes es = bigEndian (length es) ++ (bigEndian (distinct (keys es)) ++ padded 266240 (places es))
 
 -- the entry that a place says, the entries that so many places say, and those that a store says

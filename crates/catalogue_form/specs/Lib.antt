@@ -1,3 +1,4 @@
 pub mod Form
 pub mod Entries
 pub mod Contracts
+pub mod Examples

@@ -4,7 +4,7 @@ pub mod numbers;
 
 ghost use mathlib.Core.Path.{_≡_};
 ghost use Prim.Native.Nat.{_≤_, _+_, _*_};
-ghost use lib.ListN.{length, drop};
+ghost use lib.ListN.{length};
 ghost use Rattle.questions.specs.Questions.{all, zero?};
 ghost use Rattle.catalogue_form.specs.Form.{formed};
 ghost use Rattle.catalogue_form.specs.Contracts.{zeroBehind, placesHold};

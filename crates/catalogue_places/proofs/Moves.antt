@@ -1,17 +1,17 @@
 -- Bytes and places that move, and a place that is written. Assumes nothing.
 use Prim.Native.Nat.{ℕ, zero, suc, _+_, _-_, _*_, _≤_, _<_}
-use mathlib.Core.Path.{_≡_, refl, sym, ap, ap₂, subst, _∙_}
+use mathlib.Core.Path.{_≡_, refl, sym, ap, ap₂, _∙_}
 use mathlib.Core.List.{List, [], _∷_, _++_, append-nil, append-assoc}
-use native.Mathlib.Nat.{not-suc-le-zero, zero-mul, add-zero}
+use native.Mathlib.Nat.{not-suc-le-zero}
 use native.Mathlib.Numerals.{add-one}
 use native.Mathlib.Omega.{arith}
-use lib.ListN.{length, getD, take, drop, set, replicate, length-take, length-drop, length-append, drop-of-length-le, length-replicate}
-use lib.Seq.{sets, sets-eq, paste, paste-zero, paste-suc, take-paste, drop-paste, length-paste, take-add, drop-drop, take-all, getD-drop, length-take-le, drop-append-add, take-append-seam, take-length}
+use lib.ListN.{length, getD, take, drop, set, replicate, length-drop, length-append, drop-of-length-le, length-replicate}
+use lib.Seq.{sets, sets-eq, paste, paste-zero, paste-suc, take-paste, drop-paste, length-paste, take-add, drop-drop, take-all, getD-drop, length-take-le, drop-append-add, take-append-seam}
 use Rattle.questions.specs.Buffer.{padded, cleared}
 use Rattle.questions.proofs.Buffers.{clear-all, padded-none}
-use Rattle.catalogue_form.specs.Form.{Entry, bigEndian, place}
+use Rattle.catalogue_form.specs.Form.{bigEndian, place}
 use Rattle.catalogue_form.proofs.Zeros.{padded-zeros, drop-zeros}
-use Rattle.catalogue_places.specs.Contracts.{opened, movedBack, closed}
+use Rattle.catalogue_places.specs.Contracts.{movedBack, closed}
 
 -- ---- two strings that are exchanged, up to the byte i
 

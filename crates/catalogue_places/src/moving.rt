@@ -6,7 +6,7 @@ ghost use mathlib.Core.Path.{_≡_};
 ghost use Prim.Native.Nat.{_≤_, _<_, _+_, _*_};
 ghost use lib.ListN.{length, replicate};
 ghost use lib.Seq.{sets};
-ghost use Rattle.catalogue_form.specs.Form.{Entry, place};
+ghost use Rattle.catalogue_form.specs.Form.{place};
 ghost use Rattle.catalogue_places.specs.Contracts.{opened, movedBack, closed};
 
 /// Each gets the other's bytes.

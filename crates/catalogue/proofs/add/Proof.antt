@@ -1,5 +1,5 @@
 -- `add` meets its contract. Assumes nothing.
-use mathlib.Core.Path.{_≡_, sym, ap, subst, _∙_}
+use mathlib.Core.Path.{sym, ap, subst, _∙_}
 use Rattle.key.specs.declared.KeyAnswer.{KeyAnswer}
 use native.Mathlib.Omega.{arith}
 use borrow.Author.Tests.{not-true, not-false}
@@ -30,9 +30,11 @@ returns c =
     let at-if1 = at-refuse .before .before in
     let at-form = at-if1 .before in
     let at-start = at-form .before .before .before .before .before .before in
-    let call = lent (keys.lent (at-start .args .cells .now) (at-start .args .initial) (at-start .args .width) (at-start .args .title .now) (at-start .args .key .now)) (at-start .args .number) (at-start .args .store .now) in
+    let a = at-start .args in
+    let call = lent (keys.lent (a .cells .now) (a .initial) (a .width) (a .title .now) (a .key .now)) (a .number) (a .store .now) in
     let no-form = sym (at-form .form .ensures) ∙ not-true _ (at-if1 .if1 .taken) in
-    subst (λ (r : KeyAnswer). Added call r (at-start .args .store .now) (at-refuse .refuse .last .1 .0)) (sym (at-refuse .refuse .ensures .0)) (added-refused call 11 (not-formed-add call no-form) (at-refuse .refuse .ensures .1))
+    subst (λ (r : KeyAnswer). Added call r (a .store .now) (at-refuse .refuse .last .1 .0)) (sym (at-refuse .refuse .ensures .0))
+    (added-refused call 11 (not-formed-add call no-form) (at-refuse .refuse .ensures .1))
 
 key-requires : tie.Need-key-requires
 key-requires c κs = search needs
@@ -47,7 +49,8 @@ enter-requires c κs =
     let at-if1 = at-key2 .before .before in
     let at-form = at-if1 .before in
     let at-start = at-form .before .before .before .before .before .before in
-    let call = lent (keys.lent (at-start .args .cells .now) (at-start .args .initial) (at-start .args .width) (at-start .args .title .now) (at-start .args .key .now)) (at-start .args .number) (at-start .args .store .now) in
+    let a = at-start .args in
+    let call = lent (keys.lent (a .cells .now) (a .initial) (a .width) (a .title .now) (a .key .now)) (a .number) (a .store .now) in
     let form = sym (at-form .form .ensures) ∙ not-false _ (at-if1 .if1 .left) in
     let inside = key-inside call (at-key2 .key2 .ensures) in
     (form, omega (arith, inside, ap keys.lenOf (at-answer .answer .given .1)))
@@ -69,7 +72,8 @@ returns-2 c =
     let at-if1 = at-key2 .before .before in
     let at-form = at-if1 .before in
     let at-start = at-form .before .before .before .before .before .before in
-    let call = lent (keys.lent (at-start .args .cells .now) (at-start .args .initial) (at-start .args .width) (at-start .args .title .now) (at-start .args .key .now)) (at-start .args .number) (at-start .args .store .now) in
+    let a = at-start .args in
+    let call = lent (keys.lent (a .cells .now) (a .initial) (a .width) (a .title .now) (a .key .now)) (a .number) (a .store .now) in
     let form = sym (at-form .form .ensures) ∙ not-false _ (at-if1 .if1 .left) in
     let k = subst (λ (r : KeyAnswer). keys.Answered (call .keyed) r (at-key2 .key2 .last .1 .1 .1 .1 .0)) (at-answer .answer .given .1) (at-key2 .key2 .ensures) in
     added-keyed call _ _ _ form k (at-enter .enter .ensures)
@@ -87,7 +91,8 @@ returns-3 c =
     let at-if1 = at-key2 .before .before in
     let at-form = at-if1 .before in
     let at-start = at-form .before .before .before .before .before .before in
-    let call = lent (keys.lent (at-start .args .cells .now) (at-start .args .initial) (at-start .args .width) (at-start .args .title .now) (at-start .args .key .now)) (at-start .args .number) (at-start .args .store .now) in
+    let a = at-start .args in
+    let call = lent (keys.lent (a .cells .now) (a .initial) (a .width) (a .title .now) (a .key .now)) (a .number) (a .store .now) in
     let form = sym (at-form .form .ensures) ∙ not-false _ (at-if1 .if1 .left) in
     let k = subst (λ (r : KeyAnswer). keys.Answered (call .keyed) r (at-key2 .key2 .last .1 .1 .1 .1 .0)) (at-answer2 .answer2 .given .1) (at-key2 .key2 .ensures) in
     added-keyless call _ _ _ form k

@@ -102,10 +102,13 @@ returns c =
     let at-position = at-stands .before .before .before in
     let at-number = at-position .before .before .before in
     let at-start = at-number .before .before .before .before in
-    let store = at-start .args .store .now in
+    let a = at-start .args in
+    let store = a .store .now in
     let n = at-number .number .result in
     let h = holds store n (at-start .pre .0) (at-number .number .ensures) in
-    enter-refused store n h (at-start .args .number) (at-position .position .result) (at-position .position .ensures) (at-stands .stands .result) (at-stands .stands .ensures) (at-entry-refusal .entry-refusal .result) (at-start .args .len) (at-start .args .charged) (at-start .args .key .now) (at-start .pre .1) (at-entry-refusal .entry-refusal .ensures) (at-if1 .if1 .taken) (at-refuse .refuse .ensures .0) (at-refuse .refuse .ensures .1)
+    enter-refused store n h (a .number) (at-position .position .result) (at-position .position .ensures) (at-stands .stands .result) (at-stands .stands .ensures)
+    (at-entry-refusal .entry-refusal .result) (a .len) (a .charged) (a .key .now) (at-start .pre .1) (at-entry-refusal .entry-refusal .ensures)
+    (at-if1 .if1 .taken) (at-refuse .refuse .ensures .0) (at-refuse .refuse .ensures .1)
 
 slice-reshare-prefix-insert : tie.Need-slice-reshare-prefix-insert
 slice-reshare-prefix-insert c = search needs
@@ -123,12 +126,22 @@ insert-requires c κs =
     let at-position = at-stands .before .before .before in
     let at-number = at-position .before .before .before in
     let at-start = at-number .before .before .before .before in
-    let store = at-start .args .store .now in
+    let a = at-start .args in
+    let store = a .store .now in
     let n = at-number .number .result in
     let h = holds store n (at-start .pre .0) (at-number .number .ensures) in
     let none : at-entry-refusal .entry-refusal .result ≡ 0 = omega (arith, at-if1 .if1 .left) in
-    let passed = passes (at-stands .stands .result) (at-start .args .len) n (sym (at-entry-refusal .entry-refusal .ensures) ∙ none) in
-    (h, (passed .1 .1, (place-low store n h (at-start .args .number) (at-position .position .result) (at-position .position .ensures), omega (arith, passed .1 .0, length-take-le (at-start .args .len) (at-start .args .key .now) (at-start .pre .1)))))
+    let passed = passes (at-stands .stands .result) (a .len) n (sym (at-entry-refusal .entry-refusal .ensures) ∙ none) in (
+      h,
+      (
+        passed .1 .1,
+        (
+          place-low store n h (a .number) (at-position .position .result) (at-position .position .ensures),
+          omega
+              (arith, passed .1 .0, length-take-le (a .len) (a .key .now) (at-start .pre .1)),
+        ),
+      ),
+    )
 
 same-length-3 : tie.Need-same-length-3
 same-length-3 c = search needs
@@ -145,10 +158,13 @@ returns-2 c =
     let at-position = at-stands .before .before .before in
     let at-number = at-position .before .before .before in
     let at-start = at-number .before .before .before .before in
-    let store = at-start .args .store .now in
+    let a = at-start .args in
+    let store = a .store .now in
     let n = at-number .number .result in
     let h = holds store n (at-start .pre .0) (at-number .number .ensures) in
-    enter-done store n h (at-start .args .number) (at-position .position .result) (at-position .position .ensures) (at-stands .stands .result) (at-stands .stands .ensures) (at-entry-refusal .entry-refusal .result) (at-start .args .len) (at-start .args .charged) (at-start .args .key .now) (at-start .pre .1) (at-entry-refusal .entry-refusal .ensures) (at-if1 .if1 .left) (at-insert .insert .ensures)
+    enter-done store n h (a .number) (at-position .position .result) (at-position .position .ensures) (at-stands .stands .result) (at-stands .stands .ensures)
+    (at-entry-refusal .entry-refusal .result) (a .len) (a .charged) (a .key .now) (at-start .pre .1) (at-entry-refusal .entry-refusal .ensures)
+    (at-if1 .if1 .left) (at-insert .insert .ensures)
 
 pub enter-spec : {M : Type 1} → statement M
 enter-spec =

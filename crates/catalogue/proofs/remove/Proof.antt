@@ -117,10 +117,11 @@ returns-2 c =
     let at-if1 = at-number .before .before in
     let at-form = at-if1 .before in
     let at-start = at-form .before .before .before in
-    let store = at-start .args .store .now in
+    let a = at-start .args in
+    let store = a .store .now in
     let n = at-number .number .result in
     let h = holds store n (sym (at-form .form .ensures) ∙ not-false _ (at-if1 .if1 .left)) (at-number .number .ensures) in
-    removed-absent store n h (at-start .args .number) (at-position .position .result) (at-position .position .ensures) (at-stands .stands .result) (at-stands .stands .ensures) (not-true _ (c .if2 .taken))
+    removed-absent store n h (a .number) (at-position .position .result) (at-position .position .ensures) (at-stands .stands .result) (at-stands .stands .ensures) (not-true _ (c .if2 .taken))
 
 delete-requires : tie.Need-delete-requires
 delete-requires c κs =
@@ -131,10 +132,14 @@ delete-requires c κs =
     let at-if1 = at-number .before .before in
     let at-form = at-if1 .before in
     let at-start = at-form .before .before .before in
-    let store = at-start .args .store .now in
+    let a = at-start .args in
+    let store = a .store .now in
     let n = at-number .number .result in
-    let h = holds store n (sym (at-form .form .ensures) ∙ not-false _ (at-if1 .if1 .left)) (at-number .number .ensures) in
-    (h, place-inside store n h (at-start .args .number) (at-position .position .result) (at-position .position .ensures) (at-stands .stands .result) (at-stands .stands .ensures) (not-false _ (at-if2 .if2 .left)))
+    let h = holds store n (sym (at-form .form .ensures) ∙ not-false _ (at-if1 .if1 .left)) (at-number .number .ensures) in (
+      h,
+      place-inside store n h (a .number) (at-position .position .result) (at-position .position .ensures) (at-stands .stands .result) (at-stands .stands .ensures)
+          (not-false _ (at-if2 .if2 .left)),
+    )
 
 same-length-3 : tie.Need-same-length-3
 same-length-3 c = search needs
@@ -149,10 +154,12 @@ returns-3 c =
     let at-if1 = at-number .before .before in
     let at-form = at-if1 .before in
     let at-start = at-form .before .before .before in
-    let store = at-start .args .store .now in
+    let a = at-start .args in
+    let store = a .store .now in
     let n = at-number .number .result in
     let h = holds store n (sym (at-form .form .ensures) ∙ not-false _ (at-if1 .if1 .left)) (at-number .number .ensures) in
-    removed-is store n h (at-start .args .number) (at-position .position .result) (at-position .position .ensures) (at-stands .stands .result) (at-stands .stands .ensures) (not-false _ (at-if2 .if2 .left)) (at-delete .delete .ensures)
+    removed-is store n h (a .number) (at-position .position .result) (at-position .position .ensures) (at-stands .stands .result) (at-stands .stands .ensures)
+    (not-false _ (at-if2 .if2 .left)) (at-delete .delete .ensures)
 
 pub remove-spec : {M : Type 1} → statement M
 remove-spec =

@@ -1,6 +1,6 @@
 -- `counts` meets its contract. Assumes nothing.
 use Prim.Native.Nat.{ℕ}
-use mathlib.Core.Path.{_≡_, ap, _∙_}
+use mathlib.Core.Path.{ap, _∙_}
 use mathlib.Core.List.{List}
 use lib.Seq.{sets}
 use Rattle.catalogue_form.specs.Form.{bigEndian}
@@ -24,7 +24,9 @@ returns c =
     let at-put-number2 = c .before .before in
     let at-put-number = at-put-number2 .before .before .before .before in
     let at-start = at-put-number .before .before .before in
-    at-put-number2 .put-number2 .ensures ∙ (ap (λ (l : List ℕ). sets l 4 (bigEndian (at-start .args .distinct))) (at-put-number .put-number .ensures) ∙ both-counts (at-start .args .front .now) (at-start .args .entries) (at-start .args .distinct) (at-start .pre))
+    let a = at-start .args in
+    at-put-number2 .put-number2 .ensures
+    ∙ (ap (λ (l : List ℕ). sets l 4 (bigEndian (a .distinct))) (at-put-number .put-number .ensures) ∙ both-counts (a .front .now) (a .entries) (a .distinct) (at-start .pre))
 
 pub counts-spec : {M : Type 1} → statement M
 counts-spec = tie.close (tie.spec put-number-requires put-number-requires-2 same-length returns)

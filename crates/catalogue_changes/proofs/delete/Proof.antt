@@ -1,11 +1,8 @@
 -- `delete` meets its contract. Assumes nothing.
-use Prim.Native.Nat.{ℕ, _+_, _-_, _*_, _≤_}
-use mathlib.Core.Path.{_≡_, refl, sym, ap, ap₂, _∙_}
-use mathlib.Core.Bool.{Bool, cond}
+use Prim.Native.Nat.{ℕ, _+_, _-_, _≤_}
+use mathlib.Core.Path.{sym, ap, ap₂, _∙_}
 use mathlib.Core.List.{List, _++_}
 use lib.ListN.{length}
-use Rattle.catalogue_form.specs.Form.{Entry, bigEndian, place}
-use Rattle.catalogue_form.proofs.Places.{length-place}
 use Rattle.catalogue_changes.proofs.Stores.{long, few, rest-long, given-long, given-front, given-rest, alone-low, deleted}
 use borrow.Author.Needs.{needs}
 use native.Mathlib.Omega.{arith}
@@ -37,8 +34,9 @@ part-alone-end c = search needs
 alone-requires : tie.Need-alone-requires
 alone-requires c κs =
     let at-start = c .before .before .before .before .before in
+    let a = at-start .args in
     let h = at-start .pre .0 in
-    (few (at-start .args .store .now) (at-start .args .n) h, (at-start .pre .1, omega (arith, rest-long (at-start .args .store .now) (at-start .args .n) h, few (at-start .args .store .now) (at-start .args .n) h)))
+    (few (a .store .now) (a .n) h, (at-start .pre .1, omega (arith, rest-long (a .store .now) (a .n) h, few (a .store .now) (a .n) h)))
 
 sub-distinct : tie.Need-sub-distinct
 sub-distinct c =
@@ -64,8 +62,9 @@ part-close-up-end c = search needs
 close-up-requires : tie.Need-close-up-requires
 close-up-requires c κs =
     let at-start = c .before .before .before .before .before .before .before in
+    let a = at-start .args in
     let h = at-start .pre .0 in
-    (few (at-start .args .store .now) (at-start .args .n) h, (at-start .pre .1, omega (arith, rest-long (at-start .args .store .now) (at-start .args .n) h, few (at-start .args .store .now) (at-start .args .n) h)))
+    (few (a .store .now) (a .n) h, (at-start .pre .1, omega (arith, rest-long (a .store .now) (a .n) h, few (a .store .now) (a .n) h)))
 
 slice-relend-prefix-counts : tie.Need-slice-relend-prefix-counts
 slice-relend-prefix-counts c =
@@ -109,10 +108,12 @@ returns c =
     let at-alone = at-close-up .before .before in
     let at-number = at-alone .before .before .before in
     let at-start = at-number .before .before .before in
-    let store = at-start .args .store .now in
-    let h : 8 ≤ length store = omega (arith, long store (at-start .args .n) (at-start .pre .0)) in
+    let a = at-start .args in
+    let store = a .store .now in
+    let h : 8 ≤ length store = omega (arith, long store (a .n) (at-start .pre .0)) in
     ap (λ (r : List ℕ). at-counts .counts .last .0 ++ r) (given-rest store (at-close-up .close-up .last .0) h)
-    ∙ deleted store (at-start .args .n) (at-start .pre .0) (at-start .args .at) (at-start .pre .1) (at-counts .counts .ensures) (ap₂ (λ (x y : ℕ). x - y) (at-number .number .ensures) (at-alone .alone .ensures)) (at-close-up .close-up .ensures)
+    ∙ deleted store (a .n) (at-start .pre .0) (a .at) (at-start .pre .1) (at-counts .counts .ensures)
+    (ap₂ (λ (x y : ℕ). x - y) (at-number .number .ensures) (at-alone .alone .ensures)) (at-close-up .close-up .ensures)
 
 pub delete-spec : {M : Type 1} → statement M
 delete-spec =

@@ -1,10 +1,9 @@
 -- `insert` meets its contract. Assumes nothing.
 use Prim.Native.Nat.{ℕ, _+_, _-_, _*_, _≤_}
-use mathlib.Core.Path.{_≡_, refl, sym, ap, ap₂, _∙_}
-use mathlib.Core.Bool.{Bool, cond}
+use mathlib.Core.Path.{sym, ap, ap₂, _∙_}
 use mathlib.Core.List.{List, _++_}
 use lib.ListN.{length}
-use Rattle.catalogue_form.specs.Form.{Entry, bigEndian, place}
+use Rattle.catalogue_form.specs.Form.{Entry}
 use Rattle.catalogue_form.proofs.Places.{length-place}
 use Rattle.catalogue_changes.proofs.Stores.{long, few, rest-long, given-long, given-front, given-rest, rest, count-low, one-low, inserted}
 use Rattle.catalogue_places.specs.Contracts.{opened}
@@ -45,8 +44,9 @@ add-distinct : tie.Need-add-distinct
 add-distinct c =
     let at-number = c .before .before .before in
     let at-start = at-number .before .before .before .before in
-    let store = at-start .args .store .now in
-    omega (arith, at-number .number .ensures, c .new .ensures, count-low store (at-start .args .n) (at-start .pre .0), one-low store (at-start .args .n) (at-start .pre .0) (at-start .args .key .now))
+    let a = at-start .args in
+    let store = a .store .now in
+    omega (arith, at-number .number .ensures, c .new .ensures, count-low store (a .n) (at-start .pre .0), one-low store (a .n) (at-start .pre .0) (a .key .now))
 
 slice-aggregate-write : tie.Need-slice-aggregate-write
 slice-aggregate-write c = search needs
@@ -85,8 +85,12 @@ make-room-requires : tie.Need-make-room-requires
 make-room-requires c κs =
     let at-write = c .before .before .before in
     let at-start = at-write .before .before .before .before .before .before .before .before .before in
-    let h = at-start .pre .0 in
-    (ap length (at-write .write .ensures) ∙ length-place (record { number = at-start .args .number; key = at-start .args .key .now }), omega (arith, rest-long (at-start .args .store .now) (at-start .args .n) h, at-start .pre .1 .0, at-start .pre .1 .1 .0))
+    let a = at-start .args in
+    let h = at-start .pre .0 in (
+      ap length (at-write .write .ensures)
+          ∙ length-place (record { number = a .number; key = a .key .now }),
+      omega (arith, rest-long (a .store .now) (a .n) h, at-start .pre .1 .0, at-start .pre .1 .1 .0),
+    )
 
 slice-relend-prefix-counts : tie.Need-slice-relend-prefix-counts
 slice-relend-prefix-counts c =
@@ -129,12 +133,14 @@ returns c =
     let at-new = at-write .before .before in
     let at-number = at-new .before .before .before in
     let at-start = at-number .before .before .before .before in
-    let store = at-start .args .store .now in
-    let e : Entry = record { number = at-start .args .number; key = at-start .args .key .now } in
-    let h : 8 ≤ length store = omega (arith, long store (at-start .args .n) (at-start .pre .0)) in
-    let room = ap (λ (l : List ℕ). opened (rest store (at-start .args .n) (at-start .pre .0)) (at-start .args .at * 260) (at-start .args .n - at-start .args .at + 1) l) (at-write .write .ensures) in
+    let a = at-start .args in
+    let store = a .store .now in
+    let e : Entry = record { number = a .number; key = a .key .now } in
+    let h : 8 ≤ length store = omega (arith, long store (a .n) (at-start .pre .0)) in
+    let room = ap (λ (l : List ℕ). opened (rest store (a .n) (at-start .pre .0)) (a .at * 260) (a .n - a .at + 1) l) (at-write .write .ensures) in
     ap (λ (r : List ℕ). at-counts .counts .last .0 ++ r) (given-rest store (at-make-room .make-room .last .0) h)
-    ∙ inserted store (at-start .args .n) (at-start .pre .0) (at-start .args .at) e (at-start .pre .1 .0) (at-start .pre .1 .1 .0) (at-counts .counts .ensures) (ap₂ (λ (x y : ℕ). x + y) (at-number .number .ensures) (at-new .new .ensures))
+    ∙ inserted store (a .n) (at-start .pre .0) (a .at) e (at-start .pre .1 .0) (at-start .pre .1 .1 .0) (at-counts .counts .ensures)
+    (ap₂ (λ (x y : ℕ). x + y) (at-number .number .ensures) (at-new .new .ensures))
     (at-make-room .make-room .ensures ∙ room)
 
 pub insert-spec : {M : Type 1} → statement M

@@ -1,6 +1,6 @@
 -- `new` meets its contract: a key is new where no entry has it. Assumes nothing.
 use Prim.Native.Nat.{ℕ}
-use mathlib.Core.Path.{_≡_, sym, ap, _∙_}
+use mathlib.Core.Path.{sym, ap, _∙_}
 use mathlib.Core.Bool.{Bool, cond}
 use borrow.Author.Tests.{eq-eqb, ne-eqb}
 use Rattle.catalogue_form.specs.Form.{entriesOf}
@@ -17,15 +17,17 @@ returns : tie.Need-returns
 returns c =
     let at-having = c .before .before in
     let at-start = at-having .before .before .before in
+    let a = at-start .args in
     let h = at-having .having .ensures .0 in
-    sym (among-having (at-start .args .key .now) (entriesOf (at-start .args .n) (at-start .args .places .now)) ∙ ap (λ (t : Bool). cond {A = ℕ} t 1 0) (eq-eqb _ 0 (sym h ∙ c .if1 .taken)))
+    sym (among-having (a .key .now) (entriesOf (a .n) (a .places .now)) ∙ ap (λ (t : Bool). cond {A = ℕ} t 1 0) (eq-eqb _ 0 (sym h ∙ c .if1 .taken)))
 
 returns-2 : tie.Need-returns-2
 returns-2 c =
     let at-having = c .before .before in
     let at-start = at-having .before .before .before in
+    let a = at-start .args in
     let h = at-having .having .ensures .0 in
-    sym (among-having (at-start .args .key .now) (entriesOf (at-start .args .n) (at-start .args .places .now)) ∙ ap (λ (t : Bool). cond {A = ℕ} t 1 0) (ne-eqb _ 0 (λ e. c .if1 .left (h ∙ e))))
+    sym (among-having (a .key .now) (entriesOf (a .n) (a .places .now)) ∙ ap (λ (t : Bool). cond {A = ℕ} t 1 0) (ne-eqb _ 0 (λ e. c .if1 .left (h ∙ e))))
 
 pub new-spec : {M : Type 1} → statement M
 new-spec = tie.close (tie.spec having-requires returns returns-2)

@@ -10,7 +10,7 @@ use Rattle.questions.specs.Questions.{all, zero?}
 use Rattle.catalogue_distinct.specs.Distinct.{distinct, records}
 use Rattle.catalogue_form.specs.Form.{value}
 use Rattle.catalogue_form.specs.Contracts.{placesHold}
-use Rattle.catalogue_form.proofs.Zeros.{lent-rest}
+use Rattle.lent.proofs.Parts.{lent-rest}
 use Rattle.catalogue_form.proofs.Forms.{refused-long, refused-few, refused-hold, refused-rest, answered}
 use borrow.Author.Needs.{needs}
 use native.Mathlib.Omega.{arith}

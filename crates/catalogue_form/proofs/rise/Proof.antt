@@ -1,5 +1,5 @@
 -- `rise` meets its contract: what is left to ask of the places is what was asked of all. Assumes nothing.
-use Prim.Native.Nat.{ℕ, _+_, _-_, _*_, _≤_, _<_}
+use Prim.Native.Nat.{ℕ, _+_, _-_, _*_, _≤_}
 use mathlib.Core.Path.{_≡_, refl, sym, ap, ap₂, _∙_}
 use native.Mathlib.Omega.{arith}
 use native.Mathlib.Nat.{sub-zero}
@@ -36,7 +36,9 @@ returns c =
     let at-loop-test = at-number .before in
     let at-loop = at-loop-test .before in
     let at-start = at-loop .before .before in
-    hold-low (at-start .args .places .now) (at-start .args .n) (at-loop .loop .i) (at-loop .loop .least) (at-loop .loop .inv .1 .1) (at-loop-test .loop-test .taken) (omega (arith, at-number .number .ensures, c .if1 .taken))
+    let a = at-start .args in
+    hold-low (a .places .now) (a .n) (at-loop .loop .i) (at-loop .loop .least) (at-loop .loop .inv .1 .1) (at-loop-test .loop-test .taken)
+    (omega (arith, at-number .number .ensures, c .if1 .taken))
 
 add-zero-behind : tie.Need-add-zero-behind Inv-loop μ-loop
 add-zero-behind c = search needs
@@ -61,10 +63,11 @@ returns-2 c =
     let at-loop-test = at-number .before in
     let at-loop = at-loop-test .before in
     let at-start = at-loop .before .before in
+    let a = at-start .args in
     let i = at-loop .loop .i in
     let size : i * 260 + 260 - i * 260 ≡ 260 = omega arith in
-    hold-dirt (at-start .args .places .now) (at-start .args .n) i (at-loop .loop .least) (at-loop .loop .inv .1 .1) (at-loop-test .loop-test .taken) (omega (arith, at-number .number .ensures, at-if1 .if1 .left))
-    (ap (λ (k : ℕ). zeroBehind (take k (drop (i * 260) (at-start .args .places .now)))) (sym size) ∙ (sym (at-zero-behind .zero-behind .ensures) ∙ not-true _ (c .if2 .taken)))
+    hold-dirt (a .places .now) (a .n) i (at-loop .loop .least) (at-loop .loop .inv .1 .1) (at-loop-test .loop-test .taken) (omega (arith, at-number .number .ensures, at-if1 .if1 .left))
+    (ap (λ (k : ℕ). zeroBehind (take k (drop (i * 260) (a .places .now)))) (sym size) ∙ (sym (at-zero-behind .zero-behind .ensures) ∙ not-true _ (c .if2 .taken)))
 
 add-least : tie.Need-add-least Inv-loop μ-loop
 add-least c = search needs
@@ -83,11 +86,13 @@ loop-again c =
     let at-loop-test = at-number .before in
     let at-loop = at-loop-test .before in
     let at-start = at-loop .before .before in
+    let a = at-start .args in
     let i = at-loop .loop .i in
     let size : i * 260 + 260 - i * 260 ≡ 260 = omega arith in
-    let clean = ap (λ (k : ℕ). zeroBehind (take k (drop (i * 260) (at-start .args .places .now)))) (sym size) ∙ (sym (at-zero-behind .zero-behind .ensures) ∙ not-false _ (c .if2 .left)) in
-    let next = hold-next (at-start .args .places .now) (at-start .args .n) i (at-loop .loop .least) (at-loop .loop .inv .1 .1) (at-loop-test .loop-test .taken) (omega (arith, at-number .number .ensures, at-if1 .if1 .left)) clean in
-    (omega arith, (omega arith, next ∙ ap (λ (k : ℕ). placesHold (k + 1) (at-start .args .n - (i + 1)) (drop ((i + 1) * 260) (at-start .args .places .now))) (sym (at-number .number .ensures))))
+    let clean = ap (λ (k : ℕ). zeroBehind (take k (drop (i * 260) (a .places .now)))) (sym size) ∙ (sym (at-zero-behind .zero-behind .ensures) ∙ not-false _ (c .if2 .left)) in
+    let next = hold-next (a .places .now) (a .n) i (at-loop .loop .least) (at-loop .loop .inv .1 .1) (at-loop-test .loop-test .taken)
+    (omega (arith, at-number .number .ensures, at-if1 .if1 .left)) clean in
+    (omega arith, (omega arith, next ∙ ap (λ (k : ℕ). placesHold (k + 1) (a .n - (i + 1)) (drop ((i + 1) * 260) (a .places .now))) (sym (at-number .number .ensures))))
 
 returns-3 : tie.Need-returns-3 Inv-loop μ-loop
 returns-3 c =

@@ -55,9 +55,11 @@ has-requires c κs =
     let at-loop-test = c .before in
     let at-loop = at-loop-test .before in
     let at-start = at-loop .before .before .before in
+    let a = at-start .args in
     let at = (at-loop .loop .i - 1) * 260 in
     let s : at + 260 - at ≡ 260 = omega arith in
-    ap (λ (k : ℕ). length (take k (drop at (at-start .args .places .now)))) s ∙ length-take-le 260 (drop at (at-start .args .places .now)) (omega (arith, at-start .pre .1, at-loop .loop .inv .0, at-loop-test .loop-test .taken, length-drop at (at-start .args .places .now)))
+    ap (λ (k : ℕ). length (take k (drop at (a .places .now)))) s
+    ∙ length-take-le 260 (drop at (a .places .now)) (omega (arith, at-start .pre .1, at-loop .loop .inv .0, at-loop-test .loop-test .taken, length-drop at (a .places .now)))
 
 add-entries : tie.Need-add-entries Inv-loop μ-loop
 add-entries c =
@@ -85,17 +87,25 @@ loop-again c =
     let at-loop = at-loop-test .before in
     let at-shared-slice-known = at-loop .before .before in
     let at-start = at-shared-slice-known .before in
-    let n = at-start .args .n in
-    let l = drop ((at-loop .loop .i - 1) * 260) (at-start .args .places .now) in
+    let a = at-start .args in
+    let n = a .n in
+    let l = drop ((at-loop .loop .i - 1) * 260) (a .places .now) in
     let in-n : at-loop .loop .i - 1 < n = omega (arith, at-loop .loop .inv .0, at-loop-test .loop-test .taken) in
     let s : (at-loop .loop .i - 1) * 260 + 260 - (at-loop .loop .i - 1) * 260 ≡ 260 = omega arith in
     let one : at-loop .loop .i ≡ suc (at-loop .loop .i - 1) = omega (arith, at-loop-test .loop-test .taken) in
-    let byte : getD l 4 0 < 256 = omega (arith, at-shared-slice-known .shared-slice-known .given ((at-loop .loop .i - 1) * 260 + 4), getD-drop ((at-loop .loop .i - 1) * 260) (at-start .args .places .now) 4 0) in
-    let part = ap (λ (k : ℕ). entryOf (take k l)) s ∙ entry-front l (omega (arith, at-start .pre .1, length-drop ((at-loop .loop .i - 1) * 260) (at-start .args .places .now))) byte in
-    let asked = ap (λ (e : Entry). same (at-start .args .key .now) (e .key)) (sym part) ∙ sym (at-has .has .ensures) in
-    let c₀ = subst (λ (k : ℕ). Counted (at-start .args .key .now) (drop k (entriesOf n (at-start .args .places .now))) (at-loop .loop .entries) (at-loop .loop .number)) one (at-loop .loop .inv .1 .1) in
-    let done = counted-one (at-start .args .key .now) (at-loop .loop .i - 1) n (at-start .args .places .now) in-n c₀ (asked ∙ at-if1 .if1 .taken) in
-    (omega arith, (omega (arith, at-loop .loop .inv .1 .0, at-loop-test .loop-test .taken), subst (λ (v : ℕ). Counted (at-start .args .key .now) (drop (at-loop .loop .i - 1) (entriesOf n (at-start .args .places .now))) (at-loop .loop .entries + 1) v) (sym (c .number .ensures)) done))
+    let byte : getD l 4 0 < 256 = omega
+    (arith, at-shared-slice-known .shared-slice-known .given ((at-loop .loop .i - 1) * 260 + 4), getD-drop ((at-loop .loop .i - 1) * 260) (a .places .now) 4 0) in
+    let part = ap (λ (k : ℕ). entryOf (take k l)) s ∙ entry-front l (omega (arith, at-start .pre .1, length-drop ((at-loop .loop .i - 1) * 260) (a .places .now))) byte in
+    let asked = ap (λ (e : Entry). same (a .key .now) (e .key)) (sym part) ∙ sym (at-has .has .ensures) in
+    let c₀ = subst (λ (k : ℕ). Counted (a .key .now) (drop k (entriesOf n (a .places .now))) (at-loop .loop .entries) (at-loop .loop .number)) one (at-loop .loop .inv .1 .1) in
+    let done = counted-one (a .key .now) (at-loop .loop .i - 1) n (a .places .now) in-n c₀ (asked ∙ at-if1 .if1 .taken) in (
+      omega arith,
+      (
+        omega (arith, at-loop .loop .inv .1 .0, at-loop-test .loop-test .taken),
+        subst
+            (λ (v : ℕ). Counted (a .key .now) (drop (at-loop .loop .i - 1) (entriesOf n (a .places .now))) (at-loop .loop .entries + 1) v) (sym (c .number .ensures)) done,
+      ),
+    )
 
 loop-less-2 : tie.Need-loop-less-2 Inv-loop μ-loop
 loop-less-2 c =
@@ -109,23 +119,26 @@ loop-again-2 c =
     let at-loop = at-loop-test .before in
     let at-shared-slice-known = at-loop .before .before in
     let at-start = at-shared-slice-known .before in
-    let n = at-start .args .n in
-    let l = drop ((at-loop .loop .i - 1) * 260) (at-start .args .places .now) in
+    let a = at-start .args in
+    let n = a .n in
+    let l = drop ((at-loop .loop .i - 1) * 260) (a .places .now) in
     let in-n : at-loop .loop .i - 1 < n = omega (arith, at-loop .loop .inv .0, at-loop-test .loop-test .taken) in
     let s : (at-loop .loop .i - 1) * 260 + 260 - (at-loop .loop .i - 1) * 260 ≡ 260 = omega arith in
     let one : at-loop .loop .i ≡ suc (at-loop .loop .i - 1) = omega (arith, at-loop-test .loop-test .taken) in
-    let byte : getD l 4 0 < 256 = omega (arith, at-shared-slice-known .shared-slice-known .given ((at-loop .loop .i - 1) * 260 + 4), getD-drop ((at-loop .loop .i - 1) * 260) (at-start .args .places .now) 4 0) in
-    let part = ap (λ (k : ℕ). entryOf (take k l)) s ∙ entry-front l (omega (arith, at-start .pre .1, length-drop ((at-loop .loop .i - 1) * 260) (at-start .args .places .now))) byte in
-    let asked = ap (λ (e : Entry). same (at-start .args .key .now) (e .key)) (sym part) ∙ sym (at-has .has .ensures) in
-    let c₀ = subst (λ (k : ℕ). Counted (at-start .args .key .now) (drop k (entriesOf n (at-start .args .places .now))) (at-loop .loop .entries) (at-loop .loop .number)) one (at-loop .loop .inv .1 .1) in
-    (omega (arith, at-loop .loop .inv .0), (omega (arith, at-loop .loop .inv .1 .0), counted-not (at-start .args .key .now) (at-loop .loop .i - 1) n (at-start .args .places .now) in-n c₀ (asked ∙ c .if1 .left)))
+    let byte : getD l 4 0 < 256 = omega
+    (arith, at-shared-slice-known .shared-slice-known .given ((at-loop .loop .i - 1) * 260 + 4), getD-drop ((at-loop .loop .i - 1) * 260) (a .places .now) 4 0) in
+    let part = ap (λ (k : ℕ). entryOf (take k l)) s ∙ entry-front l (omega (arith, at-start .pre .1, length-drop ((at-loop .loop .i - 1) * 260) (a .places .now))) byte in
+    let asked = ap (λ (e : Entry). same (a .key .now) (e .key)) (sym part) ∙ sym (at-has .has .ensures) in
+    let c₀ = subst (λ (k : ℕ). Counted (a .key .now) (drop k (entriesOf n (a .places .now))) (at-loop .loop .entries) (at-loop .loop .number)) one (at-loop .loop .inv .1 .1) in
+    (omega (arith, at-loop .loop .inv .0), (omega (arith, at-loop .loop .inv .1 .0), counted-not (a .key .now) (at-loop .loop .i - 1) n (a .places .now) in-n c₀ (asked ∙ c .if1 .left)))
 
 returns : tie.Need-returns Inv-loop μ-loop
 returns c =
     let at-loop = c .before in
     let at-start = at-loop .before .before .before in
+    let a = at-start .args in
     let none : at-loop .loop .i ≡ 0 = omega (arith, c .loop-test .left) in
-    let v = subst (λ (k : ℕ). Counted (at-start .args .key .now) (drop k (entriesOf (at-start .args .n) (at-start .args .places .now))) (at-loop .loop .entries) (at-loop .loop .number)) none (at-loop .loop .inv .1 .1) in
+    let v = subst (λ (k : ℕ). Counted (a .key .now) (drop k (entriesOf (a .n) (a .places .now))) (at-loop .loop .entries) (at-loop .loop .number)) none (at-loop .loop .inv .1 .1) in
     (v .count, v .first)
 
 pub having-spec : {M : Type 1} → statement M

@@ -32,7 +32,8 @@ returns c =
     let at-loop-test = at-number .before in
     let at-loop = at-loop-test .before in
     let at-start = at-loop .before .before in
-    before-here (at-start .args .number) (at-start .args .n) (at-start .args .places .now) (at-loop .loop .i) (at-loop-test .loop-test .taken) (omega (arith, at-number .number .ensures, c .if1 .taken)) (at-loop .loop .inv .1)
+    let a = at-start .args in
+    before-here (a .number) (a .n) (a .places .now) (at-loop .loop .i) (at-loop-test .loop-test .taken) (omega (arith, at-number .number .ensures, c .if1 .taken)) (at-loop .loop .inv .1)
 
 add-i : tie.Need-add-i Inv-loop μ-loop
 add-i c = search needs
@@ -46,7 +47,11 @@ loop-again c =
     let at-loop-test = at-number .before in
     let at-loop = at-loop-test .before in
     let at-start = at-loop .before .before in
-    (omega arith, before-turn (at-start .args .number) (at-start .args .n) (at-start .args .places .now) (at-loop .loop .i) (at-loop-test .loop-test .taken) (omega (arith, at-number .number .ensures, c .if1 .left)) (at-loop .loop .inv .1))
+    let a = at-start .args in (
+      omega arith,
+      before-turn (a .number) (a .n) (a .places .now) (at-loop .loop .i) (at-loop-test .loop-test .taken)
+          (omega (arith, at-number .number .ensures, c .if1 .left)) (at-loop .loop .inv .1),
+    )
 
 returns-2 : tie.Need-returns-2 Inv-loop μ-loop
 returns-2 c =

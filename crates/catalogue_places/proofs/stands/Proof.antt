@@ -18,7 +18,8 @@ returns : tie.Need-returns
 returns c =
     let at-if1 = c .before in
     let at-start = at-if1 .before .before in
-    ap (λ (v : ℕ). eqb v (at-start .args .number)) (c .number .ensures) ∙ stands-here (at-start .args .number) (at-start .args .n) (at-start .args .places .now) (at-start .args .at) (at-if1 .if1 .taken)
+    let a = at-start .args in
+    ap (λ (v : ℕ). eqb v (a .number)) (c .number .ensures) ∙ stands-here (a .number) (a .n) (a .places .now) (a .at) (at-if1 .if1 .taken)
 
 returns-2 : tie.Need-returns-2
 returns-2 c =

@@ -45,8 +45,10 @@ returns c =
     let at-len = at-charged .before in
     let at-add = at-len .before .before .before .before .before in
     let at-start = at-add .before .before .before .before .before .before .before .before in
-    let k = keys.lent (at-start .args .cells .now) (at-start .args .initial) (at-start .args .width) (at-start .args .title .now) (at-start .args .key .now) in
-    adds {c = lent k (at-start .args .number) (at-start .args .store .now)} (at-add .add .ensures) (c .number .ensures) (at-place .place .ensures) (at-len .len .ensures) (at-charged .charged .ensures) (at-report .report .ensures)
+    let a = at-start .args in
+    let k = keys.lent (a .cells .now) (a .initial) (a .width) (a .title .now) (a .key .now) in
+    adds {c = lent k (a .number) (a .store .now)} (at-add .add .ensures) (c .number .ensures) (at-place .place .ensures) (at-len .len .ensures)
+    (at-charged .charged .ensures) (at-report .report .ensures)
 
 pub arib-catalogue-add-spec : {M : Type 1} → statement M
 arib-catalogue-add-spec =

@@ -71,12 +71,24 @@ shared-slice-read-result-4 c = search needs
 cast-result-4 : tie.Need-cast-result-4
 cast-result-4 c =
     let a = c .before .before .before .before .args in
-    omega (arith, c .before .before .before .shared-slice-known .given (a .at), c .before .before .shared-slice-known2 .given (a .at + 1), c .before .shared-slice-known3 .given (a .at + 2), c .shared-slice-known4 .given (a .at + 3))
+    omega (
+      arith,
+      c .before .before .before .shared-slice-known .given (a .at),
+      c .before .before .shared-slice-known2 .given (a .at + 1),
+      c .before .shared-slice-known3 .given (a .at + 2),
+      c .shared-slice-known4 .given (a .at + 3),
+    )
 
 add-result-6 : tie.Need-add-result-6
 add-result-6 c =
     let a = c .before .before .before .before .args in
-    omega (arith, c .before .before .before .shared-slice-known .given (a .at), c .before .before .shared-slice-known2 .given (a .at + 1), c .before .shared-slice-known3 .given (a .at + 2), c .shared-slice-known4 .given (a .at + 3))
+    omega (
+      arith,
+      c .before .before .before .shared-slice-known .given (a .at),
+      c .before .before .shared-slice-known2 .given (a .at + 1),
+      c .before .shared-slice-known3 .given (a .at + 2),
+      c .shared-slice-known4 .given (a .at + 3),
+    )
 
 returns : tie.Need-returns
 returns c =

@@ -1,6 +1,6 @@
 -- `back` meets its contract: so many bytes are moved. Assumes nothing.
 use Prim.Native.Nat.{ℕ, _+_, _-_, _≤_, _<_}
-use mathlib.Core.Path.{_≡_, refl, sym, ap, _∙_}
+use mathlib.Core.Path.{_≡_, refl, ap, _∙_}
 use lib.ListN.{length, drop, length-set}
 use lib.Seq.{paste-zero}
 use Rattle.catalogue_places.specs.Contracts.{movedBack}
@@ -66,9 +66,10 @@ loop-again c =
     let at-loop-test = c .before in
     let at-loop = at-loop-test .before in
     let at-start = at-loop .before in
+    let a = at-start .args in
     let v = at-loop .loop .inv in
-    let long : at-start .args .at + at-loop .loop .i + 260 < length (at-start .args .places .now) = omega (arith, at-start .pre, at-loop-test .loop-test .taken) in
-    (length-set (at-loop .loop .places) (at-start .args .at + at-loop .loop .i) _ ∙ v .0, (omega arith, back-turn (at-start .args .places .now) (at-loop .loop .places) (at-start .args .at) (at-loop .loop .i) long (v .1 .1)))
+    let long : a .at + at-loop .loop .i + 260 < length (a .places .now) = omega (arith, at-start .pre, at-loop-test .loop-test .taken) in
+    (length-set (at-loop .loop .places) (a .at + at-loop .loop .i) _ ∙ v .0, (omega arith, back-turn (a .places .now) (at-loop .loop .places) (a .at) (at-loop .loop .i) long (v .1 .1)))
 
 same-length : tie.Need-same-length Inv-loop μ-loop
 same-length c =

@@ -1,7 +1,6 @@
 -- `copy` meets its contract: so many bytes are put. Assumes nothing.
-use Prim.Native.Nat.{ℕ, _+_, _-_, _≤_, _<_}
+use Prim.Native.Nat.{_+_, _-_, _≤_, _<_}
 use mathlib.Core.Path.{_≡_, refl, ap, _∙_}
-use mathlib.Core.List.{List}
 use lib.ListN.{length, take, length-set}
 use lib.Seq.{sets, take-all}
 use Rattle.lent.proofs.Stores.{sets-more}
@@ -48,8 +47,12 @@ loop-again c =
     let at-loop-test = c .before in
     let at-loop = at-loop-test .before in
     let at-start = at-loop .before in
-    let v = at-loop .loop .inv in
-    (length-set (at-loop .loop .d) (at-start .args .at + at-loop .loop .i) _ ∙ v .0, (omega arith, sets-more (at-start .args .d .now) (at-start .args .s .now) (at-loop .loop .d) (at-start .args .at) (at-loop .loop .i) (at-loop-test .loop-test .taken) (v .1 .1)))
+    let a = at-start .args in
+    let v = at-loop .loop .inv in (
+      length-set (at-loop .loop .d) (a .at + at-loop .loop .i) _
+          ∙ v .0,
+      (omega arith, sets-more (a .d .now) (a .s .now) (at-loop .loop .d) (a .at) (at-loop .loop .i) (at-loop-test .loop-test .taken) (v .1 .1)),
+    )
 
 same-length : tie.Need-same-length Inv-loop μ-loop
 same-length c =

@@ -1,5 +1,5 @@
 -- `exchange` meets its contract: up to a byte each string is the other. Assumes nothing.
-use Prim.Native.Nat.{ℕ, _-_, _≤_, _<_}
+use Prim.Native.Nat.{ℕ, _-_, _<_}
 use mathlib.Core.Path.{_≡_, refl, sym, ap, ap₂, _∙_}
 use mathlib.Core.List.{List}
 use lib.ListN.{length, getD, set, length-set}
@@ -45,14 +45,17 @@ loop-again c =
     let at-loop-test = c .before .before in
     let at-loop = at-loop-test .before in
     let at-start = at-loop .before in
-    let a₀ = at-start .args .a .now in
-    let b₀ = at-start .args .b .now in
+    let a = at-start .args in
+    let a₀ = a .a .now in
+    let b₀ = a .b .now in
     let i = at-loop .loop .i in
     let v = at-loop .loop .inv in
     let in-a : i < length a₀ = omega (arith, v .0, at-loop-test .loop-test .taken) in
     let in-b : i < length b₀ = omega (arith, at-start .pre) in
-    let first = ap₂ (λ (l : List ℕ) (x : ℕ). set l i x) (v .1 .1 .0) (ap (λ (l : List ℕ). getD l i 0) (v .1 .1 .1) ∙ mixed-at b₀ a₀ i (sym (at-start .pre)) in-b) ∙ mixed-turn a₀ b₀ i (at-start .pre) in-a in
-    let second = ap₂ (λ (l : List ℕ) (x : ℕ). set l i x) (v .1 .1 .1) (ap (λ (l : List ℕ). getD l i 0) (v .1 .1 .0) ∙ mixed-at a₀ b₀ i (at-start .pre) in-a) ∙ mixed-turn b₀ a₀ i (sym (at-start .pre)) in-b in
+    let first = ap₂ (λ (l : List ℕ) (x : ℕ). set l i x) (v .1 .1 .0) (ap (λ (l : List ℕ). getD l i 0) (v .1 .1 .1) ∙ mixed-at b₀ a₀ i (sym (at-start .pre)) in-b)
+    ∙ mixed-turn a₀ b₀ i (at-start .pre) in-a in
+    let second = ap₂ (λ (l : List ℕ) (x : ℕ). set l i x) (v .1 .1 .1) (ap (λ (l : List ℕ). getD l i 0) (v .1 .1 .0) ∙ mixed-at a₀ b₀ i (at-start .pre) in-a)
+    ∙ mixed-turn b₀ a₀ i (sym (at-start .pre)) in-b in
     (length-set (at-loop .loop .a) i _ ∙ v .0, (length-set (at-loop .loop .b) i _ ∙ v .1 .0, (first, second)))
 
 same-length : tie.Need-same-length Inv-loop μ-loop

@@ -2,7 +2,6 @@
 use Prim.Native.Nat.{ℕ, _+_, _*_, _-_, _≤_}
 use mathlib.Core.Path.{_≡_, refl, sym, ap, _∙_}
 use mathlib.Core.List.{List, _++_}
-use native.Mathlib.Nat.{add-zero}
 use lib.ListN.{length, take, drop, length-drop}
 use lib.Seq.{length-take-le}
 use Rattle.catalogue_places.specs.Contracts.{opened}
@@ -13,7 +12,8 @@ use Rattle.catalogue_places.proofs.moving.make_room.Statement.{statemen
 use Rattle.catalogue_places.proofs.moving.make_room.Tie as tie
 
 abbrev Inv-loop : tie.InvT-loop
-Inv-loop places₀ at n carried₀ i₀ from₀ places carried i from = (i ≤ n) × ((from ≡ at + i * 260) × ((length places ≡ length places₀) × ((length carried ≡ 260) × Carried places₀ carried₀ at i places carried)))
+Inv-loop places₀ at n carried₀ i₀ from₀ places carried i from = (i ≤ n) ×
+    ((from ≡ at + i * 260) × ((length places ≡ length places₀) × ((length carried ≡ 260) × Carried places₀ carried₀ at i places carried)))
 
 abbrev μ-loop : tie.MeasureT-loop
 μ-loop places₀ at n carried₀ i₀ from₀ places carried i from = n - i
@@ -50,7 +50,8 @@ exchange-requires c κs =
     let v = at-loop .loop .inv in
     let s : at-loop .loop .from + 260 - at-loop .loop .from ≡ 260 = omega arith in
     ap (λ (k : ℕ). length (take k (drop (at-loop .loop .from) (at-loop .loop .places)))) s
-    ∙ (length-take-le 260 (drop (at-loop .loop .from) (at-loop .loop .places)) (omega (arith, at-start .pre .1, v .1 .0, v .1 .1 .0, at-loop-test .loop-test .taken, length-drop (at-loop .loop .from) (at-loop .loop .places))) ∙ sym (v .1 .1 .1 .0))
+    ∙ (length-take-le 260 (drop (at-loop .loop .from) (at-loop .loop .places))
+    (omega (arith, at-start .pre .1, v .1 .0, v .1 .1 .0, at-loop-test .loop-test .taken, length-drop (at-loop .loop .from) (at-loop .loop .places))) ∙ sym (v .1 .1 .1 .0))
 
 add-from : tie.Need-add-from Inv-loop μ-loop
 add-from c =
@@ -74,18 +75,21 @@ loop-again c =
     let at-loop-test = at-exchange .before .before .before in
     let at-loop = at-loop-test .before in
     let at-start = at-loop .before .before .before in
+    let a = at-start .args in
     let v = at-loop .loop .inv in
-    let p = at-start .args .places .now in
-    let k = at-start .args .carried .now in
+    let p = a .places .now in
+    let k = a .carried .now in
     let i = at-loop .loop .i in
     let from = at-loop .loop .from in
     let w : ℕ = from + 260 - from in
     let s : w ≡ 260 = omega arith in
-    let fits : at-start .args .at + i * 260 ≤ length p = omega (arith, at-start .pre .1, at-loop-test .loop-test .taken) in
-    let more : at-start .args .at + (i + 1) * 260 ≤ length p = omega (arith, at-start .pre .1, at-loop-test .loop-test .taken) in
-    let next = carried-turn p k (at-start .args .at) (at-start .pre .0) i fits w from s (v .1 .0) (v .1 .1 .1 .1)
-    (ap (λ (r : List ℕ). take from (at-loop .loop .places) ++ (r ++ drop w (drop from (at-loop .loop .places)))) (at-exchange .exchange .ensures .0)) (at-exchange .exchange .ensures .1) in
-    (omega (arith, at-loop-test .loop-test .taken), (omega (arith, v .1 .0), (carried-size p k (at-start .args .at) (at-start .pre .0) (i + 1) more next, (carried-long p k (at-start .args .at) (at-start .pre .0) (i + 1) more next, next))))
+    let fits : a .at + i * 260 ≤ length p = omega (arith, at-start .pre .1, at-loop-test .loop-test .taken) in
+    let more : a .at + (i + 1) * 260 ≤ length p = omega (arith, at-start .pre .1, at-loop-test .loop-test .taken) in
+    let next = carried-turn p k (a .at) (at-start .pre .0) i fits w from s (v .1 .0) (v .1 .1 .1 .1)
+    (ap (λ (r : List ℕ). take from (at-loop .loop .places) ++ (r ++ drop w (drop from (at-loop .loop .places)))) (at-exchange .exchange .ensures .0)) (at-exchange .exchange .ensures .1) in (
+      omega (arith, at-loop-test .loop-test .taken),
+      (omega (arith, v .1 .0), (carried-size p k (a .at) (at-start .pre .0) (i + 1) more next, (carried-long p k (a .at) (at-start .pre .0) (i + 1) more next, next))),
+    )
 
 same-length : tie.Need-same-length Inv-loop μ-loop
 same-length c =

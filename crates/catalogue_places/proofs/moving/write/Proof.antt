@@ -47,10 +47,12 @@ returns c =
     let at-copy = c .before .before in
     let at-put-number = at-copy .before .before .before .before in
     let at-start = at-put-number .before .before .before .before in
-    let n = at-start .args .number in
-    let k = at-start .args .key .now in
+    let a = at-start .args in
+    let n = a .number in
+    let k = a .key .now in
     at-copy .copy .ensures
-    ∙ (ap (λ (l : List ℕ). sets (set l 4 (length k)) 5 k) (at-put-number .put-number .ensures ∙ ap (λ (l : List ℕ). sets l 0 (bigEndian n)) (at-start .pre .0)) ∙ place-written n k (at-start .pre .1))
+    ∙ (ap (λ (l : List ℕ). sets (set l 4 (length k)) 5 k) (at-put-number .put-number .ensures ∙ ap (λ (l : List ℕ). sets l 0 (bigEndian n)) (at-start .pre .0))
+    ∙ place-written n k (at-start .pre .1))
 
 pub write-spec : {M : Type 1} → statement M
 write-spec =
