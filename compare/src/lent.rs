@@ -35,6 +35,13 @@ impl<T: Element> Buffer<T> {
         &mut self.elements[BESIDE..][..room]
     }
 
+    /// A copy of these.
+    pub fn lend_copy(&mut self, of: &[T]) -> &mut [T] {
+        let lent = self.lend(of.len());
+        lent.copy_from_slice(of);
+        lent
+    }
+
     /// What was lent.
     pub fn lent(&self) -> &[T] {
         &self.elements[BESIDE..][..self.room]

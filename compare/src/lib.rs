@@ -1,16 +1,18 @@
-//! Decoding, keys, clean titles, measuring and coding by the static library of crates/text, and by
-//! the crate in rust/ over it, held against the Rust and against a model of docs/01-scope.md
-//! ("01"), and measured against the Rust.
+//! Decoding, keys, clean titles, measuring, coding and the catalogue by the static library of
+//! crates/text, and by the crate in rust/ over it, held against the Rust and against a model of
+//! docs/01-scope.md ("01"), and measured against the Rust.
 
 pub mod bench;
 #[cfg(feature = "library")]
 pub mod binding;
 pub mod call;
+pub mod catalogue;
 pub mod cells;
 pub mod coding;
 pub mod decode;
 pub mod difference;
 pub mod encode;
+pub mod entries;
 pub mod inputs;
 pub mod key;
 pub mod lent;

@@ -1,5 +1,5 @@
-//! `compare decode`, `encode`, `crate`, `programs`, `vectors`, `encode-vectors` or `bench`; README.md
-//! has what each prints.
+//! `compare decode`, `encode`, `catalogue`, `crate`, `programs`, `vectors`, `encode-vectors`,
+//! `catalogue-vectors` or `bench`; README.md has what each prints.
 
 use std::io::{self, Write};
 use std::path;
@@ -9,28 +9,32 @@ use compare::bench::{self, Side};
 use compare::runs::{Amount, Runs, Worker};
 use compare::subject::{self, Subject};
 use compare::words::{Words, number};
-use compare::{decode, encode};
+use compare::{catalogue, decode, encode};
 
 const USAGE: &str = "usage:
 compare decode [--seed N] [--random N] [--every N] [--threads N] [--greatest] [--subject model]
 compare encode [--seed N] [--random N] [--every N] [--threads N] [--greatest] [--subject model]
+compare catalogue [--seed N] [--random N] [--threads N] [--subject model]
 compare crate [--seed N] [--inputs N] [--texts N] [--threads N]
 compare programs [--seed N] [--random N] [--lines N] [--threads N] [--bin FOLDER]
 compare vectors N
 compare encode-vectors N
-compare bench [--subject model]
+compare catalogue-vectors [N]
+compare bench [CASE ..] [--subject model]
 compare bench --list
-compare bench --only rust|subject|exact|question CASE PASSES [STORE] [--subject model]";
+compare bench --only rust|subject|exact|key|question CASE PASSES [STORE] [--subject model]";
 
 fn main() -> ExitCode {
     let mut words = Words::of_program();
     let done = match words.take().as_deref() {
         Some("decode") => run(words, decode::USUAL, decode::all),
         Some("encode") => run(words, encode::USUAL, encode::all),
+        Some("catalogue") => run_catalogue(words),
         Some("crate") => run_crate(words),
         Some("programs") => run_programs(words),
-        Some("vectors") => write_file(words, decode::vectors::file),
-        Some("encode-vectors") => write_file(words, encode::vectors::file),
+        Some("vectors") => write_file(words, None, decode::vectors::file),
+        Some("encode-vectors") => write_file(words, None, encode::vectors::file),
+        Some("catalogue-vectors") => write_file(words, Some(usize::MAX), catalogue::vectors::file),
         Some("bench") => measure(words),
         _ => Err(USAGE.into()),
     };
@@ -59,6 +63,16 @@ where
         every: words.number("--every", usual.every)?.max(1),
         greatest: words.flag("--greatest"),
     };
+    let runs = runs(words, subject, amount)?;
+    println!("subject: {name}");
+    Ok(all(&runs))
+}
+
+/// All runs of the catalogue; false at a difference.
+fn run_catalogue(mut words: Words) -> Result<bool, String> {
+    use compare::catalogue::{Amount, USUAL, all};
+    let (name, subject) = subject(&mut words)?;
+    let amount = Amount { random: words.number("--random", USUAL.random)? };
     let runs = runs(words, subject, amount)?;
     println!("subject: {name}");
     Ok(all(&runs))
@@ -108,16 +122,21 @@ fn runs<W: Worker, A: Sync>(
     Ok(runs)
 }
 
-/// A file of vectors, on standard output.
-fn write_file(mut words: Words, file: fn(usize) -> Vec<u8>) -> Result<bool, String> {
-    let count = words.take().ok_or("how many vectors?")?;
+/// A file of vectors, on standard output: as many as are asked for, or as usual.
+fn write_file(
+    mut words: Words,
+    usual: Option<usize>,
+    file: fn(usize) -> Vec<u8>,
+) -> Result<bool, String> {
+    let asked = words.take().map(|word| number(&word)).transpose()?;
     words.end()?;
-    let file = file(number(&count)? as usize);
+    let count = asked.map(|count| count as usize).or(usual).ok_or("how many vectors?")?;
+    let file = file(count);
     io::stdout().write_all(&file).map_err(|error| error.to_string())?;
     Ok(true)
 }
 
-/// The table of times, the list of cases, or one side of one case.
+/// The tables of times, of all cases or of the named ones; the list of cases; or one side of one case.
 fn measure(mut words: Words) -> Result<bool, String> {
     let (name, subject) = subject(&mut words)?;
     if words.flag("--list") {
@@ -129,8 +148,9 @@ fn measure(mut words: Words) -> Result<bool, String> {
         let store = words.take().map(|word| number(&word)).transpose()?;
         bench::only(subject, side, &case, passes, store.map(|numbers| numbers as usize))?;
     } else {
+        let cases: Vec<String> = std::iter::from_fn(|| words.take()).collect();
         println!("subject: {name}");
-        bench::print(subject);
+        bench::print(subject, &cases);
     }
     words.end()?;
     Ok(true)

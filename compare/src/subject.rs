@@ -22,6 +22,14 @@ pub struct CodingLent<'a> {
     pub counts: &'a mut [usize; 3],
 }
 
+/// What is lent to a call that adds to a catalogue. The first three counts are place, bytes of the
+/// key and charge.
+pub struct CatalogueLent<'a> {
+    pub store: &'a mut [u8],
+    pub key: &'a mut [u8],
+    pub counts: &'a mut [usize],
+}
+
 /// The functions of the static library.
 pub trait Subject: Sync {
     /// `arib_decode`: the refusal's number, or 0.
@@ -44,6 +52,16 @@ pub trait Subject: Sync {
     /// `arib_measure`: the refusal's number, or 0. The first four counts are the first four of
     /// `arib_decode` in buffers that are large enough.
     fn measure(&self, call: Call, counts: &mut [usize]) -> u32;
+
+    /// `arib_catalogue_add`: the refusal's number, or 0. The input is the title.
+    fn add(&self, call: Call, number: u32, lent: CatalogueLent) -> u32;
+
+    /// `arib_catalogue_remove`: the refusal's number, or 0.
+    fn remove(&self, store: &mut [u8], number: u32) -> u32;
+
+    /// `arib_catalogue_find`: the refusal's number, or 0. The first three counts are the place, how
+    /// many entries have the key, and the smallest of their numbers.
+    fn find(&self, store: &[u8], key: &[u8], counts: &mut [usize]) -> u32;
 }
 
 /// The model, which is always there.

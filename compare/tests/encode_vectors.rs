@@ -1,13 +1,15 @@
 //! The file of coding's vectors, read from its beginning to its end as a replay reads it.
 
 mod rest;
+mod vector_case;
 
 use compare::call::CodingRooms;
 use compare::coding::Coding;
 use compare::encode::Buffers;
 use compare::encode::vectors::{self, LONGEST, MOST};
 use compare::subject;
-use rest::{Case, Rest};
+use rest::Rest;
+use vector_case::Case;
 
 /// What the cases hold, by refusal number, and how many have a gap.
 #[test]

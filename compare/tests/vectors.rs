@@ -1,13 +1,15 @@
 //! The file of vectors, read from its beginning to its end as a replay reads it.
 
 mod rest;
+mod vector_case;
 
 use compare::call::Rooms;
 use compare::decode::vectors::{self, MOST};
 use compare::decode::{Buffers, DECODED};
 use compare::model::Reading;
 use compare::subject;
-use rest::{Case, Rest};
+use rest::Rest;
+use vector_case::Case;
 
 /// What the cases hold, by refusal number, and how many have private-use characters.
 #[test]

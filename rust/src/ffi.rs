@@ -84,3 +84,78 @@ pub fn unknown_escape(input: &[u8], start: usize, length: usize, part: &mut [usi
     // SAFETY: both pointers come with the lengths of their slices, which do not overlap.
     unsafe { arib_unknown_escape(bytes, input.len(), start, length, places, part.len()) }
 }
+
+unsafe extern "C" {
+    fn arib_catalogue_add(
+        cells: *const u16,
+        cells_len: usize,
+        initial: u32,
+        width: u32,
+        title: *const u8,
+        title_len: usize,
+        number: u32,
+        store: *mut u8,
+        store_len: usize,
+        key: *mut u8,
+        key_len: usize,
+        counts: *mut usize,
+        counts_len: usize,
+    ) -> u32;
+
+    fn arib_catalogue_remove(store: *mut u8, store_len: usize, number: u32) -> u32;
+
+    fn arib_catalogue_find(
+        store: *const u8,
+        store_len: usize,
+        key: *const u8,
+        key_len: usize,
+        counts: *mut usize,
+        counts_len: usize,
+    ) -> u32;
+}
+
+/// Counts: place, bytes of the key, charge. The input is the title. A refusal leaves the store as
+/// it was.
+#[inline]
+pub fn catalogue_add(
+    call: Call,
+    number: u32,
+    store: &mut [u8],
+    key: &mut [u8],
+    counts: &mut [usize],
+) -> u32 {
+    // SAFETY: each pointer comes with the length of its slice, and no two slices overlap.
+    unsafe {
+        arib_catalogue_add(
+            call.cells.as_ptr(),
+            call.cells.len(),
+            call.initial,
+            call.width,
+            call.input.as_ptr(),
+            call.input.len(),
+            number,
+            store.as_mut_ptr(),
+            store.len(),
+            key.as_mut_ptr(),
+            key.len(),
+            counts.as_mut_ptr(),
+            counts.len(),
+        )
+    }
+}
+
+/// A refusal leaves the store as it was.
+#[inline]
+pub fn catalogue_remove(store: &mut [u8], number: u32) -> u32 {
+    // SAFETY: the pointer comes with the length of its slice.
+    unsafe { arib_catalogue_remove(store.as_mut_ptr(), store.len(), number) }
+}
+
+/// Counts: place, entries that have the key, the smallest of their numbers.
+#[inline]
+pub fn catalogue_find(store: &[u8], key: &[u8], counts: &mut [usize]) -> u32 {
+    let (bytes, sought, found) = (store.as_ptr(), key.as_ptr(), counts.as_mut_ptr());
+    // SAFETY: each pointer comes with the length of its slice. The call writes only the counts,
+    // which no other slice overlaps.
+    unsafe { arib_catalogue_find(bytes, store.len(), sought, key.len(), found, counts.len()) }
+}

@@ -23,9 +23,18 @@ use crate::ffi;
 /// assert_eq!(refused.reason(), Some(Reason::PrivateUse));
 /// ```
 pub fn key_with(bytes: &[u8], opts: &DecodeOptions) -> Result<String, Refused> {
+    let call = opts.call(bytes);
+    key_by(bytes, |key, counts| ffi::key(call, key, counts))
+}
+
+/// The key that a call leaves of a title: in a larger buffer as long as it answers 8.
+pub(crate) fn key_by(
+    bytes: &[u8],
+    mut call: impl FnMut(&mut [u8], &mut [usize]) -> u32,
+) -> Result<String, Refused> {
     let (mut key, mut counts) = (vec![0; text_room(bytes)], [0; 3]);
     loop {
-        match ffi::key(opts.call(bytes), &mut key, &mut counts) {
+        match call(&mut key, &mut counts) {
             0 => return Ok(written(key, counts[1])),
             8 => key = larger(&key),
             number => return Err(Refused::new(number, &counts)),

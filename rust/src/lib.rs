@@ -27,9 +27,11 @@
 //! [`try_decode_with`] says which question an input fails instead of panicking; [`Issue::position`]
 //! is an issue's place in the text, which a program that spells out an [`Issue`] has to name too;
 //! [`Decoded::private_use`] counts the private-use characters of the text, and likewise has to be
-//! named. A title that has any gets no key, for [`Reason::PrivateUse`].
+//! named. A title that has any gets no key, for [`Reason::PrivateUse`]. A [`Catalogue`] holds
+//! titles by number and finds them by key, two spellings of one series together.
 
 mod buffers;
+pub mod catalogue;
 mod cells;
 pub mod clean;
 pub mod decode;
@@ -41,6 +43,7 @@ pub mod measure;
 pub mod reason;
 pub mod sets;
 
+pub use catalogue::{Catalogue, Found};
 pub use clean::clean_with;
 pub use decode::{
     DecodeOptions, Decoded, Issue, IssueKind, Refused, WidthMode, decode_with, try_decode_with,

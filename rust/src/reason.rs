@@ -4,8 +4,11 @@ use std::fmt;
 
 use crate::decode::Refused;
 
-/// Why decoding, measuring, asking for issues or a key is refused. Other questions do not fail: the
-/// cell table and the options are the crate's own, and its buffers grow.
+/// Why decoding, measuring, asking for issues or a key, or a call of a [`Catalogue`] is refused.
+/// Other questions do not fail: the cell table and the options are the crate's own, and its buffers
+/// grow.
+///
+/// [`Catalogue`]: crate::Catalogue
 #[derive(Debug, Clone, Copy, PartialEq, Eq, Hash)]
 #[non_exhaustive]
 pub enum Reason {
@@ -15,6 +18,13 @@ pub enum Reason {
     HasIssues,
     /// 11: the title's text has a private-use character, U+E000 to U+F8FF, so it has no key.
     PrivateUse,
+    /// 12: the catalogue does not match the call. On adding, the number is present; on removing, it
+    /// is absent; of bytes to make a catalogue from, the length or the form is another.
+    CatalogueMismatch,
+    /// 13: the key to be added to a catalogue has more than 255 bytes.
+    KeyTooLong,
+    /// 14: the catalogue to be added to has 1,024 entries.
+    CatalogueFull,
 }
 
 impl Refused {
@@ -34,6 +44,9 @@ impl Refused {
             3 => Some(Reason::TooLong),
             10 => Some(Reason::HasIssues),
             11 => Some(Reason::PrivateUse),
+            12 => Some(Reason::CatalogueMismatch),
+            13 => Some(Reason::KeyTooLong),
+            14 => Some(Reason::CatalogueFull),
             _ => None,
         }
     }
@@ -45,6 +58,11 @@ impl fmt::Display for Reason {
             Reason::TooLong => "there are more than 65,535 bytes",
             Reason::HasIssues => "the title does not read without issue",
             Reason::PrivateUse => "the title's text has a private-use character",
+            Reason::CatalogueMismatch => {
+                "the number to add is present, that to remove is absent, or bytes are no catalogue"
+            }
+            Reason::KeyTooLong => "the key has more than 255 bytes",
+            Reason::CatalogueFull => "the catalogue has 1,024 entries",
         })
     }
 }

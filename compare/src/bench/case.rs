@@ -1,8 +1,10 @@
 //! What a case of the benchmark is.
 
+use super::Stock;
 use crate::call::{Call, CodingRooms, Rooms};
 use crate::cells;
 use crate::coding::{Coder, Coding};
+use crate::entries::{LONGEST, MOST};
 
 /// What is done with an input.
 #[derive(Clone, Copy, PartialEq, Eq)]
@@ -18,7 +20,14 @@ pub enum Work {
     Code,
     /// Decoding by the crate in rust/, which allocates what it answers, as the Rust does.
     Crate,
+    /// A key sought in a catalogue.
+    Find(Stock),
+    /// A title added to a catalogue with the number 0, before all others, and removed again.
+    AddRemove(Stock),
 }
+
+/// Room for the key of a title that is added: 255 full-width letters.
+const ADDED: usize = 3 * LONGEST;
 
 /// Inputs that are taken one after another, under CharacterSize, with the Rust's table.
 pub struct Case {
@@ -47,12 +56,15 @@ impl Case {
 }
 
 impl Ready {
-    /// The lengths of what is lent: text and issues, the key alone, nothing, or store and coding.
+    /// The lengths of what is lent: text and issues, the key alone, nothing, or store and coding; of
+    /// a catalogue the key and the entries that it holds.
     pub fn rooms(&self) -> [usize; 2] {
         match self.work {
             Work::Decode(Rooms { text, issues }) => [text, issues],
             Work::Key(text) => [text, 0],
             Work::Clean | Work::Measure | Work::Crate => [0, 0],
+            Work::Find(stock) => [0, stock.entries(MOST).len()],
+            Work::AddRemove(stock) => [ADDED, stock.entries(MOST - 1).len()],
             Work::Code => {
                 let CodingRooms { store, coding } = self.greatest(CodingRooms::exact);
                 [self.store.unwrap_or(store), coding]

@@ -1,11 +1,14 @@
 //! What is measured.
 
+use super::Stock;
 use super::case::{Case, Work};
 use super::inputs::{
     behind_issue, damaged_kana, damaged_titles, kana, kanji, macro_empty, macro_kana,
-    macro_one_byte, marks, mixed, private_use,
+    macro_one_byte, marks, mixed, private_use, sought,
 };
 use crate::call::{LONGEST, Rooms};
+use crate::catalogue::given::letters;
+use crate::entries::MOST;
 use crate::model::ISSUE;
 use crate::texts::long;
 use crate::titles;
@@ -88,6 +91,30 @@ pub const CODE: &[Case] = &[
     coded("code-newlines", 0, || vec![long::newlines(100).into()], 1),
 ];
 
+/// The catalogue: keys sought, titles added and removed.
+pub const CATALOGUE: &[Case] = &[
+    found("catalogue-find-empty", Stock::Empty, || sought(Stock::Empty), 20),
+    found("catalogue-find-64", Stock::Different(64), || sought(Stock::Different(64)), 20),
+    found("catalogue-find-1024", Stock::Different(MOST), || sought(Stock::Different(MOST)), 2),
+    found("catalogue-find-equal", Stock::Equal, || sought(Stock::Equal), 2),
+    found("catalogue-find-last", Stock::Last, || sought(Stock::Last), 2),
+    added("catalogue-add-remove-empty", Stock::Empty, short, 20),
+    added("catalogue-add-remove-64", Stock::Different(64), short, 20),
+    added("catalogue-add-remove-1024", Stock::Different(MOST), short, 2),
+    added("catalogue-add-remove-equal", Stock::Equal, || alike(Stock::Equal), 2),
+    added("catalogue-add-remove-last", Stock::Last, || alike(Stock::Last), 2),
+];
+
+/// A title of 30 letters.
+fn short() -> Vec<Vec<u8>> {
+    vec![letters(false, b"THEQUICKBROWNFOXJUMPSOVERTHELA")]
+}
+
+/// A title whose key is the last of as many entries as there can be.
+fn alike(stock: Stock) -> Vec<Vec<u8>> {
+    vec![letters(false, &stock.key(MOST - 1))]
+}
+
 /// One input of 64 KB, a caption.
 const fn large(
     name: &'static str,
@@ -116,4 +143,24 @@ const fn coded(
     passes: u32,
 ) -> Case {
     Case { name, work: Work::Code, initial, inputs, passes }
+}
+
+/// Keys to seek.
+const fn found(
+    name: &'static str,
+    stock: Stock,
+    inputs: fn() -> Vec<Vec<u8>>,
+    passes: u32,
+) -> Case {
+    Case { name, work: Work::Find(stock), initial: 0, inputs, passes }
+}
+
+/// Titles to add and remove.
+const fn added(
+    name: &'static str,
+    stock: Stock,
+    inputs: fn() -> Vec<Vec<u8>>,
+    passes: u32,
+) -> Case {
+    Case { name, work: Work::AddRemove(stock), initial: 0, inputs, passes }
 }

@@ -1,6 +1,8 @@
 //! Inputs of the cases.
 
+use super::Stock;
 use crate::call::LONGEST;
+use crate::entries::MOST;
 use crate::inputs::bombs;
 use crate::titles;
 
@@ -81,4 +83,11 @@ pub fn private_use() -> Vec<u8> {
     let mut line = [0xB3, 0xCE, 0x36, 0x4A, 0x7C, 0x3A].repeat(7);
     line.push(0x0D);
     line.repeat(LONGEST / line.len())
+}
+
+/// Keys to seek: those of the first, the middle and the last entry, and one that none has.
+pub fn sought(stock: Stock) -> Vec<Vec<u8>> {
+    let count = stock.entries(MOST).len();
+    let held = if count == 0 { vec![] } else { vec![0, count / 2, count - 1] };
+    held.into_iter().chain([MOST]).map(|n| stock.key(n)).collect()
 }

@@ -6,9 +6,10 @@ use isdb_text::{decode_with, encode_with};
 
 use super::{Ready, Work};
 use crate::call::Call;
+use crate::entries::MOST;
 use crate::key::key;
 use crate::model::ISSUE;
-use crate::subject::{CodingLent, Lent, Subject};
+use crate::subject::{CatalogueLent, CodingLent, Lent, Subject};
 
 /// Who does the work of a case.
 #[derive(Clone, Copy, PartialEq, Eq)]
@@ -21,6 +22,9 @@ pub enum Side {
     /// The subject's `arib_decode`, question 1 included, in buffers just as large as
     /// `arib_measure` says.
     Exact,
+    /// The subject's `arib_key` of the titles that are added to a catalogue, in the same buffer; of
+    /// keys that are sought nothing.
+    Key,
     /// `arib_decode` with no buffers and an option that question 2 refuses: question 1 alone.
     Question,
 }
@@ -34,6 +38,7 @@ impl Side {
             "rust" => Some(Side::Rust),
             "subject" => Some(Side::Subject),
             "exact" => Some(Side::Exact),
+            "key" => Some(Side::Key),
             "question" => Some(Side::Question),
             _ => None,
         }
@@ -46,6 +51,7 @@ impl Side {
             Side::Rust => rust(case),
             Side::Subject => own(subject, case),
             Side::Exact => exact(subject, case),
+            Side::Key => keyed(subject, case),
             Side::Question => question(subject, case),
         }
     }
@@ -71,6 +77,7 @@ fn rust(case: &Ready) -> Runner<'_> {
                 texts.iter().for_each(|text| drop(black_box(encode_with(text, &coding))));
             })
         }
+        Work::Find(_) | Work::AddRemove(_) => panic!("the Rust has no catalogue"),
     }
 }
 
@@ -84,12 +91,7 @@ fn own<'a>(subject: &'a dyn Subject, case: &'a Ready) -> Runner<'a> {
                 assert_eq!(subject.decode(Call { input, ..call }, lent), 0);
             })
         }
-        Work::Key(_) => {
-            let mut buffer = vec![0; first];
-            each(&case.inputs, move |input| {
-                assert_eq!(subject.key(Call { input, ..call }, &mut buffer, &mut [0; 3]), 0);
-            })
-        }
+        Work::Key(_) => keyed(subject, case),
         Work::Clean => each(&case.inputs, move |input| {
             assert_eq!(subject.clean(Call { input, ..call }, &mut [0; 2]), 0);
         }),
@@ -105,7 +107,32 @@ fn own<'a>(subject: &'a dyn Subject, case: &'a Ready) -> Runner<'a> {
                 assert_eq!(subject.encode(Call { input, ..call }, lent), 0);
             })
         }
+        Work::Find(stock) => {
+            let store = stock.entries(MOST).store();
+            each(&case.inputs, move |input| {
+                assert_eq!(subject.find(&store, input, &mut [0; 3]), 0);
+            })
+        }
+        Work::AddRemove(stock) => {
+            let (mut store, mut key) = (stock.entries(MOST - 1).store(), vec![0; first]);
+            each(&case.inputs, move |input| {
+                let lent = CatalogueLent { store: &mut store, key: &mut key, counts: &mut [0; 3] };
+                assert_eq!(subject.add(Call { input, ..call }, 0, lent), 0);
+                assert_eq!(subject.remove(&mut store, 0), 0);
+            })
+        }
     }
+}
+
+fn keyed<'a>(subject: &'a dyn Subject, case: &'a Ready) -> Runner<'a> {
+    let ([first, _], call) = (case.rooms(), case.call);
+    if matches!(case.work, Work::Find(_)) {
+        return Box::new(|| {});
+    }
+    let mut buffer = vec![0; first];
+    each(&case.inputs, move |input| {
+        assert_eq!(subject.key(Call { input, ..call }, &mut buffer, &mut [0; 3]), 0);
+    })
 }
 
 /// The crate in rust/.

@@ -1,6 +1,6 @@
 //! The tables: whose calls are measured, and on what.
 
-use super::cases::{CODE, CRATE, MEASURE, READ};
+use super::cases::{CATALOGUE, CODE, CRATE, MEASURE, READ};
 use super::{Case, Side};
 
 /// Cases that are measured alike.
@@ -10,7 +10,17 @@ pub struct Table {
     pub lent: &'static [&'static str],
     /// Two sides, of which the second is compared with the first.
     pub sides: [Column; 2],
+    pub compared: Compared,
     pub cases: &'static [Case],
+}
+
+/// How the second side is compared with the first.
+#[derive(Clone, Copy, PartialEq, Eq)]
+pub enum Compared {
+    /// By the ratio. Times are in nanoseconds.
+    Ratio,
+    /// What it takes beyond the first. Times are in microseconds.
+    Beyond,
 }
 
 /// A side in a table.
@@ -27,11 +37,12 @@ const fn subject(head: &'static str, off: bool) -> Column {
     Column { head, side: Side::Subject, off }
 }
 
-static TABLES: [Table; 4] = [
+static TABLES: [Table; 5] = [
     Table {
         name: "read",
         lent: &["text room", "issue room"],
         sides: [RUST, subject("subject", true)],
+        compared: Compared::Ratio,
         cases: READ,
     },
     Table {
@@ -41,15 +52,33 @@ static TABLES: [Table; 4] = [
             Column { head: "decoding", side: Side::Exact, off: true },
             subject("measuring", true),
         ],
+        compared: Compared::Ratio,
         cases: MEASURE,
     },
     Table {
         name: "code",
         lent: &["store", "coding room"],
         sides: [RUST, subject("subject", false)],
+        compared: Compared::Ratio,
         cases: CODE,
     },
-    Table { name: "crate", lent: &[], sides: [RUST, subject("crate", false)], cases: CRATE },
+    Table {
+        name: "catalogue",
+        lent: &["key room", "entries"],
+        sides: [
+            Column { head: "key, us", side: Side::Key, off: false },
+            subject("beyond, us", false),
+        ],
+        compared: Compared::Beyond,
+        cases: CATALOGUE,
+    },
+    Table {
+        name: "crate",
+        lent: &[],
+        sides: [RUST, subject("crate", false)],
+        compared: Compared::Ratio,
+        cases: CRATE,
+    },
 ];
 
 /// All tables; that of the crate where the crate is linked.

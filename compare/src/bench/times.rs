@@ -5,7 +5,7 @@ use std::time::Instant;
 
 use super::cases::TITLES;
 use super::side::Runner;
-use super::{Case, Side, Table, tables};
+use super::{Case, Compared, Side, Table, tables};
 use crate::subject::Subject;
 
 /// How many times are taken of each side; their median counts.
@@ -13,14 +13,15 @@ const SAMPLES: usize = 9;
 /// A time is taken over at least so many seconds.
 const LEAST: f64 = 0.02;
 
-/// Measures all cases, the sides in turn, and prints a line for each.
-pub fn print(subject: &dyn Subject) {
+/// Measures all cases, or those that are named, the sides in turn, and prints a line for each.
+pub fn print(subject: &dyn Subject, names: &[String]) {
     let question = question(subject);
     println!("nanoseconds a call, medians of {SAMPLES}");
     line("question-1", [format!("{question:.0}")]);
-    for table in tables() {
+    let named = |case: &&Case| names.is_empty() || names.iter().any(|name| name == case.name);
+    for table in tables().filter(|table| table.cases.iter().any(|case| named(&case))) {
         head(table);
-        table.cases.iter().for_each(|case| row(subject, table, case, question));
+        table.cases.iter().filter(named).for_each(|case| row(subject, table, case, question));
     }
 }
 
@@ -34,10 +35,11 @@ fn question(subject: &dyn Subject) -> f64 {
 fn head(table: &Table) {
     let sides = table.sides.iter().map(|column| column.head);
     let words = ["calls", "bytes"].into_iter().chain(table.lent.iter().copied()).chain(sides);
-    line("case", words.chain(["ratio"]));
+    let ratio = (table.compared == Compared::Ratio).then_some("ratio");
+    line("case", words.chain(ratio));
 }
 
-/// A case's sizes, its times and their ratio.
+/// A case's sizes, its times and their ratio, or what the second takes beyond the first.
 fn row(subject: &dyn Subject, table: &Table, case: &Case, question: f64) {
     let ready = case.ready();
     let calls = ready.inputs.len();
@@ -48,13 +50,18 @@ fn row(subject: &dyn Subject, table: &Table, case: &Case, question: f64) {
     let taken = times(sides.map(|column| column.side.runner(subject, &ready)), calls);
     let off = sides.map(|column| if column.off { question } else { 0.0 });
     let [first, second] = [taken[0] - off[0], taken[1] - off[1]];
-    let words = [format!("{first:.0}"), format!("{second:.0}"), format!("{:.2}", second / first)];
+    let words = match table.compared {
+        Compared::Ratio => {
+            vec![format!("{first:.0}"), format!("{second:.0}"), format!("{:.2}", second / first)]
+        }
+        Compared::Beyond => [first, second - first].map(|n| format!("{:.2}", n / 1e3)).into(),
+    };
     line(case.name, sizes.chain(words));
 }
 
 fn line(name: &str, words: impl IntoIterator<Item = impl Display>) {
     let words: String = words.into_iter().map(|word| format!("{word:>12}")).collect();
-    println!("{name:<24}{words}");
+    println!("{name:<28}{words}");
 }
 
 /// The median nanoseconds a call of the sides, taken in turn.

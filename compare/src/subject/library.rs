@@ -2,7 +2,7 @@
 
 use ours::ffi;
 
-use super::{CodingLent, Lent, Subject};
+use super::{CatalogueLent, CodingLent, Lent, Subject};
 use crate::call::Call;
 
 pub struct Library;
@@ -31,6 +31,18 @@ impl Subject for Library {
 
     fn measure(&self, call: Call, counts: &mut [usize]) -> u32 {
         ffi::measure(given(call), counts)
+    }
+
+    fn add(&self, call: Call, number: u32, lent: CatalogueLent) -> u32 {
+        ffi::catalogue_add(given(call), number, lent.store, lent.key, lent.counts)
+    }
+
+    fn remove(&self, store: &mut [u8], number: u32) -> u32 {
+        ffi::catalogue_remove(store, number)
+    }
+
+    fn find(&self, store: &[u8], key: &[u8], counts: &mut [usize]) -> u32 {
+        ffi::catalogue_find(store, key, counts)
     }
 }
 

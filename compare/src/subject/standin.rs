@@ -4,9 +4,10 @@ use std::cell::RefCell;
 
 use oracle::coding::Refusal;
 
-use super::{CodingLent, Lent, Subject};
+use super::{CatalogueLent, CodingLent, Lent, Subject};
 use crate::call::{Call, CodingRooms, Rooms, numbered, question};
 use crate::coding::{Coder, Coding};
+use crate::entries::{self, Entries, Form};
 use crate::key;
 use crate::model::Reading;
 
@@ -56,6 +57,40 @@ impl Subject for StandIn {
         let (number, reading) = read(call, |_| 0);
         leave(counts, reading.measured());
         number
+    }
+
+    fn add(&self, call: Call, number: u32, lent: CatalogueLent) -> u32 {
+        let (asked, reading) = read(call, |reading| key::questions(lent.key.len(), reading));
+        let (key, charge) = key::of(asked, &reading);
+        let keyed = if asked == 0 { Ok(key.as_bytes()) } else { Err(asked) };
+        let after = entries::add(Entries::of(lent.store), keyed, number);
+        let (key, charge) = if after.is_ok() { (&key[..], charge) } else { ("", 0) };
+        write(lent.key, key.as_bytes());
+        leave(lent.counts, [0, key.len(), charge]);
+        keep(lent.store, after)
+    }
+
+    fn remove(&self, store: &mut [u8], number: u32) -> u32 {
+        let after = entries::remove(Entries::of(store), number);
+        keep(store, after)
+    }
+
+    fn find(&self, store: &[u8], key: &[u8], counts: &mut [usize]) -> u32 {
+        let found = entries::find(Entries::of(store).as_ref().map_err(|&number| number), key);
+        let [entries, smallest] = found.unwrap_or_default();
+        leave(counts, [0, entries, smallest]);
+        found.err().unwrap_or(0)
+    }
+}
+
+/// The store holds these entries from now on, or stays as it is: the refusal's number, or 0.
+fn keep(store: &mut [u8], after: Form) -> u32 {
+    match after {
+        Ok(entries) => {
+            store.copy_from_slice(&entries.store());
+            0
+        }
+        Err(number) => number,
     }
 }
 

@@ -1,7 +1,7 @@
 //! A subject with a fault.
 
 use compare::call::Call;
-use compare::subject::{CodingLent, Lent, Subject, model};
+use compare::subject::{CatalogueLent, CodingLent, Lent, Subject, model};
 
 /// The model, and then a fault in what it left. It has no part of any input.
 pub struct Faulty {
@@ -12,6 +12,10 @@ pub struct Faulty {
     pub key: Keyed,
     pub clean: Asked,
     pub measure: Asked,
+    /// The whole of the catalogue's calls.
+    pub add: Adding,
+    pub remove: Removing,
+    pub find: Finding,
 }
 
 /// A call that is lent a buffer for a key, and counts.
@@ -20,6 +24,11 @@ pub type Keyed = fn(Call, &mut [u8], &mut [usize]) -> u32;
 /// A call that is lent counts and nothing else.
 pub type Asked = fn(Call, &mut [usize]) -> u32;
 
+/// Calls of the catalogue.
+pub type Adding = fn(Call, u32, CatalogueLent) -> u32;
+pub type Removing = fn(&mut [u8], u32) -> u32;
+pub type Finding = fn(&[u8], &[u8], &mut [usize]) -> u32;
+
 /// The model but for the parts.
 pub const SOUND: Faulty = Faulty {
     reading: |_, _| {},
@@ -27,6 +36,9 @@ pub const SOUND: Faulty = Faulty {
     key: |call, key, counts| model().key(call, key, counts),
     clean: |call, counts| model().clean(call, counts),
     measure: |call, counts| model().measure(call, counts),
+    add: |call, number, lent| model().add(call, number, lent),
+    remove: |store, number| model().remove(store, number),
+    find: |store, key, counts| model().find(store, key, counts),
 };
 
 impl Subject for Faulty {
@@ -60,5 +72,17 @@ impl Subject for Faulty {
 
     fn measure(&self, call: Call, counts: &mut [usize]) -> u32 {
         (self.measure)(call, counts)
+    }
+
+    fn add(&self, call: Call, number: u32, lent: CatalogueLent) -> u32 {
+        (self.add)(call, number, lent)
+    }
+
+    fn remove(&self, store: &mut [u8], number: u32) -> u32 {
+        (self.remove)(store, number)
+    }
+
+    fn find(&self, store: &[u8], key: &[u8], counts: &mut [usize]) -> u32 {
+        (self.find)(store, key, counts)
     }
 }

@@ -1,9 +1,5 @@
 //! A file of vectors, read from its beginning to its end.
 
-use compare::call::Call;
-use compare::cells;
-use oracle::coding::Refusal;
-
 /// What is not yet read.
 pub struct Rest<'a>(pub &'a [u8]);
 
@@ -20,24 +16,5 @@ impl<'a> Rest<'a> {
 
     pub fn numbers<const N: usize>(&mut self) -> [u32; N] {
         std::array::from_fn(|_| self.number())
-    }
-}
-
-/// The beginning of a case: the call, its two rooms, its refusal, 0 for none, and its counts.
-pub struct Case<'a, const N: usize> {
-    pub call: Call<'a>,
-    pub rooms: [usize; 2],
-    pub refusal: Refusal,
-    pub counts: [u32; N],
-}
-
-impl<'a> Rest<'a> {
-    pub fn case<const N: usize>(&mut self) -> Case<'a, N> {
-        let [table, initial, width, length, first, second, number, place] = self.numbers();
-        let counts = self.numbers();
-        let cells = [cells::rusts(), cells::zeros()][table as usize];
-        let call = Call { cells, initial, width, input: self.bytes(length) };
-        let rooms = [first, second].map(|n| n as usize);
-        Case { call, rooms, refusal: Refusal { number, place }, counts }
     }
 }
