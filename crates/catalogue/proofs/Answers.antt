@@ -145,6 +145,7 @@ added-refused c q e b =
     let o = sym (added-by c (suc q) e) in
     record {
       number = ap (λ a. a .refused) o;
+      case = λ z. absurd (omega arith);
       place = refl;
       counted = ap (λ a. a .len) o;
       charged = ap (λ a. a .charged) o;
@@ -216,6 +217,7 @@ added-keyed c len charged buffer {r} {after} {left} f k v = go (refusalOf e (ent
         let o = sym (added-by c 0 (refusal 0 p)) in
         record {
           number = ap keys.numberOf (a .0) ∙ ap (λ x. x .refused) o;
+          case = λ z. a .0 ∙ ap₂ Keyed (sym (ap keys.lenOf (a .0))) (sym (ap keys.chargedOf (a .0)));
           place = ap keys.placeOf (a .0);
           counted = ap keys.lenOf (a .0) ∙ (k .counted ∙ ap (λ x. x .len) o);
           charged = ap keys.chargedOf (a .0) ∙ (k .charged ∙ ap (λ x. x .charged) o);

@@ -19,9 +19,9 @@ use Rattle.key.specs.Key as key
 use Rattle.key.proofs.OneKey.{readings-one-key}
 use Rattle.catalogue.specs.Catalogue.{Lent, titled, keyRefusal, addRefusal, addedBy, added, removeRefusal, removedBy, removed, found}
 use Rattle.catalogue.specs.Laws.{Small, empty, FormMeans, Call, add, remove, find, after, afterAll}
-use Rattle.catalogue.specs.Laws.{SmallCall, FormKept, AddQuestions, RefusalsKeep, AddFind, AddRemove, Least, FindCounts, FoundTogether, EitherWidth}
+use Rattle.catalogue.specs.Laws.{SmallCall, FormKept, CatalogueQuestions, RefusalsKeep, AddFind, AddRemove, Least, FindCounts, FoundTogether, EitherWidth}
 use Rattle.catalogue.proofs.Order.{entered-numbered, without-entered, having-entered}
-use Rattle.catalogue.proofs.Calls.{Accepted, accepted, added-by, not-formed-add, formed-add, entered-catalogue, without-catalogue, removed-by, removes, finds}
+use Rattle.catalogue.proofs.Calls.{Accepted, accepted, added-by, not-formed-add, formed-add, entered-catalogue, without-catalogue, removed-by, removes, removes-not, finds, finds-not}
 
 -- ---- The form
 
@@ -81,20 +81,32 @@ form-kept cs s = record { form = form; counted = counted }
 
 -- ---- The questions
 
-pub add-questions : AddQuestions
-unfolding addedBy keyRefusal
-add-questions c = record {
-  form = λ f. ap (λ o. o .refused) (added-by c 12 (not-formed-add c f));
-  keyed = λ q f k. ap (λ o. o .refused) (added-by c (suc q) (formed-add c f ∙ ap (λ (i : ℕ). keyRefusal i c) k));
-  rest = λ f k. number ∙ (formed-add c f ∙ ap (λ (i : ℕ). keyRefusal i c) k);
-}
+number-of : (c : Lent) → added c .refused ≡ addRefusal c
+unfolding addedBy
+number-of c = go (addRefusal c) refl
   where
-    number : added c .refused ≡ addRefusal c
-    number = go (addRefusal c) refl
-      where
-        go : (q : ℕ) → addRefusal c ≡ q → added c .refused ≡ q
-        go zero e = ap (λ o. o .refused) (added-by c zero e)
-        go (suc q) e = ap (λ o. o .refused) (added-by c (suc q) e)
+    go : (q : ℕ) → addRefusal c ≡ q → added c .refused ≡ q
+    go zero e = ap (λ o. o .refused) (added-by c zero e)
+    go (suc q) e = ap (λ o. o .refused) (added-by c (suc q) e)
+
+remove-number-of : (store : List ℕ) (n : ℕ) → removed store n .refused ≡ removeRefusal store n
+unfolding removedBy
+remove-number-of store n = go (removeRefusal store n) refl
+  where
+    go : (q : ℕ) → removeRefusal store n ≡ q → removed store n .refused ≡ q
+    go zero e = ap (λ o. o .refused) (removed-by store n zero e)
+    go (suc q) e = ap (λ o. o .refused) (removed-by store n (suc q) e)
+
+pub catalogue-questions : CatalogueQuestions
+unfolding keyRefusal
+catalogue-questions = record {
+  add-form = λ c f. number-of c ∙ not-formed-add c f;
+  remove-form = λ store n f. remove-number-of store n ∙ removes-not store n f;
+  find-form = λ store k f. ap (λ o. o .refused) (finds-not store k f);
+  add-key = λ c q f k. number-of c ∙ (formed-add c f ∙ ap (λ (i : ℕ). keyRefusal i c) k);
+  add-entry = λ c f k. number-of c ∙ (formed-add c f ∙ ap (λ (i : ℕ). keyRefusal i c) k);
+  remove-number = λ store n f. remove-number-of store n ∙ removes store n f;
+}
 
 pub refusals-keep : RefusalsKeep
 unfolding addedBy removedBy

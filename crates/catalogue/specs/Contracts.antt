@@ -20,6 +20,7 @@ lent k number store = record { keyed = k; number = number; store = store }
 -- every number of the answer, which is `Keyed` where none is refused, and every byte of store and buffer
 pub record Added (c : Lent) (r : KeyAnswer) (store buffer : List ℕ) : Type 0 where
   pub number : keys.numberOf r ≡ added c .refused
+  pub case : keys.numberOf r ≡ 0 → r ≡ Keyed (keys.lenOf r) (keys.chargedOf r)
   pub place : keys.placeOf r ≡ 0
   pub counted : keys.lenOf r ≡ added c .len
   pub charged : keys.chargedOf r ≡ added c .charged

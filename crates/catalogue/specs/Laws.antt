@@ -25,14 +25,11 @@ abbrev pub empty : List ℕ
 empty = replicate 266248 0
 
 -- a store is of the form exactly where it is the bytes of a catalogue, and of one only; the empty one is that of no entries
-pub record Form : Type 0 where
+pub record FormMeans : Type 0 where
   pub form : (es : List Entry) → isCatalogue es ≡ true → formed (bytes es) ≡ true
   pub one : (es : List Entry) → isCatalogue es ≡ true → entries (bytes es) ≡ es
   pub only : (store : List ℕ) → formed store ≡ true → (isCatalogue (entries store) ≡ true) × (store ≡ bytes (entries store))
   pub none : bytes [] ≡ empty
-
-abbrev pub FormMeans : Type 0
-FormMeans = Form
 
 -- the three calls, with what each is lent beside the store
 pub data Call : Type 0 where
@@ -67,27 +64,24 @@ FormKept = (cs : List Call) → All SmallCall cs → Kept (afterAll cs empty)
 -- ---- the questions
 
 -- "A store of another length or form, held count included, is 12 before anything else. Question failures of the key come next; then a number already
--- present on adding .. is 12, an added key over 255 bytes 13, and an add while 1,024 entries are present 14."
-pub record AddAsks (c : Lent) : Type 0 where
-  pub form : formed (c .store) ≡ false → added c .refused ≡ 12
-  pub keyed : (q : ℕ) → formed (c .store) ≡ true → key.refusal (c .keyed) ≡ suc q → added c .refused ≡ suc q
-  pub rest : formed (c .store) ≡ true → key.refusal (c .keyed) ≡ 0 → added c .refused ≡
+-- present on adding or absent on removing is 12, an added key over 255 bytes 13, and an add while 1,024 entries are present 14."
+pub record CatalogueQuestions : Type 0 where
+  pub add-form : (c : Lent) → formed (c .store) ≡ false → added c .refused ≡ 12
+  pub remove-form : (store : List ℕ) (n : ℕ) → formed store ≡ false → removed store n .refused ≡ 12
+  pub find-form : (store k : List ℕ) → formed store ≡ false → found store k .refused ≡ 12
+  pub add-key : (c : Lent) (q : ℕ) → formed (c .store) ≡ true → key.refusal (c .keyed) ≡ suc q → added c .refused ≡ suc q
+  pub add-entry : (c : Lent) → formed (c .store) ≡ true → key.refusal (c .keyed) ≡ 0 → added c .refused ≡
       cond (numbered (c .number) (entries (c .store))) 12 (cond (leb (length (key.keyBytes (c .keyed))) 255) (cond (leb 1024 (length (entries (c .store)))) 14 0) 13)
-
-abbrev pub AddQuestions : Type 0
-AddQuestions = (c : Lent) → AddAsks c
+  pub remove-number : (store : List ℕ) (n : ℕ) → formed store ≡ true → removed store n .refused ≡ cond (numbered n (entries store)) 0 12
 
 -- "Every refusal leaves the catalogue untouched", and the key call's buffer zero
-pub record Untouched : Type 0 where
+pub record RefusalsKeep : Type 0 where
   pub add : (c : Lent) (q : ℕ) → added c .refused ≡ suc q → (added c .store ≡ c .store) × (added c .buffer ≡ padded (c .keyed .room) [])
   pub remove : (store : List ℕ) (n q : ℕ) → removed store n .refused ≡ suc q → removed store n .store ≡ store
 
-abbrev pub RefusalsKeep : Type 0
-RefusalsKeep = Untouched
-
 -- ---- adding, removing and finding
 
--- what is added is found: one entry more has its key, and the smallest number is that of those that had it and its own
+-- what is added is found: one entry more has its key, and the smallest number is not above its own
 pub record FoundAfter (c : Lent) : Type 0 where
   pub refused : found (added c .store) (key.keyBytes (c .keyed)) .refused ≡ 0
   pub one-more : found (added c .store) (key.keyBytes (c .keyed)) .entries ≡ suc (found (c .store) (key.keyBytes (c .keyed)) .entries)

@@ -36,8 +36,8 @@ fn refuse(number: u32, key: &mut [u8]) -> KeyAnswer
     KeyAnswer::Refused { number, place: 0 }
 }
 
-/// The refusal of an entry with a key of so many bytes, of which is known whether its number is present, where n are; 0
-/// for none.
+/// The number with which an entry is refused, 0 for none: by whether its number is present, by the bytes of its key, and
+/// by how many entries there are.
 fn entry_refusal(present: bool, len: usize, n: usize) -> u32
     ensures { λ r. ⌜ r ≡ entryRefusal present len n ⌝ }
 {

@@ -16,7 +16,7 @@ ghost use Rattle.catalogue_form.specs.Entries.{having};
 ghost use Rattle.catalogue_changes.specs.Contracts.{Holds, putAt, takenAt};
 
 /// 1 where none of n entries has a key, else 0.
-fn new(places: &[u8], n: usize, key: &[u8]) -> u32
+fn absent(places: &[u8], n: usize, key: &[u8]) -> u32
     requires { ⌜ n ≤ 1024 ⌝ }
     requires { ⌜ n * 260 ≤ length (now places) ⌝ }
     ensures { λ r. ⌜ r ≡ cond (among (now (key .entry)) (keys (entriesOf n (now (places .entry))))) 0 1 ⌝ }
@@ -56,7 +56,7 @@ pub fn insert(store: &mut [u8], n: usize, at: usize, number: u32, key: &[u8])
     requires { ⌜ length (now key) ≤ 255 ⌝ }
     ensures { λ _. ⌜ now (store .exit) ≡ bytes (putAt at (record { number = number; key = now (key .entry) }) (entries (now (store .entry)))) ⌝ }
 {
-    let distinct = numbers::number(store, 4) + new(&store[FRONT..], n, key);
+    let distinct = numbers::number(store, 4) + absent(&store[FRONT..], n, key);
     let mut place = [0u8; PLACE];
     moving::write(&mut place, number, key);
     moving::make_room(&mut store[FRONT..], at * PLACE, n - at + 1, &mut place);

@@ -19,23 +19,23 @@ number-requires c κs =
     let h = long (at-start .args .store .now) (at-start .args .n) (at-start .pre .0) in
     omega (arith, h)
 
-sub-new : tie.Need-sub-new
-sub-new c =
+sub-absent : tie.Need-sub-absent
+sub-absent c =
     let at-start = c .before .before .before .before in
     let h = long (at-start .args .store .now) (at-start .args .n) (at-start .pre .0) in
     omega (arith, h)
 
-part-new-start : tie.Need-part-new-start
-part-new-start c =
+part-absent-start : tie.Need-part-absent-start
+part-absent-start c =
     let at-start = c .before .before .before .before .before in
     let h = long (at-start .args .store .now) (at-start .args .n) (at-start .pre .0) in
     omega (arith, h)
 
-part-new-end : tie.Need-part-new-end
-part-new-end c = search needs
+part-absent-end : tie.Need-part-absent-end
+part-absent-end c = search needs
 
-new-requires : tie.Need-new-requires
-new-requires c κs =
+absent-requires : tie.Need-absent-requires
+absent-requires c κs =
     let at-start = c .before .before .before .before .before .before in
     let h = at-start .pre .0 in
     (few (at-start .args .store .now) (at-start .args .n) h, omega (arith, rest-long (at-start .args .store .now) (at-start .args .n) h, few (at-start .args .store .now) (at-start .args .n) h))
@@ -46,7 +46,7 @@ add-distinct c =
     let at-start = at-number .before .before .before .before in
     let a = at-start .args in
     let store = a .store .now in
-    omega (arith, at-number .number .ensures, c .new .ensures, count-low store (a .n) (at-start .pre .0), one-low store (a .n) (at-start .pre .0) (a .key .now))
+    omega (arith, at-number .number .ensures, c .absent .ensures, count-low store (a .n) (at-start .pre .0), one-low store (a .n) (at-start .pre .0) (a .key .now))
 
 slice-aggregate-write : tie.Need-slice-aggregate-write
 slice-aggregate-write c = search needs
@@ -130,8 +130,8 @@ returns c =
     let at-counts = c .before .before in
     let at-make-room = at-counts .before .before .before .before .before in
     let at-write = at-make-room .before .before .before .before in
-    let at-new = at-write .before .before in
-    let at-number = at-new .before .before .before in
+    let at-absent = at-write .before .before in
+    let at-number = at-absent .before .before .before in
     let at-start = at-number .before .before .before .before in
     let a = at-start .args in
     let store = a .store .now in
@@ -140,7 +140,7 @@ returns c =
     let room = ap (λ (l : List ℕ). opened (rest store (a .n) (at-start .pre .0)) (a .at * 260) (a .n - a .at + 1) l) (at-write .write .ensures) in
     ap (λ (r : List ℕ). at-counts .counts .last .0 ++ r) (given-rest store (at-make-room .make-room .last .0) h)
     ∙ inserted store (a .n) (at-start .pre .0) (a .at) e (at-start .pre .1 .0) (at-start .pre .1 .1 .0) (at-counts .counts .ensures)
-    (ap₂ (λ (x y : ℕ). x + y) (at-number .number .ensures) (at-new .new .ensures))
+    (ap₂ (λ (x y : ℕ). x + y) (at-number .number .ensures) (at-absent .absent .ensures))
     (at-make-room .make-room .ensures ∙ room)
 
 pub insert-spec : {M : Type 1} → statement M
@@ -148,10 +148,10 @@ insert-spec =
     tie.close
     (tie.spec
     number-requires
-    sub-new
-    part-new-start
-    part-new-end
-    new-requires
+    sub-absent
+    part-absent-start
+    part-absent-end
+    absent-requires
     add-distinct
     slice-aggregate-write
     write-requires
