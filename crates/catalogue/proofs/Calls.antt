@@ -1,11 +1,11 @@
 -- What the three definitions give where they accept, and where they refuse. Assumes nothing.
 use Prim.Native.Nat.{ℕ, zero, suc, _≤_, _<_}
-use mathlib.Core.Path.{_≡_, refl, sym, ap, subst}
+use mathlib.Core.Path.{_≡_, refl, ap}
 use mathlib.Core.Bool.{Bool, true, false, cond}
 use mathlib.Core.List.{List}
 use native.Mathlib.Omega.{arith}
 use borrow.Author.Tests.{leb-true, leb-false, le-leb}
-use lib.Dec.{T, leb}
+use lib.Dec.{leb}
 use lib.ListN.{length}
 use Rattle.catalogue_form.specs.Form.{Entry, fits, isCatalogue, bytes, entries, formed}
 use Rattle.catalogue_form.specs.Entries.{numbered, entered, without, having, smallest}
@@ -13,9 +13,6 @@ use Rattle.catalogue_form.proofs.Forms.{parts, catalogue}
 use Rattle.key.specs.Key as key
 use Rattle.catalogue.specs.Catalogue.{Lent, titled, entryRefusal, refusalOf, keyRefusal, addRefusal, addedBy, added, removeRefusal, removedBy, removed, foundBy, found}
 use Rattle.catalogue.proofs.Order.{entered-rising, entered-length, entered-fit, without-rising, without-length, without-fit}
-
-false-true : false ≡ true → ⊥
-false-true e = subst T (sym e) tt
 
 -- ---- Adding
 

@@ -127,8 +127,8 @@ pub extern "C" fn arib_catalogue_add(
         (now (counts .entry)) r (now (store .exit)) (now (key .exit)) (now (counts .exit)) ⌝ }
 {
     let answer = catalogue::add(cells, initial, width, title, number, store, key);
-    let numbers = [key::values::len(answer), key::values::charged(answer)];
-    text_counts::report(counts, key::values::place(answer), &numbers);
+    let of_key = [key::values::len(answer), key::values::charged(answer)];
+    text_counts::report(counts, key::values::place(answer), &of_key);
     key::values::number(answer)
 }
 
