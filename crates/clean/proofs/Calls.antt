@@ -15,7 +15,9 @@ use Rattle.reading.specs.Steps.{decode, run}
 use Rattle.reading.specs.WithoutBuffers.{Lent, lent, reading, refusal}
 use Rattle.laws_reading.proofs.Reading.{issues-only-grow, has-later}
 use Rattle.decode_state.specs.declared.Core.{Core}
-use Rattle.decode_state.specs.Contracts.{startOf, whole, HoldsOrCut}
+use Rattle.decode_state.specs.declared.Decoder.{Decoder}
+use Rattle.decode_state.specs.Contracts.{startOf, undefined, HoldsOrCut}
+use Rattle.decode_outer.specs.declared.Reached.{Reached}
 use Rattle.decode_outer.specs.Contracts.{TopRan}
 use Rattle.decode_outer.proofs.Start.{enough-end, ran-start}
 use Rattle.clean.specs.Clean.{isEmpty, clean, Outcome, outcomeOf, outcome}
@@ -74,19 +76,20 @@ module _ (c : Lent) where
 
 -- ---- from the start, by all steps and the release of the marks
 
-module _ (cells : List ℕ) (initial width : ℕ) (input t i : List ℕ) (d r : Core) (t₁ i₁ : List ℕ) (z : refusal (lent cells initial width input) ≡ 0)
-    (short : length input ≤ 65535) (e : d ≡ startOf initial width 1) (top : TopRan cells input d t i r t₁ i₁) where
+module _ (cells : List ℕ) (initial width : ℕ) (input t i : List ℕ) (x : Core) (d : Decoder) (r : Reached) (t₁ i₁ : List ℕ) (z : refusal (lent cells initial width input) ≡ 0)
+    (short : length input ≤ 65535) (e : x ≡ startOf initial width 1) (begins : d ≡ undefined x)
+    (top : TopRan cells input 0 (length input) d t i r t₁ i₁) where
   abbrev ends : State
   ends = run (given cells width input) 4 input 0 0 (start initial)
 
   abbrev Ran : Type 0
-  Ran = HoldsOrCut (given cells width input) t i ends (whole r (top .starts) (top .lens)) t₁ i₁
+  Ran = HoldsOrCut (given cells width input) t i ends (r .decoder) t₁ i₁
 
   ran : Ran
-  ran = ran-start input initial width 1 short e top
+  ran = ran-start input initial width 1 short e begins top
 
-  p : r .enough ≡ 1
-  p = enough-end input initial width 1 short e top
+  p : r .decoder .core .enough ≡ 1
+  p = enough-end input initial width 1 short e begins top
 
   -- the reading is the end of the steps, with the marks released
   read : reading (lent cells initial width input) ≡ writes release ends
@@ -94,7 +97,7 @@ module _ (cells : List ℕ) (initial width : ℕ) (input t i : List ℕ) (d r : 
   read = refl
 
   -- an issue before the end
-  pub answered-no : 0 < r .out .issues → Answered (lent cells initial width input) No
+  pub answered-no : 0 < r .decoder .core .out .issues → Answered (lent cells initial width input) No
   answered-no h = some (reading (lent cells initial width input) .out .issues) refl (later (has ran))
     where
       has : Ran → 1 ≤ length (ends .out .issues)
@@ -110,7 +113,7 @@ module _ (cells : List ℕ) (initial width : ℕ) (input t i : List ℕ) (d r : 
       some (x ∷ l) q k = answered (lent cells initial width input) z (suc (length l)) (sym (ap length q))
 
   -- none before it: the marks that wait there bring one
-  pub answered-end : {o : Out} {i₂ : List ℕ} → r .out .issues ≤ 0 → output.Wrote 0 1 release (r .out) t₁ i₁ o t₁ i₂
+  pub answered-end : {o : Out} {i₂ : List ℕ} → r .decoder .core .out .issues ≤ 0 → output.Wrote 0 1 release (r .decoder .core .out) t₁ i₁ o t₁ i₂
       → Answered (lent cells initial width input) (verdictOf (o .issues))
   unfolding writes
   answered-end {o = o} {i₂ = i₂} h flush = answered (lent cells initial width input) z (o .issues) (count ran)

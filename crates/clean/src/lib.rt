@@ -34,8 +34,9 @@ fn clean_checked(cells: &[u16], initial: u32, width: u32, input: &[u8]) -> Clean
     let mut text = [0u8; 0];
     let mut issues = [0u32; 0];
     let start = decode_state::start(initial, width, 1);
-    let core = decode_outer::top(cells, input, start, &mut text, &mut issues);
-    let out = core.out;
+    let none = decode_state::undefined(start);
+    let w = decode_outer::top(cells, input, 0, input.len(), none, &mut text, &mut issues);
+    let out = w.decoder.core.out;
     if out.issues > 0 {
         return CleanAnswer::No;
     }

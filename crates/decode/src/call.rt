@@ -27,7 +27,7 @@ pub enum Answer {
 }
 
 /// Refuses: both buffers are filled with zero.
-fn refuse(number: u32, text: &mut [u8], issues: &mut [u32]) -> Answer
+pub fn refuse(number: u32, text: &mut [u8], issues: &mut [u32]) -> Answer
     ensures { λ r. ⌜ Refuses number (now (text .entry)) (now (issues .entry)) r (now (text .exit)) (now (issues .exit)) ⌝ }
 {
     questions::clear(text, 0);
@@ -37,7 +37,7 @@ fn refuse(number: u32, text: &mut [u8], issues: &mut [u32]) -> Answer
 
 /// What was counted and written, as the answer: too little room is refused with 8 or 9, else what is
 /// left of the buffers is zero.
-fn finish(counts: Counts, text: &mut [u8], issues: &mut [u32]) -> Answer
+pub fn finish(counts: Counts, text: &mut [u8], issues: &mut [u32]) -> Answer
     requires { ⌜ counts .issues ≤ 0x10000000000 ⌝ }
     ensures { λ r. ⌜ ((s : State) (t₀ i₀ : List ℕ) → Counted s t₀ i₀ counts (now (text .entry)) (now (issues .entry)) →
         Answers s (length t₀) (length i₀) r (now (text .exit)) (now (issues .exit))) ⌝ }

@@ -1,22 +1,26 @@
 -- The loops of `run` and of the steps outside every body: the steps from the start, and what each turn adds.
 use Prim.Native.Nat.{ℕ, zero, suc, _+_, _-_, _≤_, _<_}
 use mathlib.Core.Path.{_≡_, refl, sym, ap, _∙_, subst}
-use mathlib.Core.List.{List}
-use mathlib.Core.Logic.{inl, inr}
+use mathlib.Core.List.{List, [], _∷_}
+use mathlib.Core.Logic.{_⊎_, inl, inr}
 use native.Mathlib.Nat.{zero-add}
 use native.Mathlib.Numerals.{add-one}
 use native.Mathlib.Omega.{arith}
+use borrow.Author.Tests.{lt-leb}
+use lib.Dec.{leb}
 use lib.ListN.{length, drop, getD}
+use Rattle.base.proofs.Tests.{either}
 use Rattle.reading.specs.State.{Given, State, Step}
 use Rattle.reading.specs.Macros.{limit}
 use Rattle.reading.specs.Steps.{step, steps, run, offset}
+use Rattle.reading.specs.Between.{Between, until}
 use Rattle.laws_reading.specs.Reading.{Grows}
 use Rattle.laws_reading.proofs.Reading.{same, issues-only-grow, has-later}
 use Rattle.decode_output.specs.declared.Out.{Out}
 use Rattle.decode_state.specs.declared.Core.{Core}
 use Rattle.decode_state.specs.declared.Decoder.{Decoder}
-use Rattle.decode_state.specs.Contracts.{whole, Holds, Goes, Stretch, Ends, TakenOrCut}
-use Rattle.decode_state.proofs.Steps.{drop-one, goes-none, goes-on, goes-end, steps-one}
+use Rattle.decode_state.specs.Contracts.{whole, Holds, Goes, Stretch, Ends, Cut, HoldsOrCut, TakenOrCut}
+use Rattle.decode_state.proofs.Steps.{drop-one, goes-none, goes-on, goes-end, until-one, until-all}
 use Rattle.decode_bodies.specs.declared.Place.{Place}
 use Rattle.decode_bodies.specs.Contracts.{below, stepIn, Ready, Grown, Ran, RanStep}
 use Rattle.decode_bodies.proofs.Room.{grown-same, kept-grown, grown-on, grown-more}
@@ -43,13 +47,24 @@ unfolding below
 below-grows g zero = λ b base origin s. same s
 below-grows g (suc left) = issues-only-grow .run g left
 
+-- and so do steps up to a byte
+until-grows : (g : Given) (left base origin to : ℕ) (xs : List ℕ) (i k : ℕ) (s : State) (n : ℕ) → n ≤ length (s .out .issues)
+    → n ≤ length (until g left (below g left) base origin to xs i k s .state .out .issues)
+unfolding until
+until-grows g left base origin to [] i k s n h = h
+until-grows g left base origin to (x ∷ xs) i zero s n h =
+    let w : Step = step g left (below g left) x xs (base + i) (offset origin i) s in
+    either (λ (z : Between). n ≤ length (z .state .out .issues)) (leb to i) h
+    (until-grows g left base origin to xs (i + 1) (w .used - 1) (w .to) n
+    (has-later (issues-only-grow .step g left (below g left) (below-grows g left) x xs (base + i) (offset origin i) s) h))
+until-grows g left base origin to (x ∷ xs) i (suc k) s n h = until-grows g left base origin to xs (i + 1) k s n h
+
 -- steps that have n issues behind the first one have as many
-has-behind : {n : ℕ} (g : Given) (left base origin : ℕ) (b : List ℕ) (j : ℕ) (s : State) → j < length b
+has-behind : {n : ℕ} (g : Given) (left base origin to : ℕ) (b : List ℕ) (j : ℕ) (s : State) → j < to → j < length b
     → n ≤ length (step g left (below g left) (getD b j 0) (drop (j + 1) b) (base + j) (offset origin j) s .to .out .issues)
-    → n ≤ length (steps g left (below g left) base origin (drop j b) j 0 s .out .issues)
-unfolding steps
-has-behind g left base origin b j s h k =
-    rw (drop-one b j h) (has-later (issues-only-grow .steps g left (below g left) (below-grows g left) base origin (drop (j + 1) b) (j + 1) _ _) k)
+    → n ≤ length (until g left (below g left) base origin to (drop j b) j 0 s .state .out .issues)
+unfolding until
+has-behind g left base origin to b j s p h k = rw (drop-one b j h, lt-leb to j p) (until-grows g left base origin to (drop (j + 1) b) (j + 1) _ _ _ k)
 
 -- ---- a loop along a body
 
@@ -57,75 +72,90 @@ has-behind g left base origin b j s h k =
 abbrev pub stepFrom : ℕ → ℕ → ℕ → List ℕ → ℕ → Given → State → Step
 stepFrom left base origin b j g = step g left (below g left) (getD b j 0) (drop (j + 1) b) (base + j) (offset origin j)
 
--- from the start of b to its byte j₁
-pub record Along (cells input : List ℕ) (left base origin : ℕ) (b : List ℕ) (d : Decoder) (t i : List ℕ) (j₁ : ℕ) (d₁ : Decoder) (t₁ i₁ : List ℕ) : Type 0 where
+-- the steps from the byte j of b that begin before the byte `to`
+abbrev pub stepsTo : ℕ → ℕ → ℕ → List ℕ → ℕ → ℕ → Given → State → Between
+stepsTo left base origin b to j g = until g left (below g left) base origin to (drop j b) j 0
+
+-- from the byte j of b to its byte j₁ by such steps
+pub record Along (cells input : List ℕ) (left base origin : ℕ) (b : List ℕ) (to j : ℕ) (d : Decoder) (t i : List ℕ) (j₁ : ℕ) (d₁ : Decoder) (t₁ i₁ : List ℕ) : Type 0 where
+  pub past : j ≤ j₁
   pub within : j₁ ≤ length b
-  pub grown : Grown (limit input) j₁ (d .core) (d₁ .core)
-  pub goes : (g : Given) → g .cells ≡ cells → g .input ≡ input → Goes g left (below g left) base origin b 0 d t i j₁ d₁ t₁ i₁
+  pub grown : Grown (limit input) (j₁ - j) (d .core) (d₁ .core)
+  pub goes : (g : Given) → g .cells ≡ cells → g .input ≡ input → Goes g left (below g left) base origin b to j d t i j₁ d₁ t₁ i₁
   pub as-long : length t₁ ≡ length t
   pub as-many : length i₁ ≡ length i
 
-module _ {cells input : List ℕ} {left base origin : ℕ} {b : List ℕ} {d : Decoder} {t i : List ℕ} where
-  pub along-start : {e : ℕ} → Ready (limit input) e (d .core) → Along cells input left base origin b d t i 0 d t i
-  along-start h = record {
-    within = omega arith;
-    grown = grown-same h 0;
-    goes = λ g x y. goes-none g left (below g left) base origin b 0 d t i;
+-- all of them, or to an issue that ends the reading
+pub record Went (cells input : List ℕ) (left base origin : ℕ) (b : List ℕ) (to j : ℕ) (d : Decoder) (t i : List ℕ) (j₁ : ℕ) (d₁ : Decoder) (t₁ i₁ : List ℕ) : Type 0 where
+  pub does : (g : Given) → g .cells ≡ cells → g .input ≡ input → (t₀ i₀ : List ℕ) (s : State) → Holds g t₀ i₀ s d t i
+      → (Holds g t₀ i₀ (stepsTo left base origin b to j g s .state) d₁ t₁ i₁ × (j₁ ≡ stepsTo left base origin b to j g s .at))
+      ⊎ Cut (d₁ .core) (stepsTo left base origin b to j g s .state)
+  pub grown : Grown (limit input) (length b - j) (d .core) (d₁ .core)
+
+module _ {cells input : List ℕ} {left base origin : ℕ} {b : List ℕ} {to j : ℕ} {d : Decoder} {t i : List ℕ} where
+  pub along-start : {e : ℕ} → j ≤ length b → Ready (limit input) e (d .core) → Along cells input left base origin b to j d t i j d t i
+  along-start k h = record {
+    past = omega arith;
+    within = k;
+    grown = grown-same h (j - j);
+    goes = λ g x y. goes-none g left (below g left) base origin b to j d t i;
     as-long = refl;
     as-many = refl;
   }
 
   module _ {j₁ : ℕ} {d₁ : Decoder} {t₁ i₁ : List ℕ} where
     -- plain steps
-    pub along-stretch : {j₂ : ℕ} {c₂ : Core} {t₂ i₂ : List ℕ} → Along cells input left base origin b d t i j₁ d₁ t₁ i₁
-        → Stretch cells base origin b j₁ (d₁ .core) t₁ i₁ j₂ c₂ t₂ i₂ → length t₂ ≡ length t₁ → length i₂ ≡ length i₁
-        → Along cells input left base origin b d t i j₂ (whole c₂ (d₁ .starts) (d₁ .lens)) t₂ i₂
+    pub along-stretch : {j₂ : ℕ} {c₂ : Core} {t₂ i₂ : List ℕ} → Along cells input left base origin b to j d t i j₁ d₁ t₁ i₁
+        → Stretch cells base origin b to j₁ (d₁ .core) t₁ i₁ j₂ c₂ t₂ i₂ → length t₂ ≡ length t₁ → length i₂ ≡ length i₁
+        → Along cells input left base origin b to j d t i j₂ (whole c₂ (d₁ .starts) (d₁ .lens)) t₂ i₂
     along-stretch {j₂ = j₂} {c₂ = c₂} {t₂ = t₂} {i₂ = i₂} w v l m =
-        let e : j₁ + (j₂ - j₁) ≤ j₂ = omega (arith, v .past) in
+        let e : (j₁ - j) + (j₂ - j₁) ≤ j₂ - j = omega (arith, w .past, v .past) in
         record {
+          past = omega (arith, w .past, v .past);
           within = v .within;
-          grown = grown-more j₂ e (grown-on (w .grown) (kept-grown (w .grown .within) (v .kept)));
+          grown = grown-more (j₂ - j) e (grown-on (w .grown) (kept-grown (w .grown .within) (v .kept)));
           goes = λ g x y.
-              goes-on g left (below g left) base origin b 0 d t i j₁ d₁ t₁ i₁ j₂ (whole c₂ (d₁ .starts) (d₁ .lens)) t₂ i₂
+              goes-on g left (below g left) base origin b to j d t i j₁ d₁ t₁ i₁ j₂ (whole c₂ (d₁ .starts) (d₁ .lens)) t₂ i₂
               (w .goes g x y) (v .goes g x left (below g left) (d₁ .starts) (d₁ .lens));
           as-long = l ∙ w .as-long;
           as-many = m ∙ w .as-many;
         }
 
-    module _ {u : ℕ} {d₂ : Decoder} {t₂ i₂ : List ℕ} (w : Along cells input left base origin b d t i j₁ d₁ t₁ i₁) (h : j₁ < length b)
+    module _ {u : ℕ} {d₂ : Decoder} {t₂ i₂ : List ℕ} (w : Along cells input left base origin b to j d t i j₁ d₁ t₁ i₁) (before : j₁ < to) (h : j₁ < length b)
         (v : RanStep cells input b j₁ (stepFrom left base origin b j₁) d₁ t₁ i₁ u d₂ t₂ i₂) where
       -- the step at which they stopped, where the reading goes on
       pub along-step : (Ends (d₂ .core .enough) (d₂ .core .out .issues) → ⊥) → length t₂ ≡ length t₁ → length i₂ ≡ length i₁
-          → Along cells input left base origin b d t i (j₁ + u) d₂ t₂ i₂
+          → Along cells input left base origin b to j d t i (j₁ + u) d₂ t₂ i₂
       along-step n l m =
           record {
+            past = omega (arith, w .past);
             within = v .most;
-            grown = grown-more (j₁ + u) (omega (arith, v .some)) (grown-on (w .grown) (v .grown));
+            grown = grown-more (j₁ + u - j) (omega (arith, w .past, v .some)) (grown-on (w .grown) (v .grown));
             goes = λ g x y.
-                goes-on g left (below g left) base origin b 0 d t i j₁ d₁ t₁ i₁ (j₁ + u) d₂ t₂ i₂ (w .goes g x y)
+                goes-on g left (below g left) base origin b to j d t i j₁ d₁ t₁ i₁ (j₁ + u) d₂ t₂ i₂ (w .goes g x y)
                 (λ t₀ i₀ s k. taken g t₀ i₀ s (v .does g x y t₀ i₀ s k));
             as-long = l ∙ w .as-long;
             as-many = m ∙ w .as-many;
           }
         where
           taken : (g : Given) (t₀ i₀ : List ℕ) (s : State) → TakenOrCut g t₀ i₀ (stepFrom left base origin b j₁ g s) u d₂ t₂ i₂
-              → (s′ : State) × (Holds g t₀ i₀ s′ d₂ t₂ i₂
-              × (steps g left (below g left) base origin (drop (j₁ + u) b) (j₁ + u) 0 s′ ≡ steps g left (below g left) base origin (drop j₁ b) j₁ 0 s))
-          taken g t₀ i₀ s (inl q) = (stepFrom left base origin b j₁ g s .to, (q .0, sym (steps-one g left (below g left) base origin b j₁ s u h (v .some) (q .1))))
+              → (s′ : State) × (Holds g t₀ i₀ s′ d₂ t₂ i₂ × ((later : ℕ) → to ≤ later
+              → until g left (below g left) base origin later (drop (j₁ + u) b) (j₁ + u) 0 s′ ≡ until g left (below g left) base origin later (drop j₁ b) j₁ 0 s))
+          taken g t₀ i₀ s (inl q) = (
+            stepFrom left base origin b j₁ g s .to,
+            (q .0, λ later l. sym (until-one g left (below g left) base origin later b j₁ s u (omega (arith, before, l)) h (v .some) (v .most) (q .1))),
+          )
           taken g t₀ i₀ s (inr q) = absurd (n (q .ends))
 
-      -- the same, where it ends: the whole run as defined has as many issues
-      pub along-cut : Ends (d₂ .core .enough) (d₂ .core .out .issues) → Ran cells input (length b) (λ g. run g left b base origin) d t i d₂ t₂ i₂
-      along-cut e =
+      -- the same, where it ends: all the steps as defined have as many issues
+      pub along-cut : (j₂ : ℕ) → Ends (d₂ .core .enough) (d₂ .core .out .issues) → Went cells input left base origin b to j d t i j₂ d₂ t₂ i₂
+      along-cut j₂ e =
           record {
             does = λ g x y t₀ i₀ s k.
                 let p = w .goes g x y t₀ i₀ s k in
-                let c = has-behind g left base origin b j₁ (p .0) h (has g t₀ i₀ (p .0) (v .does g x y t₀ i₀ (p .0) (p .1 .0))) in
-                inr (record {
-                  ends = e;
-                  has = subst (λ (z : State). d₂ .core .enough ≤ length (z .out .issues)) (p .1 .1 ∙ sym (run-steps g left b base origin s)) c;
-                });
-            grown = grown-more (length b) (omega (arith, v .some, v .most)) (grown-on (w .grown) (v .grown));
+                let c = has-behind g left base origin to b j₁ (p .0) before h (has g t₀ i₀ (p .0) (v .does g x y t₀ i₀ (p .0) (p .1 .0))) in
+                inr (record { ends = e; has = subst (λ (z : Between). d₂ .core .enough ≤ length (z .state .out .issues)) (p .1 .1 to (omega arith)) c });
+            grown = grown-more (length b - j) (omega (arith, w .past, v .some, v .most)) (grown-on (w .grown) (v .grown));
           }
         where
           has : (g : Given) (t₀ i₀ : List ℕ) (s : State) → TakenOrCut g t₀ i₀ (stepFrom left base origin b j₁ g s) u d₂ t₂ i₂
@@ -133,13 +163,29 @@ module _ {cells input : List ℕ} {left base origin : ℕ} {b : List ℕ} {d : D
           has g t₀ i₀ s (inl q) = has-counted (q .0) e
           has g t₀ i₀ s (inr q) = q .has
 
-    pub along-end : Along cells input left base origin b d t i j₁ d₁ t₁ i₁ → length b ≤ j₁ → Ran cells input (length b) (λ g. run g left b base origin) d t i d₁ t₁ i₁
+    pub along-end : Along cells input left base origin b to j d t i j₁ d₁ t₁ i₁ → to ≤ j₁ → Went cells input left base origin b to j d t i j₁ d₁ t₁ i₁
     along-end w h = record {
-      does = λ g x y t₀ i₀ s k.
-          inl (subst (λ (z : State). Holds g t₀ i₀ z d₁ t₁ i₁) (sym (run-steps g left b base origin s))
-          (goes-end g left (below g left) base origin b 0 d t i j₁ d₁ t₁ i₁ h (w .goes g x y) t₀ i₀ s k));
-      grown = grown-more (length b) (w .within) (w .grown);
+      does = λ g x y t₀ i₀ s k. inl (goes-end g left (below g left) base origin b to j d t i j₁ d₁ t₁ i₁ h (w .goes g x y) t₀ i₀ s k);
+      grown = grown-more (length b - j) (omega (arith, w .past, w .within)) (w .grown);
     }
+
+-- the whole of a body
+pub went-all : {cells input : List ℕ} {left base origin : ℕ} {b : List ℕ} {d : Decoder} {t i : List ℕ} {j₁ : ℕ} {d₁ : Decoder} {t₁ i₁ : List ℕ}
+    → Went cells input left base origin b (length b) 0 d t i j₁ d₁ t₁ i₁ → Ran cells input (length b) (λ g. run g left b base origin) d t i d₁ t₁ i₁
+went-all {left = left} {base} {origin} {b} {d} {t} {i} {j₁} {d₁} {t₁} {i₁} w = record {
+  does = λ g x y t₀ i₀ s k. all g t₀ i₀ s (w .does g x y t₀ i₀ s k);
+  grown = grown-more (length b) (omega arith) (w .grown);
+}
+  where
+    same : (g : Given) (s : State) → stepsTo left base origin b (length b) 0 g s .state ≡ run g left b base origin s
+    same g s = until-all g left (below g left) base origin (length b) b 0 0 s (omega arith) ∙ sym (run-steps g left b base origin s)
+
+    all : (g : Given) (t₀ i₀ : List ℕ) (s : State)
+        → (Holds g t₀ i₀ (stepsTo left base origin b (length b) 0 g s .state) d₁ t₁ i₁ × (j₁ ≡ stepsTo left base origin b (length b) 0 g s .at))
+        ⊎ Cut (d₁ .core) (stepsTo left base origin b (length b) 0 g s .state)
+        → HoldsOrCut g t₀ i₀ (run g left b base origin s) d₁ t₁ i₁
+    all g t₀ i₀ s (inl q) = inl (subst (λ (z : State). Holds g t₀ i₀ z d₁ t₁ i₁) (same g s) (q .0))
+    all g t₀ i₀ s (inr q) = inr (subst (λ (z : State). Cut (d₁ .core) z) (same g s) q)
 
 -- ---- the offset
 

@@ -23,7 +23,7 @@ use Rattle.decode_macros.proofs.Laws.{builtin-bare}
 use Rattle.decode_bodies.specs.declared.Place.{Place}
 use Rattle.decode_bodies.specs.Contracts.{below, Body, Inside, Ready, Ran}
 use Rattle.decode_bodies.proofs.Room.{ready-body, grown-body}
-use Rattle.decode_bodies.proofs.Along.{below-run, along-start, along-end}
+use Rattle.decode_bodies.proofs.Along.{below-run, along-start, along-end, went-all}
 use Rattle.decode_bodies.proofs.Steps.{alike}
 
 -- ---- `char1` and `graphic`
@@ -81,9 +81,9 @@ module _ (cells input body : List ℕ) (p : Place) (d : Decoder) (t i : List ℕ
   ran-empty h e q =
       let n : d .core .charged + length body ≡ d .core .charged = omega (arith, e) in
       let k : d .core .charged + length body ≤ limit input = omega (arith, e, q .within) in
-      let w = along-start {d = charging d (length body)} (ready-body q k) in
+      let w = along-start {b = body} {to = length body} {j = 0} {d = charging d (length body)} (omega arith) (ready-body q k) in
       subst (λ (m : ℕ). Ran cells input 1 (λ g. runBody g (p .left) (below g (p .left)) body (p .base) (p .at)) d t i (whole (withCharged (d .core) m) (d .starts) (d .lens)) t i) n
-      (ran-body h k (along-end w (omega (arith, e))))
+      (ran-body h k (went-all (along-end w (omega (arith, e)))))
 
 -- ---- `run_macro`
 

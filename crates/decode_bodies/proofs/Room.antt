@@ -24,12 +24,21 @@ ready-good h = record {
 }
 
 -- after j of m bytes
-pub ready-left : {n m j : ℕ} {c r : Core} → Ready n m c → j ≤ m → Grown n j c r → Ready n (m - j) r
+pub ready-left : {n m j : ℕ} {c r : Core} → Ready n m c → j ≤ m → Grown n (j - 0) c r → Ready n (m - j) r
 ready-left h k w = record {
   gl = w .gl;
   gr = w .gr;
   within = w .within;
   room = record { ordered = w .ordered; repeat = w .repeat; text = omega (arith, h .room .text, w .text, k); issues = omega (arith, h .room .issues, w .issues, k) };
+}
+
+-- the same, from the byte j to the byte i of m bytes
+pub ready-after : {n m j i : ℕ} {c r : Core} → Ready n (m - j) c → j ≤ i → i ≤ m → Grown n (i - j) c r → Ready n (m - i) r
+ready-after {m = m} {j} {i} h p k w = record {
+  gl = w .gl;
+  gr = w .gr;
+  within = w .within;
+  room = record { ordered = w .ordered; repeat = w .repeat; text = omega (arith, h .room .text, w .text, p, k); issues = omega (arith, h .room .issues, w .issues, p, k) };
 }
 
 -- for fewer bytes

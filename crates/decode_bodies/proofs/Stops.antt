@@ -13,8 +13,8 @@ use Rattle.decode_state.proofs.Steps.{drop-one}
 use Rattle.decode_steps.specs.Contracts.{StopAt}
 
 -- what a stop says, once it is known which
-pub told : (b : List ℕ) (i : ℕ) (c : Core) {stop known : Stop} → stop ≡ known → StopAt stop b i c → StopAt known b i c
-told b i c q h = subst (λ (z : Stop). StopAt z b i c) q h
+pub told : (b : List ℕ) (to i : ℕ) (c : Core) {stop known : Stop} → stop ≡ known → StopAt stop b to i c → StopAt known b to i c
+told b to i c q h = subst (λ (z : Stop). StopAt z b to i c) q h
 
 -- a single shift with a character behind it
 pub shift-char : (g : Given) (left : ℕ) (R : Run) (e : ℕ) (b : List ℕ) (j at : ℕ) (s : State) → j + 1 < length b → isGraphic (getD b (j + 1) 0) ≡ true

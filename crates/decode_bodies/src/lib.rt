@@ -206,7 +206,7 @@ fn turn<'a>(
     requires { ⌜ Opens (now input) (now starts) (now lens) p 1 s ⌝ }
     requires { ⌜ Body (now b) ⌝ }
     requires { ⌜ i < length (now b) ⌝ }
-    requires { ⌜ StopAt stop (now b) i s ⌝ }
+    requires { ⌜ StopAt stop (now b) (length (now b)) i s ⌝ }
     ensures { λ r. ⌜ RanStep (now (cells .entry)) (now (input .entry)) (now (b .entry)) i (stepIn (now (b .entry)) i p) (whole s (now (starts .entry)) (now (lens .entry)))
         (now (text .entry)) (now (issues .entry)) (r .used) (whole (r .core) (now (starts .entry)) (now (lens .entry))) (now (text .exit)) (now (issues .exit)) ⌝ }
 {
@@ -251,6 +251,7 @@ fn run<'a>(
         let o = Source {
             base: p.base,
             origin,
+            to: b.len(),
         };
         let f = decode_steps::plain(cells, b, i, o, s, text, issues);
         i = f.at;

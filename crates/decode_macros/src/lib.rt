@@ -90,7 +90,7 @@ fn put_bytes(body: &mut [u8], at: usize, s: &[u8]) -> usize
 }
 
 /// How far a definition's body goes from `from` on: to the first MACRO 4F, or to the end where none is.
-fn body_end(b: &[u8], from: usize) -> usize
+pub fn body_end(b: &[u8], from: usize) -> usize
     requires { ⌜ from ≤ length (now b) ⌝ }
     ensures { λ r. ⌜ r ≡ from + endOf (drop from (now (b .entry))) ⌝ }
 {

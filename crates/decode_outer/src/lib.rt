@@ -9,20 +9,26 @@ use decode_steps::Source;
 use decode_steps::Stop;
 use issues::IssueKind;
 ghost use mathlib.Core.Path.{_≡_};
-ghost use Prim.Native.Nat.{ℕ, _+_, _≤_, _<_};
+ghost use Prim.Native.Nat.{ℕ, _+_, _-_, _≤_, _<_};
 ghost use lib.ListN.{length, drop, getD, set};
 ghost use mathlib.Core.Bool.{cond};
 ghost use Rattle.reading.specs.Characters.{graphic};
-ghost use Rattle.reading.specs.Macros.{limit, runMacro, defined, macroCmd};
+ghost use Rattle.reading.specs.Macros.{runMacro, defined, macroCmd};
 ghost use Rattle.decode_state.specs.Contracts.{whole};
 ghost use Rattle.decode_macros.specs.Contracts.{Defined};
 ghost use Rattle.decode_steps.specs.Contracts.{StopAt};
-ghost use Rattle.decode_bodies.specs.Contracts.{below, Ready};
+ghost use Rattle.decode_bodies.specs.Contracts.{below};
 ghost use Rattle.decode_outer.specs.Contracts.{Outside, Executed, OuterStep, stepAt, TopRan};
 
 /// After a step outside every body, where macros are defined.
 pub struct Outer {
     pub used: usize,
+    pub decoder: Decoder,
+}
+
+/// After steps outside every body: the byte at which the next one begins, or the end.
+pub struct Reached {
+    pub at: usize,
     pub decoder: Decoder,
 }
 
@@ -214,7 +220,7 @@ fn step(
 ) -> Outer
     requires { ⌜ Outside (now input) 1 d ⌝ }
     requires { ⌜ i < length (now input) ⌝ }
-    requires { ⌜ StopAt stop (now input) i (d .core) ⌝ }
+    requires { ⌜ StopAt stop (now input) (length (now input)) i (d .core) ⌝ }
     ensures { λ r. ⌜ OuterStep (now (cells .entry)) (now (input .entry)) i (stepAt (now (input .entry)) i) d (now (text .entry)) (now (issues .entry)) r (now (text .exit))
         (now (issues .exit)) ⌝ }
 {
@@ -240,34 +246,46 @@ fn step(
     }
 }
 
-/// All steps of the input, up to an issue that ends the reading.
-pub fn top(cells: &[u16], input: &[u8], start: Core, text: &mut [u8], issues: &mut [u32]) -> Core
-    requires { ⌜ length (now input) ≤ 65535 ⌝ }
-    requires { ⌜ Ready (limit (now input)) (length (now input)) start ⌝ }
-    ensures { λ r. ⌜ TopRan (now (cells .entry)) (now (input .entry)) start (now (text .entry)) (now (issues .entry)) r (now (text .exit)) (now (issues .exit)) ⌝ }
+/// The steps of the input from the byte `from`, up to the first that begins at the byte `to` or behind it, or to an issue
+/// that ends the reading.
+pub fn top(
+    cells: &[u16],
+    input: &[u8],
+    from: usize,
+    to: usize,
+    start: Decoder,
+    text: &mut [u8],
+    issues: &mut [u32],
+) -> Reached
+    requires { ⌜ (from ≤ length (now input)) × (to ≤ length (now input)) ⌝ }
+    requires { ⌜ Outside (now input) (length (now input) - from) start ⌝ }
+    ensures { λ r. ⌜ TopRan (now (cells .entry)) (now (input .entry)) from to start (now (text .entry)) (now (issues .entry)) r (now (text .exit)) (now (issues .exit)) ⌝ }
 {
-    let mut d = Decoder {
-        core: start,
-        starts: [0; 128],
-        lens: [0; 128],
-    };
-    let mut i: usize = 0;
+    let mut d = start;
+    let mut i = from;
     loop {
         let core = d.core;
-        let o = Source { base: 0, origin: 0 };
+        let o = Source {
+            base: 0,
+            origin: 0,
+            to,
+        };
         let f = decode_steps::steps(cells, input, i, o, core, text, issues);
         let after = f.core;
         d.core = after;
         i = f.at;
-        if i >= input.len() {
-            return after;
+        if i >= to {
+            return Reached { at: i, decoder: d };
         }
         let stop = f.stop;
         let r = step(cells, input, i, stop, d, text, issues);
         let next = r.decoder;
         let reached = next.core;
         if decode_state::ended(reached.enough, reached.out.issues) {
-            return reached;
+            return Reached {
+                at: i,
+                decoder: next,
+            };
         }
         i += r.used;
         d = next;

@@ -32,7 +32,7 @@ wrote-then {f = f} v w =
 
 -- a repeat waits, or none
 pub wrote-repeat : {n k : ℕ} {s : Out} (r : ℕ) (t i : List ℕ) → Room n k s → r ≤ 63
-    → Wrote 0 0 (setRepeat r) s t i (record { len = s .len; end = s .end; first = s .first; repeat = r; issues = s .issues; private_use = s .private_use }) t i
+    → Wrote 0 0 (setRepeat r) s t i (record { len = s .len; end = s .end; waiting = s .waiting; first = s .first; repeat = r; issues = s .issues; private_use = s .private_use }) t i
 unfolding setRepeat
 wrote-repeat r t i p g =
     record {
@@ -41,6 +41,7 @@ wrote-repeat r t i p g =
             state = λ j. record {
               len = h .state j .len;
               end = h .state j .end;
+              waiting = h .state j .waiting;
               first = h .state j .first;
               repeat = r;
               issues = h .state j .issues;
@@ -63,6 +64,7 @@ uncounted {n} {m} {k} {f} {s} {r} {t} {i} {t′} {i′} e w =
         record {
           len = r .len;
           end = r .end;
+          waiting = r .waiting;
           first = r .first;
           repeat = r .repeat;
           issues = r .issues;

@@ -15,11 +15,17 @@ use Rattle.issues.specs.declared.IssueKind.the-variants.{DanglingNonSpacing}
 use Rattle.utf8.proofs.Bytes.{utf8s-append, utf8s-snoc}
 use Rattle.decode_output.specs.declared.Out.{Out}
 use Rattle.decode_output.specs.Output.{Output, times, emitTimes, emit, firstAt, mark, position, report, releaseOf, release, newline}
+use Rattle.decode_output.specs.Waiting.{pushed, packed}
 use Rattle.decode_output.specs.Contracts.{Holds}
 use Rattle.decode_output.proofs.Sets.{sets-end, sets-past, moved-part}
 use Rattle.decode_output.proofs.Counts.{utf8s-none, numbers-end, length-numbers}
 
 -- ---- the waiting marks, by the struct
+
+pub packed-more : (w : ℕ) (ms : List ℕ) (m : ℕ) → packed w (ms ++ (m ∷ [])) ≡ pushed (packed w ms) m
+unfolding packed
+packed-more w [] m = refl
+packed-more w (x ∷ ms) m = packed-more (pushed w x) ms m
 
 module _ {t₀ i₀ t i : List ℕ} {o : Output} {s : Out} (h : Holds t₀ i₀ o s t i) where
   pub held-len : s .len ≡ length (utf8s (o .text))
@@ -27,6 +33,9 @@ module _ {t₀ i₀ t i : List ℕ} {o : Output} {s : Out} (h : Holds t₀ i₀ 
 
   pub held-end : s .end ≡ length (utf8s (o .text ++ o .marks))
   held-end = ap (λ (z : Out). z .end) (h .state)
+
+  pub held-waiting : s .waiting ≡ packed 0 (o .marks)
+  held-waiting = ap (λ (z : Out). z .waiting) (h .state)
 
   pub held-repeat : s .repeat ≡ o .repeat
   held-repeat = ap (λ (z : Out). z .repeat) (h .state)
@@ -44,6 +53,10 @@ module _ {t₀ i₀ t i : List ℕ} {o : Output} {s : Out} (h : Holds t₀ i₀ 
   pub marks-none : s .len ≡ s .end → o .marks ≡ []
   marks-none e = utf8s-none (o .marks) (omega (arith, held-marks))
 
+  pub waiting-none : s .len ≡ s .end → s .waiting ≡ 0
+  unfolding packed
+  waiting-none e = held-waiting ∙ ap (packed 0) (marks-none e)
+
   -- a mark waits
   pub marks-some : (s .len ≡ s .end → ⊥) → o .marks ≡ [] → ⊥
   marks-some f e =
@@ -57,14 +70,23 @@ abbrev pub written : List ℕ → ℕ → List Issue → Output
 written text repeat issues = record { text = text; marks = []; marksAt = 0; repeat = repeat; issues = issues }
 
 abbrev pub outAt : ℕ → ℕ → ℕ → ℕ → Out
-outAt n repeat issues private = record { len = n; end = n; first = 0; repeat = repeat; issues = issues; private_use = private }
+outAt n repeat issues private = record { len = n; end = n; waiting = 0; first = 0; repeat = repeat; issues = issues; private_use = private }
 
 pub holds-written : {t₀ i₀ t i : List ℕ} {n r r′ k p : ℕ} (x : List ℕ) (a : List Issue) → n ≡ length (utf8s x) → r ≡ r′ → k ≡ length a → p ≡ privateUse x
     → t ≡ sets t₀ 0 (utf8s x) → i ≡ sets i₀ 0 (issuesNumbers a) → Holds t₀ i₀ (written x r′ a) (outAt n r k p) t i
+unfolding packed
 holds-written {t₀ = t₀} x a d u q v f g =
     let y : x ≡ x ++ [] = sym (append-nil x) in
     record {
-      state = λ j. record { len = d j; end = (d ∙ ap (λ (z : List ℕ). length (utf8s z)) y) j; first = 0; repeat = u j; issues = q j; private_use = (v ∙ ap privateUse y) j };
+      state = λ j. record {
+        len = d j;
+        end = (d ∙ ap (λ (z : List ℕ). length (utf8s z)) y) j;
+        waiting = 0;
+        first = 0;
+        repeat = u j;
+        issues = q j;
+        private_use = (v ∙ ap privateUse y) j;
+      };
       text = f ∙ ap (λ (z : List ℕ). sets t₀ 0 (utf8s z)) y;
       issues = g;
     }
@@ -146,7 +168,7 @@ module _ {t₀ i₀ t i : List ℕ} {o : Output} {s : Out} (h : Holds t₀ i₀ 
 
   pub holds-mark : (m at : ℕ) {first : ℕ} → isPrivateUse m ≡ false → first ≡ firstAt (o .marks) (o .marksAt) at
       → Holds t₀ i₀ (mark m at o)
-      (record { len = s .len; end = s .end + length (utf8 m); first = first; repeat = s .repeat; issues = s .issues; private_use = s .private_use })
+      (record { len = s .len; end = s .end + length (utf8 m); waiting = pushed (s .waiting) m; first = first; repeat = s .repeat; issues = s .issues; private_use = s .private_use })
       (sets t (s .end) (utf8 m)) i
   unfolding mark
   holds-mark m at f e =
@@ -158,7 +180,15 @@ module _ {t₀ i₀ t i : List ℕ} {o : Output} {s : Out} (h : Holds t₀ i₀ 
       omega (arith, held-private h, count-append (o .text ++ o .marks) (m ∷ []), count-ordinary 1 m f)
       ∙ ap privateUse (append-assoc (o .text) (o .marks) (m ∷ [])) in
       record {
-        state = λ j. record { len = h .state j .len; end = q j; first = e j; repeat = h .state j .repeat; issues = h .state j .issues; private_use = p j };
+        state = λ j. record {
+          len = h .state j .len;
+          end = q j;
+          waiting = (ap (λ (w : ℕ). pushed w m) (held-waiting h) ∙ sym (packed-more 0 (o .marks) m)) j;
+          first = e j;
+          repeat = h .state j .repeat;
+          issues = h .state j .issues;
+          private_use = p j;
+        };
         text = sets-end (utf8s (o .text ++ o .marks)) (utf8 m) t₀ (h .text) (held-end h) ∙ ap (sets t₀ 0) b;
         issues = h .issues;
       }
@@ -184,7 +214,7 @@ module _ {t₀ i₀ t i : List ℕ} {o : Output} {s : Out} (h : Holds t₀ i₀ 
 
   pub holds-report : (at : ℕ) (kind : IssueKind) → let k = s .issues * numbers in let n = numbersOf kind in
       Holds t₀ i₀ (report at kind o)
-      (record { len = s .len; end = s .end; first = s .first; repeat = s .repeat; issues = s .issues + 1; private_use = s .private_use }) t
+      (record { len = s .len; end = s .end; waiting = s .waiting; first = s .first; repeat = s .repeat; issues = s .issues + 1; private_use = s .private_use }) t
       (set (set (set (set (set i k at) (k + 1) (n .kind)) (k + 2) (n .first)) (k + 3) (n .second)) (k + 4) (s .len))
   unfolding report issueNumbers
   holds-report at kind =
@@ -203,6 +233,7 @@ module _ {t₀ i₀ t i : List ℕ} {o : Output} {s : Out} (h : Holds t₀ i₀ 
         state = λ j. record {
           len = h .state j .len;
           end = h .state j .end;
+          waiting = h .state j .waiting;
           first = h .state j .first;
           repeat = h .state j .repeat;
           issues = c j;
@@ -259,7 +290,7 @@ module _ {t₀ i₀ t i : List ℕ} {o : Output} {s : Out} (h : Holds t₀ i₀ 
 -- ---- a newline
 
 pub holds-newline : {t₀ i₀ t i : List ℕ} (o : Output) {s : Out} → Holds t₀ i₀ (release o) s t i → let n = s .end + length (utf8 0x0A) in
-    Holds t₀ i₀ (newline o) (record { len = n; end = n; first = s .first; repeat = s .repeat; issues = s .issues; private_use = s .private_use })
+    Holds t₀ i₀ (newline o) (record { len = n; end = n; waiting = s .waiting; first = s .first; repeat = s .repeat; issues = s .issues; private_use = s .private_use })
     (sets t (s .end) (utf8 0x0A)) i
 unfolding newline
 holds-newline {t₀ = t₀} o {s} h =
@@ -275,6 +306,7 @@ holds-newline {t₀ = t₀} o {s} h =
       state = λ j. record {
         len = p j;
         end = (p ∙ ap (λ (l : List ℕ). length (utf8s l)) y) j;
+        waiting = h .state j .waiting;
         first = h .state j .first;
         repeat = h .state j .repeat;
         issues = h .state j .issues;

@@ -9,13 +9,16 @@ use Rattle.utf8.specs.Utf8.{utf8s}
 use Rattle.issues.specs.Issue.{issuesNumbers}
 use Rattle.decode_output.specs.declared.Out.{Out}
 use Rattle.decode_output.specs.Output.{Output}
+use Rattle.decode_output.specs.Waiting.{packed}
 
--- the struct at what was written: the text's bytes without and with the waiting marks, and the counts of issues and of private-use characters
+-- the struct at what was written: the text's bytes without and with the waiting marks, these marks, and the counts of issues and of private-use
+-- characters
 abbrev pub outOf : Output → Out
 outOf o =
     record {
       len = length (utf8s (o .text));
       end = length (utf8s (o .text ++ o .marks));
+      waiting = packed 0 (o .marks);
       first = o .marksAt;
       repeat = o .repeat;
       issues = length (o .issues);
@@ -24,7 +27,7 @@ outOf o =
 
 -- the struct with k private-use characters more
 abbrev pub counted : ℕ → Out → Out
-counted k s = record { len = s .len; end = s .end; first = s .first; repeat = s .repeat; issues = s .issues; private_use = s .private_use + k }
+counted k s = record { len = s .len; end = s .end; waiting = s .waiting; first = s .first; repeat = s .repeat; issues = s .issues; private_use = s .private_use + k }
 
 -- s, t and i hold o, over buffers that were t₀ and i₀: what does not fit is counted and not written
 pub record Holds (t₀ i₀ : List ℕ) (o : Output) (s : Out) (t i : List ℕ) : Type 0 where

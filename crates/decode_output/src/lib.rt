@@ -21,6 +21,7 @@ ghost use Rattle.decode_output.specs.Output.{
   release,
   newline,
 };
+ghost use Rattle.decode_output.specs.Waiting.{digit, pushed};
 ghost use Rattle.decode_output.specs.Contracts.{outOf, counted, Room, Wrote};
 
 pub struct Out {
@@ -28,6 +29,8 @@ pub struct Out {
     pub len: usize,
     /// Bytes with them: where the next mark goes.
     pub end: usize,
+    /// The waiting marks: an octal digit for each of up to sixteen, the first one's the highest.
+    pub waiting: u64,
     /// The first waiting mark's offset, 0 where none waits.
     pub first: u32,
     /// The waiting repeat, 0 where none waits.
@@ -45,6 +48,7 @@ pub fn start() -> Out
     Out {
         len: 0,
         end: 0,
+        waiting: 0,
         first: 0,
         repeat: 0,
         issues: 0,
@@ -102,6 +106,7 @@ fn emit_times(o: Out, c: u32, n: u32, text: &mut [u8]) -> Out
     let r = Out {
         len: to,
         end: to,
+        waiting: 0,
         first: 0,
         repeat: 0,
         issues: o.issues,
@@ -132,6 +137,7 @@ fn emit_uncounted(o: Out, c: u32, text: &mut [u8]) -> Out
     Out {
         len: to,
         end: to,
+        waiting: 0,
         first: 0,
         repeat: 0,
         issues: o.issues,
@@ -170,6 +176,34 @@ pub fn emit_private_use(o: Out, c: u32, text: &mut [u8]) -> Out
     r
 }
 
+/// More waiting marks than sixteen: the least number of seventeen octal digits.
+pub const SEVENTEEN_DIGITS: u64 = 0x1000000000000;
+
+/// A mark as an octal digit. Table E-1.
+fn digit(m: u32) -> u64
+    ensures { λ r. ⌜ (r ≡ digit m) × (r ≤ 7) ⌝ }
+{
+    match m {
+        0x301 => 1,
+        0x300 => 2,
+        0x308 => 3,
+        0x302 => 4,
+        0x305 => 5,
+        0x332 => 6,
+        _ => 7,
+    }
+}
+
+/// The waiting marks and one more; behind seventeen they are told apart no longer.
+fn pushed(waiting: u64, m: u32) -> u64
+    ensures { λ r. ⌜ r ≡ pushed waiting m ⌝ }
+{
+    if waiting < SEVENTEEN_DIGITS {
+        return waiting * 8 + digit(m);
+    }
+    waiting
+}
+
 /// A non-spacing character waits for the character that it combines with. §7.1.1.4.
 pub fn mark(o: Out, m: u32, at: u32, text: &mut [u8]) -> Out
     requires { ⌜ Room 1 0 o ⌝ }
@@ -179,6 +213,7 @@ pub fn mark(o: Out, m: u32, at: u32, text: &mut [u8]) -> Out
     let end = o.end;
     let mut r = o;
     r.end = end + utf8::put(text, end, m);
+    r.waiting = pushed(o.waiting, m);
     if o.len == end {
         r.first = at;
     }
@@ -222,6 +257,7 @@ pub fn flush_dangling(o: Out, issues: &mut [u32]) -> Out
     }
     let mut r = issue(o, o.first, IssueKind::DanglingNonSpacing, issues);
     r.len = r.end;
+    r.waiting = 0;
     r.first = 0;
     r
 }

@@ -25,7 +25,7 @@ abbrev pub stepped : ℕ → Core → Stepped
 stepped n c = record { used = n; core = c }
 
 abbrev pub withRepeat : Core → ℕ → Core
-withRepeat c n = withOut c (record { len = c .out .len; end = c .out .end; first = c .out .first; repeat = n; issues = c .out .issues; private_use = c .out .private_use })
+withRepeat c n = withOut c (record { len = c .out .len; end = c .out .end; waiting = c .out .waiting; first = c .out .first; repeat = n; issues = c .out .issues; private_use = c .out .private_use })
 
 grew-none : (o : Out) → output.Room 1 1 o → output.Grew 1 1 o o
 grew-none o k = record { ordered = k .ordered; repeat = k .repeat; text = omega arith; issues = omega arith }

@@ -14,13 +14,14 @@ use Rattle.utf8.specs.Utf8.{utf8}
 use Rattle.utf8.proofs.Bytes.{length-utf8}
 use Rattle.decode_output.specs.Output.{emit}
 use Rattle.decode_output.specs.declared.Out.{Out}
-use Rattle.decode_output.proofs.Held.{held-repeat, marks-none, holds-plain}
+use Rattle.decode_output.proofs.Held.{held-repeat, marks-none, waiting-none, holds-plain}
 use Rattle.reading.specs.State.{Given, State, Step, writes, isNarrow}
-use Rattle.reading.specs.Steps.{steps, offset}
+use Rattle.reading.specs.Steps.{offset}
+use Rattle.reading.specs.Between.{until}
 use Rattle.decode_state.specs.declared.Core.{Core}
 use Rattle.decode_state.specs.Contracts.{whole, Holds, Goes, MayTake, Stretch}
-use Rattle.decode_state.proofs.Lift.{holds-writes}
-use Rattle.decode_state.proofs.Steps.{goes-none, goes-on, goes-step}
+use Rattle.decode_state.proofs.Lift.{withOut, holds-writes}
+use Rattle.decode_state.proofs.Steps.{goes-none, goes-on, goes-later, goes-step}
 use Rattle.decode_settings.specs.Contracts.{withSettings, Settings, Controls}
 use Rattle.decode_settings.proofs.Turning.{seven}
 use Rattle.decode_letters.specs.declared.Invoked.{Invoked}
@@ -41,9 +42,13 @@ sees p h =
       repeat = sym (held-repeat (h .out));
     }
 
+-- the struct where something else waits, for the step of a character: the number of waiting marks is 0 where none waits
+abbrev withWaiting : ℕ → ℕ → ℕ → Core → Core
+withWaiting w n p c = withOut c (record { len = n; end = n; waiting = w; first = 0; repeat = 0; issues = c .out .issues; private_use = p })
+
 -- the loop: what is spelt up to the byte j₁, the text as long as it was, and room for three bytes a byte before `to`
-pub record Spelt (cells b : List ℕ) (j to : ℕ) (v : Invoked) (n p : ℕ) (t : List ℕ) (j₁ n₁ : ℕ) (t₁ : List ℕ) : Type 0 where
-  pub letters : Letters cells b j v n p t j₁ n₁ p t₁
+pub record Spelt (cells b : List ℕ) (to j : ℕ) (v : Invoked) (n p : ℕ) (t : List ℕ) (j₁ n₁ : ℕ) (t₁ : List ℕ) : Type 0 where
+  pub letters : Letters cells b to j v n p t j₁ n₁ p t₁
   pub as-long : length t₁ ≡ length t
   pub room : n₁ + 3 * (to - j₁) ≤ length t
 
@@ -56,8 +61,8 @@ pub space-sum : {fits : Bool} {n m k : ℕ} → Space fits n m k → k < 2 ^ 63 
 space-sum {fits = true} h l = omega (arith, h .inside refl, l)
 space-sum {fits = false} h l = omega (arith, h .small refl)
 
-module _ {cells b : List ℕ} {j : ℕ} {v : Invoked} {n p : ℕ} {t : List ℕ} where
-  pub letters-none : j ≤ length b → Letters cells b j v n p t j n p t
+module _ {cells b : List ℕ} {to j : ℕ} {v : Invoked} {n p : ℕ} {t : List ℕ} where
+  pub letters-none : j ≤ length b → Letters cells b to j v n p t j n p t
   letters-none h =
       record {
         past = omega arith;
@@ -65,15 +70,15 @@ module _ {cells b : List ℕ} {j : ℕ} {v : Invoked} {n p : ℕ} {t : List ℕ}
         most = omega arith;
         few = omega arith;
         goes = λ g e left R base origin i starts lens c f.
-            subst (λ (z : Core). Goes g left R base origin b j (whole c starts lens) t i j (whole z starts lens) t i) (f .text)
-            (goes-none g left R base origin b j (whole c starts lens) t i);
+            subst (λ (z : Core). Goes g left R base origin b to j (whole c starts lens) t i j (whole z starts lens) t i) (f .text)
+            (goes-none g left R base origin b to j (whole c starts lens) t i);
       }
 
   -- a character more
-  pub letters-more : {j₁ n₁ p₁ : ℕ} {t₁ : List ℕ} (u l : ℕ) {t₂ : List ℕ} {w p₂ : ℕ} → Letters cells b j v n p t j₁ n₁ p₁ t₁ → 1 ≤ u → j₁ + u ≤ length b
+  pub letters-more : {j₁ n₁ p₁ : ℕ} {t₁ : List ℕ} (u l : ℕ) {t₂ : List ℕ} {w p₂ : ℕ} → Letters cells b to j v n p t j₁ n₁ p₁ t₁ → 1 ≤ u → j₁ < to → j₁ + u ≤ length b
       → Spells cells b j₁ v u l → w ≡ length (utf8 l) → w ≤ 3 * u → p₂ ≡ p₁ + privateUse (l ∷ []) → t₂ ≡ sets t₁ n₁ (utf8 l)
-      → Letters cells b j v n p t (j₁ + u) (n₁ + w) p₂ t₂
-  letters-more {j₁} {n₁} {p₁} {t₁} u l {t₂} {w} {p₂} before a within k e m q d =
+      → Letters cells b to j v n p t (j₁ + u) (n₁ + w) p₂ t₂
+  letters-more {j₁} {n₁} {p₁} {t₁} u l {t₂} {w} {p₂} before a begins within k e m q d =
       let past = before .past in
       let most = before .most in
       let few = before .few in
@@ -83,9 +88,9 @@ module _ {cells b : List ℕ} {j : ℕ} {v : Invoked} {n p : ℕ} {t : List ℕ}
         most = omega arith;
         few = omega (arith, few, q, e, length-utf8 l .least, count-most 1 l);
         goes = λ g ce left R base origin i starts lens c f.
-            goes-on g left R base origin b j (whole c starts lens) t i j₁ (whole (withText c n₁ p₁) starts lens) t₁ i (j₁ + u) (whole (withText c (n₁ + w) p₂) starts lens) t₂ i
+            goes-on g left R base origin b to j (whole c starts lens) t i j₁ (whole (withText c n₁ p₁) starts lens) t₁ i (j₁ + u) (whole (withText c (n₁ + w) p₂) starts lens) t₂ i
             (before .goes g ce left R base origin i starts lens c f)
-            (goes-step g left R base origin b j₁ (withText c n₁ p₁) t₁ i u (withText c (n₁ + w) p₂) t₂ i starts lens (omega arith) a
+            (goes-step g left R base origin b to j₁ (withText c n₁ p₁) t₁ i u (withText c (n₁ + w) p₂) t₂ i starts lens begins (omega arith) a within
             record {
               does = λ starts lens t₀ i₀ x h.
                   subst
@@ -100,21 +105,25 @@ module _ {cells b : List ℕ} {j : ℕ} {v : Invoked} {n p : ℕ} {t : List ℕ}
                   (subst
                   (λ (y : ℕ). Holds g t₀ i₀ (writes (emit l) x) (whole (withText c (n₁ + length (utf8 l)) y) starts lens) (sets t₁ n₁ (utf8 l)) i)
                   (sym q)
-                  (holds-writes g starts lens t₀ i₀ x (withText c n₁ p₁) t₁ i h (emit l) _ _ i (holds-plain (h .out) l refl refl)))));
+                  (subst
+                  (λ (y : ℕ).
+                  Holds g t₀ i₀ (writes (emit l) x) (whole (withWaiting y (n₁ + length (utf8 l)) (p₁ + privateUse (l ∷ [])) c) starts lens) (sets t₁ n₁ (utf8 l)) i)
+                  (sym (waiting-none (h .out) refl))
+                  (holds-writes g starts lens t₀ i₀ x (withText c n₁ p₁) t₁ i h (emit l) _ _ i (holds-plain (h .out) l refl refl))))));
               used = λ starts lens t₀ i₀ x h. ap (λ (y : Step). y .used) (k g ce left R (base + j₁) (offset origin j₁) x (sees f h));
             });
       }
 
-module _ {cells b : List ℕ} {j to : ℕ} {v : Invoked} {n p : ℕ} {t : List ℕ} where
-  pub spelt-start : j ≤ length b → n + 3 * (to - j) ≤ length t → Spelt cells b j to v n p t j n t
+module _ {cells b : List ℕ} {to j : ℕ} {v : Invoked} {n p : ℕ} {t : List ℕ} where
+  pub spelt-start : j ≤ length b → n + 3 * (to - j) ≤ length t → Spelt cells b to j v n p t j n t
   spelt-start h r = record { letters = letters-none h; as-long = refl; room = r }
 
   -- an ordinary character more
-  pub spelt-more : {j₁ n₁ : ℕ} {t₁ : List ℕ} (u l : ℕ) {t₂ : List ℕ} {w : ℕ} → Spelt cells b j to v n p t j₁ n₁ t₁ → 1 ≤ u → j₁ + u ≤ length b
+  pub spelt-more : {j₁ n₁ : ℕ} {t₁ : List ℕ} (u l : ℕ) {t₂ : List ℕ} {w : ℕ} → Spelt cells b to j v n p t j₁ n₁ t₁ → 1 ≤ u → j₁ < to → j₁ + u ≤ length b
       → Spells cells b j₁ v u l → isPrivateUse l ≡ false → w ≡ length (utf8 l) → w ≤ 3 * u → w + 3 * (to - (j₁ + u)) ≤ 3 * (to - j₁)
-      → t₂ ≡ sets t₁ n₁ (utf8 l) → Spelt cells b j to v n p t (j₁ + u) (n₁ + w) t₂
-  spelt-more {j₁} {n₁} {t₁} u l s a v k o e m q d = record {
-    letters = letters-more u l (s .letters) a v k e m (omega (arith, count-ordinary 1 l o)) d;
+      → t₂ ≡ sets t₁ n₁ (utf8 l) → Spelt cells b to j v n p t (j₁ + u) (n₁ + w) t₂
+  spelt-more {j₁} {n₁} {t₁} u l s a begins v k o e m q d = record {
+    letters = letters-more u l (s .letters) a begins v k e m (omega (arith, count-ordinary 1 l o)) d;
     as-long = ap length d ∙ length-sets t₁ n₁ (utf8 l) ∙ s .as-long;
     room = omega (arith, s .room, q);
   }
@@ -122,10 +131,10 @@ module _ {cells b : List ℕ} {j to : ℕ} {v : Invoked} {n p : ℕ} {t : List �
 -- one character behind what was reached, of which q are private-use
 module _ {cells b : List ℕ} {v : Invoked} {from r : Reached} {to c u q : ℕ} {t t′ : List ℕ} {fits : Bool} (within : from .at ≤ length b) (inside : to ≤ length b)
     (reads : Reads cells b (from .at) to v u c) (count : privateUse (c ∷ []) ≡ q) (space : Space fits (from .len) (to - from .at) (length t)) (w : Behind from c u q t r t′) where
-  pub behind-letters : Letters cells b (from .at) v (from .len) (from .private_use) t (r .at) (r .len) (r .private_use) t′
+  pub behind-letters : Letters cells b to (from .at) v (from .len) (from .private_use) t (r .at) (r .len) (r .private_use) t′
   behind-letters =
       rw (w .at, w .len, w .private-use)
-      (letters-more u c (letters-none within) (reads .some) (omega (arith, reads .within, inside)) (reads .spells) refl (reads .most)
+      (letters-more u c (letters-none within) (reads .some) (omega (arith, reads .some, reads .within)) (omega (arith, reads .within, inside)) (reads .spells) refl (reads .most)
       (ap (λ (k : ℕ). from .private_use + k) (sym count)) (w .text))
 
   pub behind-space : Space fits (r .len) (to - r .at) (length t′)
@@ -134,34 +143,34 @@ module _ {cells b : List ℕ} {v : Invoked} {from r : Reached} {to c u q : ℕ} 
       (space-on (omega arith) (omega (arith, reads .within, reads .most)) (ap length (w .text) ∙ length-sets t (from .len) (utf8 c)) space)
 
 -- the loop that counts
-module _ {cells b : List ℕ} {j to : ℕ} {v : Invoked} {n p : ℕ} where
-  pub counted-start : j ≤ length b → Counted cells b j to v n p j n p
+module _ {cells b : List ℕ} {to j : ℕ} {v : Invoked} {n p : ℕ} where
+  pub counted-start : j ≤ length b → Counted cells b to j v n p j n p
   counted-start h = record { letters = λ t f. letters-none h; more = omega arith; room = omega arith }
 
-  pub counted-more : {j₁ n₁ : ℕ} (u l : ℕ) {w : ℕ} → Counted cells b j to v n p j₁ n₁ p → 1 ≤ u → j₁ + u ≤ length b
+  pub counted-more : {j₁ n₁ : ℕ} (u l : ℕ) {w : ℕ} → Counted cells b to j v n p j₁ n₁ p → 1 ≤ u → j₁ < to → j₁ + u ≤ length b
       → Spells cells b j₁ v u l → isPrivateUse l ≡ false → w ≡ length (utf8 l) → w ≤ 3 * u → w + 3 * (to - (j₁ + u)) ≤ 3 * (to - j₁)
-      → Counted cells b j to v n p (j₁ + u) (n₁ + w) p
-  counted-more {j₁} {n₁} u l s a v k o e m q = record {
-    letters = λ t f. letters-more u l (s .letters t f) a v k e m (omega (arith, count-ordinary 1 l o)) (sym (sets-out (utf8 l) t n₁ (omega (arith, f, s .more))));
+      → Counted cells b to j v n p (j₁ + u) (n₁ + w) p
+  counted-more {j₁} {n₁} u l s a begins v k o e m q = record {
+    letters = λ t f. letters-more u l (s .letters t f) a begins v k e m (omega (arith, count-ordinary 1 l o)) (sym (sets-out (utf8 l) t n₁ (omega (arith, f, s .more))));
     more = omega (arith, s .more);
     room = omega (arith, s .room, q);
   }
 
 -- no step
-pub stretch-none : {cells b : List ℕ} {j : ℕ} {c : Core} {t i : List ℕ} (base origin : ℕ) → j ≤ length b → MayTake (length b - j) c → Stretch cells base origin b j c t i j c t i
-stretch-none {b = b} {j} {c} {t} {i} base origin h p =
+pub stretch-none : {cells b : List ℕ} {to j : ℕ} {c : Core} {t i : List ℕ} (base origin : ℕ) → j ≤ length b → MayTake (length b - j) c → Stretch cells base origin b to j c t i j c t i
+stretch-none {b = b} {to} {j} {c} {t} {i} base origin h p =
     let r = p .room in
     record {
       past = omega arith;
       within = h;
       kept = record { gl = p .gl; gr = p .gr; enough = refl; charged = refl; grew = record { ordered = r .ordered; repeat = r .repeat; text = omega arith; issues = omega arith } };
-      goes = λ g e left R starts lens. goes-none g left R base origin b j (whole c starts lens) t i;
+      goes = λ g e left R starts lens. goes-none g left R base origin b to j (whole c starts lens) t i;
     }
 
 -- ---- characters and controls
 
-module _ {cells b : List ℕ} {j : ℕ} {annex : Bool} {l : List ℕ} {n p : ℕ} {t : List ℕ} where
-  pub runs-none : j ≤ length b → Settings l → RunsTo cells b j annex l n p t j l n p t
+module _ {cells b : List ℕ} {to j : ℕ} {annex : Bool} {l : List ℕ} {n p : ℕ} {t : List ℕ} where
+  pub runs-none : j ≤ length b → Settings l → RunsTo cells b to j annex l n p t j l n p t
   runs-none h f =
       record {
         past = omega arith;
@@ -169,14 +178,14 @@ module _ {cells b : List ℕ} {j : ℕ} {annex : Bool} {l : List ℕ} {n p : ℕ
         most = omega arith;
         few = omega arith;
         settings = f;
-        goes = λ g e left R base origin i starts lens c a. goes-none g left R base origin b j (whole (coreAt l n p c) starts lens) t i;
+        goes = λ g e left R base origin i starts lens c a. goes-none g left R base origin b to j (whole (coreAt l n p c) starts lens) t i;
       }
 
-  module _ {j₁ : ℕ} {l₁ : List ℕ} {n₁ p₁ : ℕ} {t₁ : List ℕ} (r : RunsTo cells b j annex l n p t j₁ l₁ n₁ p₁ t₁) where
+  module _ {j₁ : ℕ} {l₁ : List ℕ} {n₁ p₁ : ℕ} {t₁ : List ℕ} (r : RunsTo cells b to j annex l n p t j₁ l₁ n₁ p₁ t₁) where
     -- characters more, by the sets in GL and GR
-    pub runs-letters : {v : Invoked} {j₂ n₂ p₂ : ℕ} {t₂ : List ℕ} → v .gl ≡ getD (take 4 l₁) (getD l₁ 4 0) 0 → v .gr ≡ getD (take 4 l₁) (getD l₁ 5 0) 0
-        → v .narrow ≡ (annex || eqb (getD l₁ 6 0) 1) → Letters cells b j₁ v n₁ p₁ t₁ j₂ n₂ p₂ t₂ → RunsTo cells b j annex l n p t j₂ l₁ n₂ p₂ t₂
-    runs-letters {j₂ = j₂} {n₂} {p₂} {t₂} x y z w =
+    pub runs-letters : {to′ : ℕ} {v : Invoked} {j₂ n₂ p₂ : ℕ} {t₂ : List ℕ} → to′ ≤ to → v .gl ≡ getD (take 4 l₁) (getD l₁ 4 0) 0 → v .gr ≡ getD (take 4 l₁) (getD l₁ 5 0) 0
+        → v .narrow ≡ (annex || eqb (getD l₁ 6 0) 1) → Letters cells b to′ j₁ v n₁ p₁ t₁ j₂ n₂ p₂ t₂ → RunsTo cells b to j annex l n p t j₂ l₁ n₂ p₂ t₂
+    runs-letters {to′} {j₂ = j₂} {n₂} {p₂} {t₂} before x y z w =
         let past = r .past in
         let most = r .most in
         record {
@@ -186,14 +195,15 @@ module _ {cells b : List ℕ} {j : ℕ} {annex : Bool} {l : List ℕ} {n p : ℕ
           few = omega (arith, r .few, w .few);
           settings = r .settings;
           goes = λ g e left R base origin i starts lens c a.
-              goes-on g left R base origin b j (whole (coreAt l n p c) starts lens) t i j₁ (whole (coreAt l₁ n₁ p₁ c) starts lens) t₁ i j₂
+              goes-on g left R base origin b to j (whole (coreAt l n p c) starts lens) t i j₁ (whole (coreAt l₁ n₁ p₁ c) starts lens) t₁ i j₂
               (whole (coreAt l₁ n₂ p₂ c) starts lens) t₂ i
               (r .goes g e left R base origin i starts lens c a)
-              (w .goes g e left R base origin i starts lens (coreAt l₁ n₁ p₁ c) (record { gl = x; gr = y; narrow = z ∙ ap (λ (u : Bool). u || eqb (getD l₁ 6 0) 1) (sym a); text = refl }));
+              (goes-later g left R base origin b to′ j₁ (whole (coreAt l₁ n₁ p₁ c) starts lens) t₁ i to j₂ (whole (coreAt l₁ n₂ p₂ c) starts lens) t₂ i before
+              (w .goes g e left R base origin i starts lens (coreAt l₁ n₁ p₁ c) (record { gl = x; gr = y; narrow = z ∙ ap (λ (u : Bool). u || eqb (getD l₁ 6 0) 1) (sym a); text = refl })));
         }
 
     -- controls more
-    pub runs-controls : {j₂ : ℕ} {l₂ : List ℕ} → Controls b j₁ l₁ j₂ l₂ → RunsTo cells b j annex l n p t j₂ l₂ n₁ p₁ t₁
+    pub runs-controls : {j₂ : ℕ} {l₂ : List ℕ} → Controls b to j₁ l₁ j₂ l₂ → RunsTo cells b to j annex l n p t j₂ l₂ n₁ p₁ t₁
     runs-controls {j₂} {l₂} w =
         let past = r .past in
         let most = r .most in
@@ -204,7 +214,7 @@ module _ {cells b : List ℕ} {j : ℕ} {annex : Bool} {l : List ℕ} {n p : ℕ
           few = r .few;
           settings = w .settings;
           goes = λ g e left R base origin i starts lens c a.
-              goes-on g left R base origin b j (whole (coreAt l n p c) starts lens) t i j₁ (whole (coreAt l₁ n₁ p₁ c) starts lens) t₁ i j₂
+              goes-on g left R base origin b to j (whole (coreAt l n p c) starts lens) t i j₁ (whole (coreAt l₁ n₁ p₁ c) starts lens) t₁ i j₂
               (whole (coreAt l₂ n₁ p₁ c) starts lens) t₁ i
               (r .goes g e left R base origin i starts lens c a)
               (λ t₀ i₀ s h.
@@ -232,51 +242,51 @@ module _ {cells b : List ℕ} {j : ℕ} {annex : Bool} {l : List ℕ} {n p : ℕ
                         annex = h .state k .core .annex;
                         enough = c .enough;
                         charged = h .state k .core .charged;
-                        out = record { len = n₁; end = n₁; first = 0; repeat = 0; issues = c .out .issues; private_use = p₁ };
+                        out = record { len = n₁; end = n₁; waiting = c .out .waiting; first = 0; repeat = 0; issues = c .out .issues; private_use = p₁ };
                       };
                       starts = h .state k .starts;
                       lens = h .state k .lens;
                     };
                     out = h .out;
                   },
-                  w .goes g left R base origin s ∙ ap (λ (x : State). steps g left R base origin (drop j₁ b) j₁ 0 x) same,
+                  λ later k. w .goes g left R base origin s later k ∙ ap (λ (x : State). until g left R base origin later (drop j₁ b) j₁ 0 x) same,
                 ),
               ));
         }
 
--- the loop over them: what was run up to the byte j₁, the text as long as it was, and room for three bytes a byte before `to`, or none at all
-pub record Running (cells b : List ℕ) (j to : ℕ) (fits annex : Bool) (l : List ℕ) (n p : ℕ) (t : List ℕ) (j₁ : ℕ) (l₁ : List ℕ) (n₁ p₁ : ℕ) (t₁ : List ℕ) : Type 0 where
-  pub runs : RunsTo cells b j annex l n p t j₁ l₁ n₁ p₁ t₁
+-- the loop over them: what was run up to the byte j₁, the text as long as it was, and room for three bytes a byte before `to′`, or none at all
+pub record Running (cells b : List ℕ) (to j to′ : ℕ) (fits annex : Bool) (l : List ℕ) (n p : ℕ) (t : List ℕ) (j₁ : ℕ) (l₁ : List ℕ) (n₁ p₁ : ℕ) (t₁ : List ℕ) : Type 0 where
+  pub runs : RunsTo cells b to j annex l n p t j₁ l₁ n₁ p₁ t₁
   pub as-long : length t₁ ≡ length t
-  pub room : Space fits n₁ (to - j₁) (length t)
+  pub room : Space fits n₁ (to′ - j₁) (length t)
 
-module _ {cells b : List ℕ} {j to : ℕ} {fits annex : Bool} {l : List ℕ} {n p : ℕ} {t : List ℕ} where
-  pub running-start : j ≤ length b → Space fits n (to - j) (length t) → Settings l → Running cells b j to fits annex l n p t j l n p t
+module _ {cells b : List ℕ} {to j to′ : ℕ} {fits annex : Bool} {l : List ℕ} {n p : ℕ} {t : List ℕ} where
+  pub running-start : j ≤ length b → Space fits n (to′ - j) (length t) → Settings l → Running cells b to j to′ fits annex l n p t j l n p t
   running-start h r f = record { runs = runs-none h f; as-long = refl; room = r }
 
   -- characters, a character, and controls more
   pub running-more : {j₁ : ℕ} {l₁ : List ℕ} {n₁ p₁ : ℕ} {t₁ : List ℕ} {v : Invoked} {j₂ n₂ p₂ : ℕ} {t₂ : List ℕ}
       {j₃ n₃ p₃ : ℕ} {t₃ : List ℕ} {j₄ : ℕ} {l₄ : List ℕ}
-      → Running cells b j to fits annex l n p t j₁ l₁ n₁ p₁ t₁
+      → to′ ≤ to → Running cells b to j to′ fits annex l n p t j₁ l₁ n₁ p₁ t₁
       → v .gl ≡ getD l₁ (getD l₁ 4 0) 0 → v .gr ≡ getD l₁ (getD l₁ 5 0) 0 → v .narrow ≡ (annex || eqb (getD l₁ 6 0) 1)
-      → Letters cells b j₁ v n₁ p₁ t₁ j₂ n₂ p₂ t₂ → Letters cells b j₂ v n₂ p₂ t₂ j₃ n₃ p₃ t₃ → Controls b j₃ l₁ j₄ l₄
-      → length t₂ ≡ length t₁ → length t₃ ≡ length t₂ → Space fits n₃ (to - j₃) (length t₃) → Running cells b j to fits annex l n p t j₄ l₄ n₃ p₃ t₃
-  running-more {l₁ = l₁} r x y z u v w p q h =
+      → Letters cells b to′ j₁ v n₁ p₁ t₁ j₂ n₂ p₂ t₂ → Letters cells b to′ j₂ v n₂ p₂ t₂ j₃ n₃ p₃ t₃ → Controls b to j₃ l₁ j₄ l₄
+      → length t₂ ≡ length t₁ → length t₃ ≡ length t₂ → Space fits n₃ (to′ - j₃) (length t₃) → Running cells b to j to′ fits annex l n p t j₄ l₄ n₃ p₃ t₃
+  running-more {l₁ = l₁} before r x y z u v w p q h =
       let f = r .runs .settings in
       let a = x ∙ sym (getD-take 4 l₁ _ 0 (f .gl)) in
       let c = y ∙ sym (getD-take 4 l₁ _ 0 (f .gr)) in
       record {
-        runs = runs-controls (runs-letters (runs-letters (r .runs) a c z u) a c z v) w;
+        runs = runs-controls (runs-letters (runs-letters (r .runs) before a c z u) before a c z v) w;
         as-long = q ∙ p ∙ r .as-long;
         room = space-on (omega arith) (omega (arith, w .past)) (sym (q ∙ p ∙ r .as-long)) h;
       }
 
 -- the whole run
-pub stretch-runs : {cells b : List ℕ} {j : ℕ} {l : List ℕ} {n p : ℕ} {c : Core} {t : List ℕ}
+pub stretch-runs : {cells b : List ℕ} {to j : ℕ} {l : List ℕ} {n p : ℕ} {c : Core} {t : List ℕ}
     {j₁ : ℕ} {l₁ : List ℕ} {n₁ p₁ : ℕ} {t₁ : List ℕ} {r : Core} (i : List ℕ) (base origin : ℕ)
-    → MayTake (length b - j) c → c ≡ coreAt l n p c → r ≡ coreAt l₁ n₁ p₁ c → RunsTo cells b j (c .annex) l n p t j₁ l₁ n₁ p₁ t₁
-    → Stretch cells base origin b j c t i j₁ r t₁ i
-stretch-runs {cells} {b} {j} {l} {n} {p} {c} {t} {j₁} {l₁} {n₁} {p₁} {t₁} i base origin may e d w =
+    → MayTake (length b - j) c → c ≡ coreAt l n p c → r ≡ coreAt l₁ n₁ p₁ c → RunsTo cells b to j (c .annex) l n p t j₁ l₁ n₁ p₁ t₁
+    → Stretch cells base origin b to j c t i j₁ r t₁ i
+stretch-runs {cells} {b} {to} {j} {l} {n} {p} {c} {t} {j₁} {l₁} {n₁} {p₁} {t₁} i base origin may e d w =
     let past = w .past in
     let most = w .most in
     let k : c .out .end ≡ n = ap (λ (z : Core). z .out .end) e in
@@ -293,7 +303,7 @@ stretch-runs {cells} {b} {j} {l} {n} {p} {c} {t} {j₁} {l₁} {n₁} {p₁} {t�
         grew = record { ordered = (omega arith, omega (arith, k, q, w .few, may .room .ordered .1)); repeat = omega arith; text = omega arith; issues = omega arith };
       };
       goes = λ g z left R starts lens.
-          subst (λ (z : Core). Goes g left R base origin b j (whole z starts lens) t i j₁ (whole (coreAt l₁ n₁ p₁ c) starts lens) t₁ i) (sym e)
+          subst (λ (z : Core). Goes g left R base origin b to j (whole z starts lens) t i j₁ (whole (coreAt l₁ n₁ p₁ c) starts lens) t₁ i) (sym e)
           (w .goes g z left R base origin i starts lens c refl);
     })
 
@@ -322,7 +332,7 @@ settings-of c x h q n p =
       annex = c .annex;
       enough = c .enough;
       charged = c .charged;
-      out = record { len = n; end = n; first = 0; repeat = 0; issues = c .out .issues; private_use = p };
+      out = record { len = n; end = n; waiting = c .out .waiting; first = 0; repeat = 0; issues = c .out .issues; private_use = p };
     }
 
 pub core-of : (l : List ℕ) (n p : ℕ) (c : Core) → length l ≡ 7
@@ -334,7 +344,7 @@ pub core-of : (l : List ℕ) (n p : ℕ) (c : Core) → length l ≡ 7
       annex = c .annex;
       enough = c .enough;
       charged = c .charged;
-      out = record { len = n; end = n; first = 0; repeat = 0; issues = c .out .issues; private_use = p };
+      out = record { len = n; end = n; waiting = c .out .waiting; first = 0; repeat = 0; issues = c .out .issues; private_use = p };
     }
     ≡ coreAt l n p c
 core-of l n p c h =
@@ -349,7 +359,7 @@ core-of l n p c h =
       annex = c .annex;
       enough = c .enough;
       charged = c .charged;
-      out = record { len = n; end = n; first = 0; repeat = 0; issues = c .out .issues; private_use = p };
+      out = record { len = n; end = n; waiting = c .out .waiting; first = 0; repeat = 0; issues = c .out .issues; private_use = p };
     }
 
 -- where a run may begin, nothing waits
@@ -364,5 +374,5 @@ plain-text c w =
       annex = c .annex;
       enough = c .enough;
       charged = c .charged;
-      out = record { len = c .out .len; end = sym (w .end) k; first = w .first k; repeat = w .repeat k; issues = c .out .issues; private_use = c .out .private_use };
+      out = record { len = c .out .len; end = sym (w .end) k; waiting = c .out .waiting; first = w .first k; repeat = w .repeat k; issues = c .out .issues; private_use = c .out .private_use };
     }

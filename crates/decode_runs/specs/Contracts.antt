@@ -35,7 +35,7 @@ withText c n p =
       annex = c .annex;
       enough = c .enough;
       charged = c .charged;
-      out = record { len = n; end = n; first = 0; repeat = 0; issues = c .out .issues; private_use = p };
+      out = record { len = n; end = n; waiting = c .out .waiting; first = 0; repeat = 0; issues = c .out .issues; private_use = p };
     }
 
 -- the sets in GL and GR are those of v, it says whether alphanumerics are narrow, n bytes are written, p characters of them private-use,
@@ -46,19 +46,19 @@ pub record Plain (v : Invoked) (n p : ℕ) (c : Core) : Type 0 where
   pub narrow : v .narrow ≡ (c .annex || c .narrow)
   pub text : c ≡ withText c n p
 
--- from the byte j of b to the byte j′ by characters that were written, of at most three bytes each, where n bytes were written before and n′ after, and
--- p characters private-use before and p′ after
-pub record Letters (cells b : List ℕ) (j : ℕ) (v : Invoked) (n p : ℕ) (t : List ℕ) (j′ n′ p′ : ℕ) (t′ : List ℕ) : Type 0 where
+-- from the byte j of b to the byte j′ by characters that begin before the byte `to` and were written, of at most three bytes each, where n bytes were
+-- written before and n′ after, and p characters private-use before and p′ after
+pub record Letters (cells b : List ℕ) (to j : ℕ) (v : Invoked) (n p : ℕ) (t : List ℕ) (j′ n′ p′ : ℕ) (t′ : List ℕ) : Type 0 where
   pub past : j ≤ j′
   pub within : j′ ≤ length b
   pub most : n′ ≤ n + 3 * (j′ - j)
   pub few : p′ + n ≤ p + n′
   pub goes : (g : Given) → g .cells ≡ cells → (left : ℕ) (R : Run) (base origin : ℕ) (i starts lens : List ℕ) (c : Core) → Plain v n p c
-      → Goes g left R base origin b j (whole c starts lens) t i j′ (whole (withText c n′ p′) starts lens) t′ i
+      → Goes g left R base origin b to j (whole c starts lens) t i j′ (whole (withText c n′ p′) starts lens) t′ i
 
 -- the same run in every text that ends before it, whose bytes stay
-pub record Counted (cells b : List ℕ) (j to : ℕ) (v : Invoked) (n p j′ n′ p′ : ℕ) : Type 0 where
-  pub letters : (t : List ℕ) → length t ≤ n → Letters cells b j v n p t j′ n′ p′ t
+pub record Counted (cells b : List ℕ) (to j : ℕ) (v : Invoked) (n p j′ n′ p′ : ℕ) : Type 0 where
+  pub letters : (t : List ℕ) → length t ≤ n → Letters cells b to j v n p t j′ n′ p′ t
   pub more : n ≤ n′
   pub room : n′ + 3 * (to - j′) ≤ n + 3 * (to - j)
 
@@ -82,18 +82,18 @@ coreAt l n p c =
       annex = c .annex;
       enough = c .enough;
       charged = c .charged;
-      out = record { len = n; end = n; first = 0; repeat = 0; issues = c .out .issues; private_use = p };
+      out = record { len = n; end = n; waiting = c .out .waiting; first = 0; repeat = 0; issues = c .out .issues; private_use = p };
     }
 
 -- the same by characters and by controls that turned the settings l into l′
-pub record RunsTo (cells b : List ℕ) (j : ℕ) (annex : Bool) (l : List ℕ) (n p : ℕ) (t : List ℕ) (j′ : ℕ) (l′ : List ℕ) (n′ p′ : ℕ) (t′ : List ℕ) : Type 0 where
+pub record RunsTo (cells b : List ℕ) (to j : ℕ) (annex : Bool) (l : List ℕ) (n p : ℕ) (t : List ℕ) (j′ : ℕ) (l′ : List ℕ) (n′ p′ : ℕ) (t′ : List ℕ) : Type 0 where
   pub past : j ≤ j′
   pub within : j′ ≤ length b
   pub most : n′ ≤ n + 3 * (j′ - j)
   pub few : p′ + n ≤ p + n′
   pub settings : Settings l′
   pub goes : (g : Given) → g .cells ≡ cells → (left : ℕ) (R : Run) (base origin : ℕ) (i starts lens : List ℕ) (c : Core) → c .annex ≡ annex
-      → Goes g left R base origin b j (whole (coreAt l n p c) starts lens) t i j′ (whole (coreAt l′ n′ p′ c) starts lens) t′ i
+      → Goes g left R base origin b to j (whole (coreAt l n p c) starts lens) t i j′ (whole (coreAt l′ n′ p′ c) starts lens) t′ i
 
 -- where a run may begin: nothing waits, and a table has its 8,836 cells
 pub record Begins (o : Out) (cells : ℕ) : Type 0 where

@@ -45,7 +45,7 @@ fn letters_from(
     text: &mut [u8],
 ) -> Reached
     requires { ⌜ (from .at ≤ length (now b)) × (to ≤ length (now b)) × (8836 ≤ length (now cells)) × (from .len + 3 * (to - from .at) ≤ length (now text)) ⌝ }
-    ensures run { λ r. ⌜ Letters (now (cells .entry)) (now (b .entry)) (from .at) sets (from .len) (from .private_use) (now (text .entry)) (r .at) (r .len)
+    ensures run { λ r. ⌜ Letters (now (cells .entry)) (now (b .entry)) to (from .at) sets (from .len) (from .private_use) (now (text .entry)) (r .at) (r .len)
         (r .private_use) (now (text .exit)) ⌝ }
     ensures room { λ r. ⌜ r .len + 3 * (to - r .at) ≤ length (now (text .exit)) ⌝ }
 {
@@ -109,7 +109,7 @@ fn letters_from(
 /// The same run behind the end of the text: it is counted and not written.
 fn count_from(cells: &[u16], b: &[u8], from: Reached, to: usize, sets: Invoked) -> Reached
     requires { ⌜ (from .at ≤ length (now b)) × (to ≤ length (now b)) × (8836 ≤ length (now cells)) × (from .len + 3 * (to - from .at) ≤ 0x10000000000) ⌝ }
-    ensures { λ r. ⌜ Counted (now (cells .entry)) (now (b .entry)) (from .at) to sets (from .len) (from .private_use) (r .at) (r .len) (r .private_use) ⌝ }
+    ensures { λ r. ⌜ Counted (now (cells .entry)) (now (b .entry)) to (from .at) sets (from .len) (from .private_use) (r .at) (r .len) (r .private_use) ⌝ }
 {
     let gl = sets.gl;
     let gr = sets.gr;
@@ -163,7 +163,7 @@ fn run_from(
 ) -> Reached
     requires { ⌜ (from .at ≤ length (now b)) × (limit .to ≤ length (now b)) × (8836 ≤ length (now cells)) ⌝ }
     requires { ⌜ Space (limit .fits) (from .len) (limit .to - from .at) (length (now text)) ⌝ }
-    ensures run { λ r. ⌜ Letters (now (cells .entry)) (now (b .entry)) (from .at) sets (from .len) (from .private_use) (now (text .entry)) (r .at) (r .len)
+    ensures run { λ r. ⌜ Letters (now (cells .entry)) (now (b .entry)) (limit .to) (from .at) sets (from .len) (from .private_use) (now (text .entry)) (r .at) (r .len)
         (r .private_use) (now (text .exit)) ⌝ }
     ensures room { λ r. ⌜ Space (limit .fits) (r .len) (limit .to - r .at) (length (now (text .exit))) ⌝ }
 {
@@ -200,7 +200,7 @@ fn other(
 ) -> Reached
     requires { ⌜ (from .at ≤ length (now b)) × (limit .to ≤ length (now b)) × (from .private_use + 3 * (limit .to - from .at) ≤ 0xFFFFFFFF) ⌝ }
     requires { ⌜ Space (limit .fits) (from .len) (limit .to - from .at) (length (now text)) ⌝ }
-    ensures run { λ r. ⌜ Letters (now (cells .entry)) (now (b .entry)) (from .at) sets (from .len) (from .private_use) (now (text .entry)) (r .at) (r .len)
+    ensures run { λ r. ⌜ Letters (now (cells .entry)) (now (b .entry)) (limit .to) (from .at) sets (from .len) (from .private_use) (now (text .entry)) (r .at) (r .len)
         (r .private_use) (now (text .exit)) ⌝ }
     ensures room { λ r. ⌜ Space (limit .fits) (r .len) (limit .to - r .at) (length (now (text .exit))) ⌝ }
 {
@@ -245,24 +245,25 @@ fn limit_of(from: Reached, end: usize, room: usize) -> Limit
     }
 }
 
-/// Characters and controls, with characters as far as they surely fit, or surely do not.
+/// Characters and controls that begin before the byte `end`, with characters as far as they surely fit, or surely do not.
 fn runs_from(
     cells: &[u16],
     b: &[u8],
     from: Reached,
+    end: usize,
     annex: bool,
     settings: &mut [u8],
     text: &mut [u8],
 ) -> Reached
-    requires { ⌜ (from .at ≤ length (now b)) × (8836 ≤ length (now cells)) × (from .len + 3 * (length (now b) - from .at) ≤ 0x10000000000) × Settings (now settings) ⌝ }
-    requires { ⌜ from .private_use + 3 * (length (now b) - from .at) ≤ 0xFFFFFFFF ⌝ }
-    ensures { λ r. ⌜ RunsTo (now (cells .entry)) (now (b .entry)) (from .at) annex (now (settings .entry)) (from .len) (from .private_use) (now (text .entry)) (r .at)
+    requires { ⌜ (from .at ≤ end) × (end ≤ length (now b)) × (8836 ≤ length (now cells)) × Settings (now settings) ⌝ }
+    requires { ⌜ (from .len + 3 * (length (now b) - from .at) ≤ 0x10000000000) × (from .private_use + 3 * (length (now b) - from .at) ≤ 0xFFFFFFFF) ⌝ }
+    ensures { λ r. ⌜ RunsTo (now (cells .entry)) (now (b .entry)) end (from .at) annex (now (settings .entry)) (from .len) (from .private_use) (now (text .entry)) (r .at)
         (now (settings .exit)) (r .len) (r .private_use) (now (text .exit)) ⌝ }
 {
     let mut i = from.at;
     let mut m = from.len;
     let mut private_use = from.private_use;
-    let limit = limit_of(from, b.len(), text.len());
+    let limit = limit_of(from, end, text.len());
     loop {
         let left = settings[GL] as usize;
         let right = settings[GR] as usize;
@@ -280,7 +281,7 @@ fn runs_from(
         let o = other(cells, b, w, limit, sets, text);
         m = o.len;
         private_use = o.private_use;
-        i = decode_settings::controls(b, o.at, settings);
+        i = decode_settings::controls(b, o.at, end, settings);
         if i == stop {
             return Reached {
                 at: i,
@@ -334,6 +335,7 @@ fn with_settings(s: Core, settings: [u8; 7], len: usize, private_use: u32) -> Co
     let out = Out {
         len,
         end: len,
+        waiting: s.out.waiting,
         first: 0,
         repeat: 0,
         issues: s.out.issues,
@@ -351,13 +353,23 @@ fn with_settings(s: Core, settings: [u8; 7], len: usize, private_use: u32) -> Co
     }
 }
 
-/// A run of characters and controls from the byte `from` on.
-pub fn letters(cells: &[u16], b: &[u8], from: usize, s: Core, text: &mut [u8]) -> Far
-    requires { ⌜ (from ≤ length (now b)) × (length (now b) ≤ 65535) ⌝ }
+/// A run of characters and controls from the byte `from` on, which begin before the byte `to`.
+pub fn letters(
+    cells: &[u16],
+    b: &[u8],
+    from: usize,
+    to: usize,
+    s: Core,
+    text: &mut [u8],
+) -> Far
+    requires { ⌜ (from ≤ length (now b)) × (to ≤ length (now b)) × (length (now b) ≤ 65535) ⌝ }
     requires { ⌜ MayTake (length (now b) - from) s ⌝ }
-    ensures { λ r. ⌜ ((base origin : ℕ) (i : List ℕ) → Stretch (now (cells .entry)) base origin (now (b .entry)) from s (now (text .entry)) i (r .at) (r .core) (now (text .exit)) i) ⌝ }
+    ensures { λ r. ⌜ ((base origin : ℕ) (i : List ℕ) → Stretch (now (cells .entry)) base origin (now (b .entry)) to from s (now (text .entry)) i (r .at) (r .core) (now (text .exit)) i) ⌝ }
 {
     let out = s.out;
+    if from >= to {
+        return Far { at: from, core: s };
+    }
     if may_begin(out, cells.len()) {
         let start = Reached {
             at: from,
@@ -365,7 +377,7 @@ pub fn letters(cells: &[u16], b: &[u8], from: usize, s: Core, text: &mut [u8]) -
             private_use: out.private_use,
         };
         let mut settings = settings_of(s);
-        let w = runs_from(cells, b, start, s.annex, &mut settings, text);
+        let w = runs_from(cells, b, start, to, s.annex, &mut settings, text);
         let core = with_settings(s, settings, w.len, w.private_use);
         return Far { at: w.at, core };
     }

@@ -13,8 +13,9 @@ use Rattle.base.proofs.Table.{at}
 use Rattle.control.specs.Controls.{countOf}
 use Rattle.reading.specs.State.{Given, State, Step, took, designate, invokeGL, invokeGR, resize}
 use Rattle.reading.specs.Macros.{Run}
-use Rattle.reading.specs.Steps.{step, steps, offset}
-use Rattle.decode_state.proofs.Steps.{steps-one}
+use Rattle.reading.specs.Steps.{step, offset}
+use Rattle.reading.specs.Between.{until}
+use Rattle.decode_state.proofs.Steps.{until-one}
 use Rattle.decode_controls.specs.declared.Effect.{Effect}
 use Rattle.decode_controls.specs.declared.Control.{Control}
 use Rattle.decode_controls.specs.Controls.{stepOf, Reads}
@@ -157,27 +158,27 @@ colours x p q =
 pub nowhere : Given
 nowhere = record { cells = []; annexE = false; input = [] }
 
-pub controls-none : {b : List ℕ} {j : ℕ} {l : List ℕ} → j ≤ length b → Settings l → Controls b j l j l
-controls-none h f = record { past = omega arith; within = h; settings = f; goes = λ g left R base origin s. refl }
+pub controls-none : {b : List ℕ} {to j : ℕ} {l : List ℕ} → j ≤ length b → Settings l → Controls b to j l j l
+controls-none h f = record { past = omega arith; within = h; settings = f; goes = λ g left R base origin s later k. refl }
 
-module _ {b : List ℕ} {j : ℕ} {l : List ℕ} {j₁ : ℕ} {l₁ : List ℕ} {u : ℕ} {l₂ : List ℕ} (c : Controls b j l j₁ l₁)
+module _ {b : List ℕ} {to j : ℕ} {l : List ℕ} {j₁ : ℕ} {l₁ : List ℕ} {u : ℕ} {l₂ : List ℕ} (c : Controls b to j l j₁ l₁)
     (t : (g : Given) (left : ℕ) (R : Run) (place at : ℕ) → Turns (step g left R (getD b j₁ 0) (drop (j₁ + 1) b) place at) b j₁ l₁ u l₂) where
   -- none more
-  pub controls-left : u ≡ 0 → Controls b j l j₁ l₂
+  pub controls-left : u ≡ 0 → Controls b to j l j₁ l₂
   controls-left e = rw (t nowhere 0 (λ b base origin s. s) 0 0 .left e) c
 
   -- one more
-  pub controls-more : (u ≡ 0 → ⊥) → j₁ < length b → Controls b j l (j₁ + u) l₂
-  controls-more f h =
+  pub controls-more : (u ≡ 0 → ⊥) → j₁ < to → j₁ < length b → Controls b to j l (j₁ + u) l₂
+  controls-more f p h =
       let w = t nowhere 0 (λ b base origin s. s) 0 0 in
       let past = c .past in
       record {
         past = omega arith;
         within = w .within;
         settings = w .settings;
-        goes = λ g left R base origin s.
+        goes = λ g left R base origin s later k.
             let d = t g left R (base + j₁) (offset origin j₁) .does f s in
-            ap (λ (y : Step). steps g left R base origin (drop (j₁ + u) b) (j₁ + u) 0 (y .to)) (sym d)
-            ∙ sym (steps-one g left R base origin b j₁ (withSettings l₁ s) u h (omega arith) (sym (ap (λ (y : Step). y .used) d)))
-            ∙ c .goes g left R base origin s;
+            ap (λ (y : Step). until g left R base origin later (drop (j₁ + u) b) (j₁ + u) 0 (y .to)) (sym d)
+            ∙ sym (until-one g left R base origin later b j₁ (withSettings l₁ s) u (omega (arith, p, k)) h (omega arith) (w .within) (sym (ap (λ (y : Step). y .used) d)))
+            ∙ c .goes g left R base origin s later k;
       }

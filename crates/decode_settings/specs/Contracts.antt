@@ -7,7 +7,7 @@ use lib.Dec.{eqb}
 use lib.ListN.{length, take, drop, getD}
 use Rattle.reading.specs.State.{Given, State, Step, took}
 use Rattle.reading.specs.Macros.{Run}
-use Rattle.reading.specs.Steps.{steps}
+use Rattle.reading.specs.Between.{until}
 
 -- the state with these settings
 abbrev pub withSettings : List ℕ → State → State
@@ -26,10 +26,10 @@ pub record Turns (f : State → Step) (b : List ℕ) (i : ℕ) (l : List ℕ) (u
   pub left : u ≡ 0 → l′ ≡ l
   pub does : (u ≡ 0 → ⊥) → (s : State) → f (withSettings l s) ≡ took u (withSettings l′ s)
 
--- the steps from the byte j of b to the byte j′ turn the settings l into l′
-pub record Controls (b : List ℕ) (j : ℕ) (l : List ℕ) (j′ : ℕ) (l′ : List ℕ) : Type 0 where
+-- the steps from the byte j of b to the byte j′, which begin before the byte `to`, turn the settings l into l′
+pub record Controls (b : List ℕ) (to j : ℕ) (l : List ℕ) (j′ : ℕ) (l′ : List ℕ) : Type 0 where
   pub past : j ≤ j′
   pub within : j′ ≤ length b
   pub settings : Settings l′
-  pub goes : (g : Given) (left : ℕ) (R : Run) (base origin : ℕ) (s : State)
-      → steps g left R base origin (drop j′ b) j′ 0 (withSettings l′ s) ≡ steps g left R base origin (drop j b) j 0 (withSettings l s)
+  pub goes : (g : Given) (left : ℕ) (R : Run) (base origin : ℕ) (s : State) (later : ℕ) → to ≤ later
+      → until g left R base origin later (drop j′ b) j′ 0 (withSettings l′ s) ≡ until g left R base origin later (drop j b) j 0 (withSettings l s)

@@ -94,13 +94,13 @@ fn control(b: &[u8], i: usize, settings: &mut [u8]) -> usize
     }
 }
 
-/// Controls from the byte `from` on; answers where they end.
-pub fn controls(b: &[u8], from: usize, settings: &mut [u8]) -> usize
-    requires { ⌜ (from ≤ length (now b)) × Settings (now settings) ⌝ }
-    ensures { λ r. ⌜ Controls (now (b .entry)) from (now (settings .entry)) r (now (settings .exit)) ⌝ }
+/// Controls from the byte `from` on, as far as they begin before the byte `to`; answers where they end.
+pub fn controls(b: &[u8], from: usize, to: usize, settings: &mut [u8]) -> usize
+    requires { ⌜ (from ≤ length (now b)) × (to ≤ length (now b)) × Settings (now settings) ⌝ }
+    ensures { λ r. ⌜ Controls (now (b .entry)) to from (now (settings .entry)) r (now (settings .exit)) ⌝ }
 {
     let mut i = from;
-    while i < b.len() {
+    while i < to {
         let used = control(b, i, settings);
         if used == 0 {
             return i;

@@ -11,7 +11,7 @@ use Rattle.decode_output.specs.Output.{nothing}
 use Rattle.decode_output.specs.Contracts as output
 use Rattle.reading.specs.State.{Given, State, Step}
 use Rattle.reading.specs.Macros.{Run}
-use Rattle.reading.specs.Steps.{steps}
+use Rattle.reading.specs.Between.{until}
 use Rattle.decode_state.specs.declared.Core.{Core}
 use Rattle.decode_state.specs.declared.Decoder.{Decoder}
 use Rattle.decode_state.specs.declared.Stepped.{Stepped}
@@ -75,17 +75,19 @@ pub record TookOver (cells : List ℕ) (b : List ℕ) (i : ℕ) (f : Given → S
   pub within : i + r .used ≤ length b
   pub kept : Kept 1 c (r .core)
 
--- stepping on from the byte j′ of b, and from the state that d′ holds, is stepping on from the byte j, and from the state that d holds
-abbrev pub Goes : Given → ℕ → Run → ℕ → ℕ → List ℕ → ℕ → Decoder → List ℕ → List ℕ → ℕ → Decoder → List ℕ → List ℕ → Type 0
-Goes g left R base origin b j d t i j′ d′ t′ i′ = (t₀ i₀ : List ℕ) (s : State) → Holds g t₀ i₀ s d t i
-    → (s′ : State) × (Holds g t₀ i₀ s′ d′ t′ i′ × (steps g left R base origin (drop j′ b) j′ 0 s′ ≡ steps g left R base origin (drop j b) j 0 s))
+-- By steps that begin before the byte `to` of b, from its byte j and the state that d holds to its byte j′ and the state that d′ holds: stepping on from
+-- there, up to that byte or a later one, is stepping on from here.
+abbrev pub Goes : Given → ℕ → Run → ℕ → ℕ → List ℕ → ℕ → ℕ → Decoder → List ℕ → List ℕ → ℕ → Decoder → List ℕ → List ℕ → Type 0
+Goes g left R base origin b to j d t i j′ d′ t′ i′ = (t₀ i₀ : List ℕ) (s : State) → Holds g t₀ i₀ s d t i
+    → (s′ : State) × (Holds g t₀ i₀ s′ d′ t′ i′
+    × ((later : ℕ) → to ≤ later → until g left R base origin later (drop j′ b) j′ 0 s′ ≡ until g left R base origin later (drop j b) j 0 s))
 
--- from the byte j of b to the byte j′ by steps that concern no macro, over a cell table
-pub record Stretch (cells : List ℕ) (base origin : ℕ) (b : List ℕ) (j : ℕ) (c : Core) (t i : List ℕ) (j′ : ℕ) (r : Core) (t′ i′ : List ℕ) : Type 0 where
+-- from the byte j of b to the byte j′ by such steps, none of which concerns a macro, over a cell table
+pub record Stretch (cells : List ℕ) (base origin : ℕ) (b : List ℕ) (to j : ℕ) (c : Core) (t i : List ℕ) (j′ : ℕ) (r : Core) (t′ i′ : List ℕ) : Type 0 where
   pub past : j ≤ j′
   pub within : j′ ≤ length b
   pub kept : Kept (j′ - j) c r
-  pub goes : (g : Given) → g .cells ≡ cells → (left : ℕ) (R : Run) (starts lens : List ℕ) → Goes g left R base origin b j (whole c starts lens) t i j′ (whole r starts lens) t′ i′
+  pub goes : (g : Given) → g .cells ≡ cells → (left : ℕ) (R : Run) (starts lens : List ℕ) → Goes g left R base origin b to j (whole c starts lens) t i j′ (whole r starts lens) t′ i′
 
 -- ---- a reading that so many issues end
 

@@ -4,7 +4,7 @@ use decode_output::Out;
 ghost use mathlib.Core.Path.{_≡_};
 ghost use mathlib.Core.Bool.{true, false, cond};
 ghost use lib.Dec.{eqb};
-ghost use Rattle.decode_state.specs.Contracts.{startOf, Ends};
+ghost use Rattle.decode_state.specs.Contracts.{startOf, undefined, Ends};
 
 /// What every step can change.
 pub struct Core {
@@ -67,6 +67,17 @@ pub fn start(initial: u32, width: u32, enough: u32) -> Core
         enough,
         charged: 0,
         out: decode_output::start(),
+    }
+}
+
+/// No macro is defined.
+pub fn undefined(core: Core) -> Decoder
+    ensures { λ r. ⌜ r ≡ undefined core ⌝ }
+{
+    Decoder {
+        core,
+        starts: [0; 128],
+        lens: [0; 128],
     }
 }
 

@@ -35,14 +35,6 @@ pub record ShiftedAt (e : ℕ) (b : List ℕ) (i : ℕ) (c : Core) : Type 0 wher
   pub behind : isGraphic (getD b (i + 1) 0) ≡ true
   pub macros : getD (c .sets) e 0 ≡ 15
 
--- why steps stop at the byte i of b: the end, MACRO, a character of the macro set, or an issue before it
-abbrev pub StopAt : Stop → List ℕ → ℕ → Core → Type 0
-StopAt End b i c = length b ≤ i
-StopAt Macro b i c = (i < length b) × (getD b i 0 ≡ MACRO)
-StopAt (Char e) b i c = CharAt e b i c
-StopAt (Shifted e) b i c = ShiftedAt e b i c
-StopAt Issue b i c = Ends (c .enough) (c .out .issues)
-
 -- the step at the byte i of b concerns no macro
 pub record Passes (b : List ℕ) (i : ℕ) (c : Core) : Type 0 where
   pub command : getD b i 0 ≡ MACRO → ⊥
@@ -50,15 +42,23 @@ pub record Passes (b : List ℕ) (i : ℕ) (c : Core) : Type 0 where
   pub right : isGR (getD b i 0) ≡ true → getD (c .sets) (c .gr) 0 ≡ 15 → ⊥
   pub shift : (e : ℕ) → ShiftOf (getD b i 0) e → getD (c .sets) e 0 ≡ 15 → i + 1 < length b → isGraphic (getD b (i + 1) 0) ≡ true → ⊥
 
--- what a look at the byte i of b says: the step there concerns no macro (End), or why steps stop
+-- what a look at the byte i of b says: the step there concerns no macro (End), it is MACRO, or a character of the macro set; or an issue stands before it
 abbrev pub Verdict : Stop → List ℕ → ℕ → Core → Type 0
 Verdict End b i c = Passes b i c
-Verdict Macro b i c = StopAt Macro b i c
-Verdict (Char e) b i c = StopAt (Char e) b i c
-Verdict (Shifted e) b i c = StopAt (Shifted e) b i c
-Verdict Issue b i c = StopAt Issue b i c
+Verdict Macro b i c = (i < length b) × (getD b i 0 ≡ MACRO)
+Verdict (Char e) b i c = CharAt e b i c
+Verdict (Shifted e) b i c = ShiftedAt e b i c
+Verdict Issue b i c = Ends (c .enough) (c .out .issues)
+
+-- why steps that begin before the byte `to` of b stop at its byte i: there are no more, or what a look at it says
+abbrev pub StopAt : Stop → List ℕ → ℕ → ℕ → Core → Type 0
+StopAt End b to i c = to ≤ i
+StopAt Macro b to i c = Verdict Macro b i c
+StopAt (Char e) b to i c = Verdict (Char e) b i c
+StopAt (Shifted e) b to i c = Verdict (Shifted e) b i c
+StopAt Issue b to i c = Verdict Issue b i c
 
 -- a stretch of plain steps, and where it stops
-pub record Plain (cells : List ℕ) (base origin : ℕ) (b : List ℕ) (j : ℕ) (c : Core) (t i : List ℕ) (r : Stretched) (t′ i′ : List ℕ) : Type 0 where
-  pub stretch : Stretch cells base origin b j c t i (r .at) (r .core) t′ i′
-  pub stop : StopAt (r .stop) b (r .at) (r .core)
+pub record Plain (cells : List ℕ) (base origin : ℕ) (b : List ℕ) (to j : ℕ) (c : Core) (t i : List ℕ) (r : Stretched) (t′ i′ : List ℕ) : Type 0 where
+  pub stretch : Stretch cells base origin b to j c t i (r .at) (r .core) t′ i′
+  pub stop : StopAt (r .stop) b to (r .at) (r .core)

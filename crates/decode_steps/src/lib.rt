@@ -24,7 +24,7 @@ ghost use Rattle.decode_steps.specs.Contracts.{CharOf, ShiftOf, Verdict,
 /// Where a run of steps that concern no macro stops. The specs speak of the code elements; without
 /// the two numbers the steps cost some four instructions more.
 pub enum Stop {
-    /// Nowhere before the body's end.
+    /// Nowhere before the byte up to which they are taken.
     End,
     /// At MACRO.
     Macro,
@@ -43,12 +43,14 @@ pub struct Stretched {
     pub core: Core,
 }
 
-/// Where the bytes of a body stand.
+/// Where the bytes of a body stand, and how far its steps are taken.
 pub struct Source {
     /// The body's place in the input; 0 for a built-in one, and for the input itself.
     pub base: u32,
     /// 0 for the input; for a body one more than the offset that its issues carry.
     pub origin: u32,
+    /// Steps are taken that begin before this byte.
+    pub to: usize,
 }
 
 /// The macro set, by 01's number.
@@ -188,7 +190,7 @@ fn simple(
     }
 }
 
-/// Plain steps from the byte `from` of a body to its end, or to what stops them.
+/// Plain steps from the byte `from` of a body as far as they are taken, or to what stops them.
 pub fn steps(
     cells: &[u16],
     b: &[u8],
@@ -198,17 +200,17 @@ pub fn steps(
     text: &mut [u8],
     issues: &mut [u32],
 ) -> Stretched
-    requires { ⌜ (from ≤ length (now b)) × (length (now b) ≤ 65535) × (o .base ≤ 65535) ⌝ }
+    requires { ⌜ (from ≤ length (now b)) × (length (now b) ≤ 65535) × (o .base ≤ 65535) × (o .to ≤ length (now b)) ⌝ }
     requires { ⌜ MayTake (length (now b) - from) core ⌝ }
-    ensures { λ r. ⌜ Plain (now (cells .entry)) (o .base) (o .origin) (now (b .entry)) from core (now (text .entry)) (now (issues .entry)) r (now (text .exit)) (now (issues .exit)) ⌝ }
+    ensures { λ r. ⌜ Plain (now (cells .entry)) (o .base) (o .origin) (now (b .entry)) (o .to) from core (now (text .entry)) (now (issues .entry)) r (now (text .exit)) (now (issues .exit)) ⌝ }
 {
     let mut s = core;
     let mut i = from;
     loop {
-        let f = decode_runs::letters(cells, b, i, s, text);
+        let f = decode_runs::letters(cells, b, i, o.to, s, text);
         s = f.core;
         i = f.at;
-        if i >= b.len() {
+        if i >= o.to {
             return Stretched {
                 at: i,
                 stop: Stop::End,
@@ -247,11 +249,11 @@ pub fn plain(
     text: &mut [u8],
     issues: &mut [u32],
 ) -> Stretched
-    requires { ⌜ (from ≤ length (now b)) × (length (now b) ≤ 65535) × (o .base ≤ 65535) ⌝ }
+    requires { ⌜ (from ≤ length (now b)) × (length (now b) ≤ 65535) × (o .base ≤ 65535) × (o .to ≤ length (now b)) ⌝ }
     requires { ⌜ MayTake (length (now b) - from) core ⌝ }
-    ensures { λ r. ⌜ Plain (now (cells .entry)) (o .base) (o .origin) (now (b .entry)) from core (now (text .entry)) (now (issues .entry)) r (now (text .exit)) (now (issues .exit)) ⌝ }
+    ensures { λ r. ⌜ Plain (now (cells .entry)) (o .base) (o .origin) (now (b .entry)) (o .to) from core (now (text .entry)) (now (issues .entry)) r (now (text .exit)) (now (issues .exit)) ⌝ }
 {
-    if from >= b.len() {
+    if from >= o.to {
         return Stretched {
             at: from,
             stop: Stop::End,

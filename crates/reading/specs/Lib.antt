@@ -3,6 +3,7 @@ pub mod Characters
 pub mod Controls
 pub mod Macros
 pub mod Steps
+pub mod Between
 pub mod Call
 pub mod WithoutBuffers
 pub mod Examples

@@ -38,7 +38,7 @@ call-requires-2 c κs =
     let at-case = c .before .before in
     let at-slices = at-case .before .before in
     let entry = at-slices .before .before .before .before in
-    let h = told _ _ _ (at-case .enum-told3 .given .1) (entry .pre .1 .1) in
+    let h = told _ _ _ _ (at-case .enum-told3 .given .1) (entry .pre .1 .1) in
     (entry .pre .0, (h .within, omega (arith, entry .pre .0 .short, entry .pre .1 .0)))
 
 add-t20 : tie.Need-add-t20
@@ -48,7 +48,7 @@ add-t20 c =
     let at-case = at-call .before .before .before in
     let at-slices = at-case .before .before in
     let entry = at-slices .before .before .before .before in
-    let h = told _ _ _ (at-case .enum-told3 .given .1) (entry .pre .1 .1) in
+    let h = told _ _ _ _ (at-case .enum-told3 .given .1) (entry .pre .1 .1) in
     omega (arith, at-call .call2 .ensures _ (h .macros) .ran .most, entry .pre .0 .short)
 
 enum-told-4 : tie.Need-enum-told-4
@@ -68,7 +68,7 @@ returns c =
     let at-call = c .before .before .before .before in
     let at-case = at-call .before .before .before in
     let at-slices = at-case .before .before in
-    let h = told _ _ _ (at-case .enum-told .given .1) (at-slices .before .before .before .before .pre .1 .1) in
+    let h = told _ _ _ _ (at-case .enum-told .given .1) (at-slices .before .before .before .before .pre .1 .1) in
     outer-as (λ g s k. step-macro g _ _ _ _ _ _ s (h .1)) (at-call .macro-cmd .ensures)
 
 same-length-3 : tie.Need-same-length-3
@@ -82,7 +82,7 @@ returns-2 c =
     let at-call = c .before .before .before .before in
     let at-case = at-call .before .before .before in
     let at-slices = at-case .before .before in
-    let h = told _ _ _ (at-case .enum-told2 .given .1) (at-slices .before .before .before .before .pre .1 .1) in
+    let h = told _ _ _ _ (at-case .enum-told2 .given .1) (at-slices .before .before .before .before .pre .1 .1) in
     outer-as (λ g s k. step-char g _ _ _ _ _ _ s _ _ (k .gl) (k .gr) (h .char)) (at-call .call .ensures _ (h .macros))
 
 same-length-5 : tie.Need-same-length-5
@@ -97,7 +97,7 @@ returns-3 c =
     let at-call = after-call2 .before .before .before .before in
     let at-case = at-call .before .before .before in
     let at-slices = at-case .before .before in
-    let h = told _ _ _ (at-case .enum-told3 .given .1) (at-slices .before .before .before .before .pre .1 .1) in
+    let h = told _ _ _ _ (at-case .enum-told3 .given .1) (at-slices .before .before .before .before .pre .1 .1) in
     outer-as (λ g s k. step-shift g _ _ _ _ _ _ s _ (h .shift) ∙ shift-char g _ _ _ _ _ _ s (h .within) (h .behind))
     (shift-outer (at-call .call2 .ensures _ (h .macros)))
 
@@ -105,14 +105,14 @@ returns-4 : tie.Need-returns-4
 returns-4 c =
     let at-slices = c .before .before in
     let entry = at-slices .before .before .before .before in
-    let ends = told _ _ _ (c .enum-told4 .given .1) (entry .pre .1 .1) in
+    let ends = told _ _ _ _ (c .enum-told4 .given .1) (entry .pre .1 .1) in
     record { ran = ended-step _ _ _ _ _ _ (entry .pre .0 .ready) (entry .pre .1 .0) ends; inside = entry .pre .0 .inside }
 
 returns-5 : tie.Need-returns-5
 returns-5 c =
     let at-slices = c .before .before in
     let entry = at-slices .before .before .before .before in
-    absurd (omega (arith, told _ _ _ (c .enum-told5 .given .1) (entry .pre .1 .1), entry .pre .1 .0))
+    absurd (omega (arith, told _ _ _ _ (c .enum-told5 .given .1) (entry .pre .1 .1), entry .pre .1 .0))
 
 pub step-spec : {M : Type 1} → statement M
 step-spec =

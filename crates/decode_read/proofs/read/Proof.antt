@@ -1,6 +1,7 @@
--- `read`: all steps, the release of the marks, and the counts.
+-- `read`: the rest from the first byte on.
+use native.Mathlib.Omega.{arith}
 use borrow.Author.Needs.{needs}
-use Rattle.decode_outer.proofs.Start.{ready-start, room-end}
+use Rattle.decode_outer.proofs.Start.{outside-start, enough-start, issues-start, end-start}
 use Rattle.decode_read.proofs.Reading.{read}
 use Rattle.decode_read.proofs.read.Statement.{statement}
 use Rattle.decode_read.proofs.read.Tie as tie
@@ -8,30 +9,28 @@ use Rattle.decode_read.proofs.read.Tie as tie
 start-requires : tie.Need-start-requires
 start-requires c κs = search needs
 
-top-requires : tie.Need-top-requires
-top-requires c κs =
-    let at-start = c .before .before in
-    let at-slices = at-start .before .before in
-    let entry = at-slices .before .before .before in
-    (entry .pre, ready-start (entry .args .input .now) (entry .args .initial) (entry .args .width) _ (entry .pre) (at-start .start .ensures))
+undefined-requires : tie.Need-undefined-requires
+undefined-requires c κs = search needs
 
-flush-dangling-requires : tie.Need-flush-dangling-requires
-flush-dangling-requires c κs =
-    let after-top = c .before .before in
-    let at-top = after-top .before .before .before .before in
-    let at-start = at-top .before .before .before in
-    let at-slices = at-start .before .before in
-    let entry = at-slices .before .before .before in
-    room-end (entry .args .input .now) (entry .args .initial) (entry .args .width) _ (entry .pre) (at-start .start .ensures) (at-top .top .ensures)
-
-cast-reported : tie.Need-cast-reported
-cast-reported c = search needs
-
-cast-charged : tie.Need-cast-charged
-cast-charged c = search needs
-
-cast-private-use : tie.Need-cast-private-use
-cast-private-use c = search needs
+rest-requires : tie.Need-rest-requires
+rest-requires c κs =
+    let at-undefined = c .before .before in
+    let at-start = at-undefined .before in
+    let entry = at-start .before .before .before .before .before in
+    let a = entry .args in
+    let n = a .input .now in
+    let begun = at-start .start .ensures in
+    let none = at-undefined .undefined .ensures in (
+      omega arith,
+      (
+        outside-start n (a .initial) (a .width) 0xFFFFFFFF (entry .pre) begun none,
+        (
+          enough-start n (a .initial) (a .width) 0xFFFFFFFF (entry .pre) begun none,
+          issues-start n (a .initial) (a .width) 0xFFFFFFFF (entry .pre) begun none,
+          end-start n (a .initial) (a .width) 0xFFFFFFFF (entry .pre) begun none,
+        ),
+      ),
+    )
 
 same-length : tie.Need-same-length
 same-length c = search needs
@@ -41,16 +40,12 @@ same-length-2 c = search needs
 
 returns : tie.Need-returns
 returns c =
-    let at-flush = c .before .before .before .before .before in
-    let after-top = at-flush .before .before .before in
-    let at-top = after-top .before .before .before .before in
-    let at-start = at-top .before .before .before in
-    let at-slices = at-start .before .before in
-    let entry = at-slices .before .before .before in
+    let at-rest = c .before .before .before .before in
+    let at-undefined = at-rest .before .before .before in
+    let at-start = at-undefined .before in
+    let entry = at-start .before .before .before .before .before in
     let a = entry .args in
-    read (a .cells .now) (a .initial) (a .width) (a .input .now) (entry .pre) (at-start .start .ensures) (at-top .top .ensures) (at-flush .flush-dangling .ensures _)
+    read (a .cells .now) (a .initial) (a .width) (a .input .now) (at-start .start .ensures) (at-undefined .undefined .ensures) (at-rest .rest .ensures)
 
 pub read-spec : {M : Type 1} → statement M
-read-spec =
-    tie.close
-    (tie.spec start-requires top-requires flush-dangling-requires cast-reported cast-charged cast-private-use same-length same-length-2 returns)
+read-spec = tie.close (tie.spec start-requires undefined-requires rest-requires same-length same-length-2 returns)

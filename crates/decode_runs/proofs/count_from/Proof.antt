@@ -13,7 +13,7 @@ use Rattle.decode_runs.proofs.count_from.Statement.{statement}
 use Rattle.decode_runs.proofs.count_from.Tie as tie
 
 abbrev Inv-loop : tie.InvT-loop
-Inv-loop cells b to gl gr narrow private i₀ m₀ i m = Counted cells b i₀ to (record { gl = gl; gr = gr; narrow = narrow }) m₀ private i m private
+Inv-loop cells b to gl gr narrow private i₀ m₀ i m = Counted cells b to i₀ (record { gl = gl; gr = gr; narrow = narrow }) m₀ private i m private
 
 abbrev μ-loop : tie.MeasureT-loop
 μ-loop cells b to gl gr narrow private i₀ m₀ i m = to - i
@@ -68,7 +68,7 @@ loop-again c =
     let w = at-kanji-at .kanji-at .ensures (c .if3 .left) in
     let x : getD b i 0 < 256 = omega (arith, at-bytes .shared-slice-known2 .given i) in
     let two = w .pair .two in
-    counted-more 2 _ (turn .loop .inv) (omega arith) (omega arith)
+    counted-more 2 _ (turn .loop .inv) (omega arith) (at-if1 .if1 .left) (omega arith)
     (spells-pair _ b i _ x (sym (at-if2 .if2 .taken) ∙ at-set-of .set-of .ensures) kanji-two (w .pair)) (w .ordinary) (three-bytes _ (omega (arith, w .low)) (w .high)) (omega arith)
     (omega (arith, at-if1 .if1 .left))
 
@@ -122,7 +122,7 @@ loop-again-2 c =
     let w = letter-of (a .sets .narrow) e some (omega arith) in
     let x : getD b i 0 < 256 = omega (arith, at-bytes .shared-slice-known2 .given i) in
     let most : length (utf8 l) ≤ 3 * 1 = omega (arith, three-most l (w .small)) in
-    counted-more 1 _ (turn .loop .inv) (omega arith) (omega (arith, at-if1 .if1 .left, entry .pre .1))
+    counted-more 1 _ (turn .loop .inv) (omega arith) (at-if1 .if1 .left) (omega (arith, at-if1 .if1 .left, entry .pre .1))
     (spells-letter _ b i _ x (at-set-of .set-of .ensures) e some w) (letter-plain (a .sets .narrow) (at-set-of .set-of .result) (getD b i 0 % 128) e)
     (c .width .ensures) (omega (arith, most, c .width .ensures))
     (omega (arith, at-if1 .if1 .left, most, c .width .ensures))

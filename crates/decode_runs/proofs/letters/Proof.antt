@@ -6,6 +6,11 @@ use borrow.Author.Needs.{needs}
 use Rattle.decode_runs.proofs.letters.Statement.{statement}
 use Rattle.decode_runs.proofs.letters.Tie as tie
 
+returns : tie.Need-returns
+returns c =
+    let entry = c .before .before .before .before .before in
+    λ base origin i. stretch-none base origin (entry .pre .0 .0) (entry .pre .1)
+
 may-begin-requires : tie.Need-may-begin-requires
 may-begin-requires c κs = search needs
 
@@ -17,12 +22,15 @@ slice-aggregate-runs-from c = search needs
 
 runs-from-requires : tie.Need-runs-from-requires
 runs-from-requires c κs =
-    let at-begin = c .before .before .before .before in
-    let entry = at-begin .before .before .before .before .before in
-    let begins = at-begin .may-begin .ensures (c .before .before .before .if1 .taken) in
+    let at-settings-of = c .before .before in
+    let at-if2 = at-settings-of .before in
+    let at-may-begin = at-if2 .before in
+    let at-if1 = at-may-begin .before in
+    let entry = at-if1 .before .before .before .before .before in
+    let begins = at-may-begin .may-begin .ensures (at-if2 .if2 .taken) in
     let room = entry .pre .1 .room in (
-      (entry .pre .0 .0, begins .table, omega (arith, room .ordered .0, room .text), c .before .before .settings-of .ensures .0),
-      omega (arith, room .ordered .1, room .text),
+      (omega (arith, at-if1 .if1 .left), entry .pre .0 .1, begins .table, at-settings-of .settings-of .ensures .0),
+      (omega (arith, room .ordered .0, room .text), omega (arith, room .ordered .1, room .text)),
     )
 
 with-settings-requires : tie.Need-with-settings-requires
@@ -31,33 +39,34 @@ with-settings-requires c κs = search needs
 same-length : tie.Need-same-length
 same-length c = search needs
 
-returns : tie.Need-returns
-returns c =
-    let at-run = c .before .before .before .before in
-    let at-settings = at-run .before .before .before in
-    let at-begin = at-settings .before .before in
-    let entry = at-begin .before .before .before .before .before in
-    let s = entry .args .s in
-    let begins = at-begin .may-begin .ensures (at-settings .before .if1 .taken) in
-    λ base origin i.
-    stretch-runs i base origin (entry .pre .1) (plain-text s begins ∙ sym (at-settings .settings-of .ensures .1 (s .out .len) (s .out .private_use))) (c .with-settings .ensures)
-    (at-run .runs-from .ensures)
-
 returns-2 : tie.Need-returns-2
 returns-2 c =
-    let at-slices = c .before .before .before in
-    let entry = at-slices .before .before .before in
+    let at-runs-from = c .before .before .before .before in
+    let at-settings-of = at-runs-from .before .before .before in
+    let at-if2 = at-settings-of .before in
+    let at-may-begin = at-if2 .before in
+    let entry = at-may-begin .before .before .before .before .before .before in
+    let s = entry .args .s in
+    let begins = at-may-begin .may-begin .ensures (at-if2 .if2 .taken) in
+    λ base origin i.
+    stretch-runs i base origin (entry .pre .1) (plain-text s begins ∙ sym (at-settings-of .settings-of .ensures .1 (s .out .len) (s .out .private_use))) (c .with-settings .ensures)
+    (at-runs-from .runs-from .ensures)
+
+returns-3 : tie.Need-returns-3
+returns-3 c =
+    let entry = c .before .before .before .before .before .before .before in
     λ base origin i. stretch-none base origin (entry .pre .0 .0) (entry .pre .1)
 
 pub letters-spec : {M : Type 1} → statement M
 letters-spec =
     tie.close
     (tie.spec
+    returns
     may-begin-requires
     settings-of-requires
     slice-aggregate-runs-from
     runs-from-requires
     with-settings-requires
     same-length
-    returns
-    returns-2)
+    returns-2
+    returns-3)

@@ -11,7 +11,7 @@ use Rattle.decode_runs.proofs.letters_from.Statement.{statement}
 use Rattle.decode_runs.proofs.letters_from.Tie as tie
 
 abbrev Inv-loop : tie.InvT-loop
-Inv-loop cells b to text₀ gl gr narrow private i₀ m₀ text i m = Spelt cells b i₀ to (record { gl = gl; gr = gr; narrow = narrow }) m₀ private text₀ i m text
+Inv-loop cells b to text₀ gl gr narrow private i₀ m₀ text i m = Spelt cells b to i₀ (record { gl = gl; gr = gr; narrow = narrow }) m₀ private text₀ i m text
 
 abbrev μ-loop : tie.MeasureT-loop
 μ-loop cells b to text₀ gl gr narrow private i₀ m₀ text i m = to - i
@@ -99,7 +99,7 @@ loop-again c =
     let w = at-kanji-at .kanji-at .ensures (at-if3 .if3 .left) in
     let x : getD b i 0 < 256 = omega (arith, at-bytes .shared-slice-known2 .given i) in
     let two = w .pair .two in
-    spelt-more 2 _ inv (omega arith) (omega arith)
+    spelt-more 2 _ inv (omega arith) (at-if1 .if1 .left) (omega arith)
     (spells-pair _ b i _ x (sym (at-if2 .if2 .taken) ∙ at-set-of .set-of .ensures) kanji-two (w .pair)) (w .ordinary) (three-bytes _ (omega (arith, w .low)) (w .high)) (omega arith)
     (omega (arith, at-if1 .if1 .left)) (c .before .before .put3 .ensures)
 
@@ -167,7 +167,7 @@ loop-again-2 c =
     let e : l ≡ letter (a .sets .narrow) (at-set-of .set-of .result) (getD b i 0 % 128) = at-initial-at .initial-at .ensures some in
     let w = letter-of (a .sets .narrow) e some (omega arith) in
     let x : getD b i 0 < 256 = omega (arith, at-bytes .shared-slice-known2 .given i) in
-    spelt-more 1 _ inv (omega arith) (omega (arith, inv .room, inv .as-long, inv .letters .within, at-if1 .if1 .left))
+    spelt-more 1 _ inv (omega arith) (at-if1 .if1 .left) (omega (arith, inv .room, inv .as-long, inv .letters .within, at-if1 .if1 .left))
     (spells-letter _ b i _ x (at-set-of .set-of .ensures) e some w) (letter-plain (a .sets .narrow) (at-set-of .set-of .result) (getD b i 0 % 128) e)
     (three-bytes _ (at-if4 .if4 .taken) (w .small)) (omega arith)
     (omega (arith, at-if1 .if1 .left)) (c .before .before .put32 .ensures)
@@ -245,7 +245,7 @@ loop-again-3 c =
     let e : l ≡ letter (a .sets .narrow) (at-set-of .set-of .result) (getD b i 0 % 128) = at-initial-at .initial-at .ensures some in
     let w = letter-of (a .sets .narrow) e some (omega arith) in
     let x : getD b i 0 < 256 = omega (arith, at-bytes .shared-slice-known2 .given i) in
-    spelt-more 1 _ inv (omega arith) (omega (arith, inv .room, inv .as-long, inv .letters .within, at-if1 .if1 .left))
+    spelt-more 1 _ inv (omega arith) (at-if1 .if1 .left) (omega (arith, inv .room, inv .as-long, inv .letters .within, at-if1 .if1 .left))
     (spells-letter _ b i _ x (at-set-of .set-of .ensures) e some w) (letter-plain (a .sets .narrow) (at-set-of .set-of .result) (getD b i 0 % 128) e)
     (one-byte l (c .if6 .left)) (omega arith) (omega (arith, at-if1 .if1 .left)) (put-one _ _ l (c .if6 .left))
 

@@ -1,5 +1,5 @@
 -- `runs_from` meets its contract. The invariant: what was run so far. Assumes nothing.
-use Prim.Native.Nat.{_-_}
+use Prim.Native.Nat.{_-_, _≤_}
 use mathlib.Core.Path.{refl, sym, _∙_}
 use native.Mathlib.Omega.{arith}
 use lib.ListN.{length}
@@ -9,11 +9,11 @@ use Rattle.decode_runs.proofs.runs_from.Statement.{statement}
 use Rattle.decode_runs.proofs.runs_from.Tie as tie
 
 abbrev Inv-loop : tie.InvT-loop
-Inv-loop cells b annex settings₀ text₀ i₀ m₀ private₀ limit settings text i m private =
-    Running cells b i₀ (limit .to) (limit .fits) annex settings₀ m₀ private₀ text₀ i settings m private text
+Inv-loop cells b end annex settings₀ text₀ i₀ m₀ private₀ limit settings text i m private =
+    Running cells b end i₀ (limit .to) (limit .fits) annex settings₀ m₀ private₀ text₀ i settings m private text
 
 abbrev μ-loop : tie.MeasureT-loop
-μ-loop cells b annex settings₀ text₀ i₀ m₀ private₀ limit settings text i m private = length b - i
+μ-loop cells b end annex settings₀ text₀ i₀ m₀ private₀ limit settings text i m private = length b - i
 
 limit-of-requires : tie.Need-limit-of-requires Inv-loop μ-loop
 limit-of-requires c κs = search needs
@@ -21,7 +21,7 @@ limit-of-requires c κs = search needs
 loop-holds : tie.Need-loop-holds Inv-loop μ-loop
 loop-holds c =
     let entry = c .before .before .before .before .before in
-    running-start (entry .pre .0 .0) (c .limit-of .ensures .2) (entry .pre .0 .3)
+    running-start (omega (arith, entry .pre .0 .0, entry .pre .0 .1)) (c .limit-of .ensures .2) (entry .pre .0 .3)
 
 slice-read-left : tie.Need-slice-read-left Inv-loop μ-loop
 slice-read-left c = search needs
@@ -54,7 +54,7 @@ run-from-requires c κs =
     let at-limit = turn .before in
     let entry = at-limit .before .before .before .before .before in
     let inv = turn .loop .inv in
-    ((inv .runs .within, at-limit .limit-of .ensures .1, entry .pre .0 .1), space-on (omega arith) (omega arith) (inv .as-long) (inv .room))
+    ((inv .runs .within, omega (arith, at-limit .limit-of .ensures .1, entry .pre .0 .1), entry .pre .0 .2), space-on (omega arith) (omega arith) (inv .as-long) (inv .room))
 
 other-requires : tie.Need-other-requires Inv-loop μ-loop
 other-requires c κs =
@@ -64,13 +64,17 @@ other-requires c κs =
     let entry = at-limit .before .before .before .before .before in
     let runs = turn .loop .inv .runs in
     let w = at-run-from .run-from .ensures .0 in
-    let to = at-limit .limit-of .ensures .1 in (
-      (w .within, to, omega (arith, w .few, w .most, w .past, w .within, runs .few, runs .most, runs .past, to, entry .pre .1)),
+    let to : at-limit .limit-of .result .to ≤ length (entry .args .b .now) = omega (arith, at-limit .limit-of .ensures .1, entry .pre .0 .1) in (
+      (w .within, to, omega (arith, w .few, w .most, w .past, w .within, runs .few, runs .most, runs .past, to, entry .pre .1 .1)),
       at-run-from .run-from .ensures .1,
     )
 
 controls-requires : tie.Need-controls-requires Inv-loop μ-loop
-controls-requires c κs = search needs
+controls-requires c κs =
+    let at-other = c .before .before .before in
+    let at-loop = at-other .before .before .before .before .before .before .before .before .before .before .before .before in
+    let entry = at-loop .before .before .before .before .before .before in
+    (at-other .other .ensures .0 .within, entry .pre .0 .1, at-loop .loop .inv .runs .settings)
 
 same-length : tie.Need-same-length Inv-loop μ-loop
 same-length c =
@@ -95,7 +99,7 @@ returns c =
     let at-is-narrow = at-run-from .before .before in
     let at-slices = at-is-narrow .before .before in
     let turn = at-slices .before .before .before .before in
-    running-more (turn .loop .inv) refl refl (at-is-narrow .is-narrow .ensures) (at-run-from .run-from .ensures .0) (at-other .other .ensures .0)
+    running-more (turn .before .limit-of .ensures .1) (turn .loop .inv) refl refl (at-is-narrow .is-narrow .ensures) (at-run-from .run-from .ensures .0) (at-other .other .ensures .0)
     (at-controls .controls .ensures) (at-run-from .run-from .kept .1 .1 .1 .1 .1 .0) (at-other .other .kept .1 .1 .1 .1 .1 .0) (at-other .other .ensures .1) .runs
 
 loop-less : tie.Need-loop-less Inv-loop μ-loop
@@ -114,7 +118,7 @@ loop-again c =
     let at-is-narrow = at-run-from .before .before in
     let at-slices = at-is-narrow .before .before in
     let turn = at-slices .before .before .before .before in
-    running-more (turn .loop .inv) refl refl (at-is-narrow .is-narrow .ensures) (at-run-from .run-from .ensures .0) (at-other .other .ensures .0)
+    running-more (turn .before .limit-of .ensures .1) (turn .loop .inv) refl refl (at-is-narrow .is-narrow .ensures) (at-run-from .run-from .ensures .0) (at-other .other .ensures .0)
     (at-controls .controls .ensures) (at-run-from .run-from .kept .1 .1 .1 .1 .1 .0) (at-other .other .kept .1 .1 .1 .1 .1 .0) (at-other .other .ensures .1)
 
 pub runs-from-spec : {M : Type 1} → statement M

@@ -1,7 +1,6 @@
 -- `controls` meets its contract. The invariant: the controls so far. Assumes nothing.
 use Prim.Native.Nat.{_-_}
 use native.Mathlib.Omega.{arith}
-use lib.ListN.{length}
 use Rattle.decode_settings.specs.Contracts.{Controls}
 use Rattle.decode_settings.proofs.Turning.{nowhere, controls-none, controls-more, controls-left}
 use borrow.Author.Needs.{needs}
@@ -9,13 +8,13 @@ use Rattle.decode_settings.proofs.controls.Statement.{statement}
 use Rattle.decode_settings.proofs.controls.Tie as tie
 
 abbrev Inv-loop : tie.InvT-loop
-Inv-loop b from settings₀ i₀ settings i = Controls b from settings₀ i settings
+Inv-loop b from to settings₀ i₀ settings i = Controls b to from settings₀ i settings
 
 abbrev μ-loop : tie.MeasureT-loop
-μ-loop b from settings₀ i₀ settings i = length b - i
+μ-loop b from to settings₀ i₀ settings i = to - i
 
 loop-holds : tie.Need-loop-holds Inv-loop μ-loop
-loop-holds c = controls-none (c .before .before .pre .0) (c .before .before .pre .1)
+loop-holds c = controls-none (c .before .before .pre .0) (c .before .before .pre .2)
 
 control-requires : tie.Need-control-requires Inv-loop μ-loop
 control-requires c κs = search needs
@@ -39,7 +38,9 @@ loop-less c = search needs
 loop-again : tie.Need-loop-again Inv-loop μ-loop
 loop-again c =
     let at-control = c .before .before .before in
-    controls-more (at-control .before .before .before .loop .inv) (at-control .control .ensures) (c .if1 .left) (at-control .before .before .loop-test .taken)
+    let at-test = at-control .before .before in
+    controls-more (at-test .before .loop .inv) (at-control .control .ensures) (c .if1 .left) (at-test .loop-test .taken)
+    (omega (arith, at-test .loop-test .taken, at-test .before .before .before .before .pre .1))
 
 same-length-2 : tie.Need-same-length-2 Inv-loop μ-loop
 same-length-2 c = search needs

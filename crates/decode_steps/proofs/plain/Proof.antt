@@ -11,8 +11,8 @@ use Rattle.decode_steps.proofs.plain.Tie as tie
 
 returns : tie.Need-returns
 returns c =
-    let entry = c .before .before .before .before .before in
-    record { stretch = stretch-start _ _ _ _ _ _ _ _ (entry .pre .0 .0) (entry .pre .1); stop = c .if1 .taken }
+    let entry = c .before .before .before .before .before .before in
+    record { stretch = stretch-start _ _ _ _ _ _ _ _ _ (entry .pre .0 .0) (entry .pre .1); stop = c .if1 .taken }
 
 stop-at-requires : tie.Need-stop-at-requires
 stop-at-requires c κs = search needs
@@ -22,16 +22,14 @@ enum-told c = search needs
 
 returns-2 : tie.Need-returns-2
 returns-2 c =
-    let at-place = c .before in
-    let at-slices = at-place .before .before in
-    let entry = at-slices .before .before .before .before in
+    let at-stop-at = c .before in
+    let entry = at-stop-at .before .before .before .before .before .before .before in
     let a = entry .args in
-    let at-stop = at-place in
-    let n : at-stop .stop-at .result ≡ End → ⊥ =
+    let n : at-stop-at .stop-at .result ≡ End → ⊥ =
     λ e. ⊎-elim (λ z. omega (arith, z)) (⊎-elim (λ z. omega (arith, z)) (⊎-elim (λ z. omega (arith, z)) (λ z. omega (arith, z)))) (rw e at (c .match .keys2)) in
     record {
-      stretch = stretch-start _ _ _ _ _ _ _ _ (entry .pre .0 .0) (entry .pre .1);
-      stop = stop-at (at-stop .stop-at .result) (a .b .now) (a .from) (a .core) n (at-stop .stop-at .ensures);
+      stretch = stretch-start _ _ _ _ _ _ _ _ _ (entry .pre .0 .0) (entry .pre .1);
+      stop = stop-at (at-stop-at .stop-at .result) (a .b .now) (a .o .to) (a .from) (a .core) n (at-stop-at .stop-at .ensures);
     }
 
 steps-requires : tie.Need-steps-requires

@@ -10,14 +10,14 @@ use Rattle.decode_steps.proofs.plain.Reads as plain
 use Rattle.decode_bodies.proofs.run.Reads as run
 use Rattle.decode_bodies.proofs.turn.Reads as turn
 use Rattle.decode_bodies.proofs.Room.{ready-good, ready-left, ready-less, opens-to}
-use Rattle.decode_bodies.proofs.Along.{Along, along-start, along-stretch, along-step, along-cut, along-end, inside-step}
+use Rattle.decode_bodies.proofs.Along.{Along, along-start, along-stretch, along-step, along-cut, along-end, went-all, inside-step}
 use Rattle.decode_bodies.proofs.+char1+graphic+run+run_body+run_macro+turn.Lts-run as lts
 use Rattle.decode_bodies.proofs.+char1+graphic+run+run_body+run_macro+turn.Proof.Measure.{run-at, turn-below}
 
 -- from the start of the body to its byte i
 abbrev Inv : lts.InvT-loop
 Inv cells input b p starts lens text₀ issues₀ s₀ i₀ text issues s i =
-    Along cells input (p .left) (p .base) (p .at + 1) b (whole s₀ starts lens) text₀ issues₀ i (whole s starts lens) text issues
+    Along cells input (p .left) (p .base) (p .at + 1) b (length b) 0 (whole s₀ starts lens) text₀ issues₀ i (whole s starts lens) text issues
 
 abbrev μ : lts.MeasureT-loop
 μ cells input b p starts lens text₀ issues₀ s₀ i₀ text issues s i = length b - i
@@ -29,7 +29,7 @@ module _ (t : ℕ) where
   loop-holds : lts.Need-loop-holds claims (run-at t) run.Post Inv μ
   loop-holds c =
       let entry = c .before .before .before .before .before in
-      along-start (entry .pre .1 .0 .ready)
+      along-start (omega arith) (entry .pre .1 .0 .ready)
 
   add-origin : lts.Need-add-origin claims (run-at t) run.Post Inv μ
   add-origin c =
@@ -45,7 +45,7 @@ module _ (t : ℕ) where
       let entry = at-slices .before .before .before .before in
       let opens = entry .pre .1 .0 in
       let body = entry .pre .1 .1 in
-      ((inv .within, body .short, opens .base), ready-good (ready-left (opens .ready) (inv .within) (inv .grown)))
+      ((inv .within, body .short, opens .base, omega arith), ready-good (ready-left (opens .ready) (inv .within) (inv .grown)))
 
   same-length : lts.Need-same-length claims (run-at t) run.Post Inv μ
   same-length c = search needs
@@ -58,7 +58,8 @@ module _ (t : ℕ) where
       let after-plain = c .before .before in
       let at-plain = after-plain .before .before .before .before in
       let inv = at-plain .before .before .before .before .loop .inv in
-      along-end (along-stretch inv (at-plain .plain .ensures .stretch) (at-plain .plain .kept .1 .1 .1 .1 .1 .0) (at-plain .plain .kept .1 .1 .1 .1 .1 .1 .0)) (c .if1 .taken)
+      let w = along-stretch inv (at-plain .plain .ensures .stretch) (at-plain .plain .kept .1 .1 .1 .1 .1 .0) (at-plain .plain .kept .1 .1 .1 .1 .1 .1 .0) in
+      went-all (along-end w (c .if1 .taken))
 
   turn-requires : lts.Need-turn-requires claims (run-at t) run.Post Inv μ
   turn-requires c κs =
@@ -105,7 +106,8 @@ module _ (t : ℕ) where
       let entry = at-slices .before .before .before .before in
       let w =
       along-stretch (at-loop .loop .inv) (at-plain .plain .ensures .stretch) (at-plain .plain .kept .1 .1 .1 .1 .1 .0) (at-plain .plain .kept .1 .1 .1 .1 .1 .1 .0) in
-      along-cut w (at-test .if1 .left) (inside-step (entry .args .p) (at-plain .plain .result .at) (at-turn .turn .ensures)) (at-ended .ended .ensures .0 (c .before .if2 .taken))
+      went-all (along-cut w (at-test .if1 .left) (at-test .if1 .left) (inside-step (entry .args .p) (at-plain .plain .result .at) (at-turn .turn .ensures)) 0
+      (at-ended .ended .ensures .0 (c .before .if2 .taken)))
 
   add-i : lts.Need-add-i claims (run-at t) run.Post Inv μ
   add-i c =
@@ -140,7 +142,7 @@ module _ (t : ℕ) where
       let entry = at-slices .before .before .before .before in
       let w =
       along-stretch (at-loop .loop .inv) (at-plain .plain .ensures .stretch) (at-plain .plain .kept .1 .1 .1 .1 .1 .0) (at-plain .plain .kept .1 .1 .1 .1 .1 .1 .0) in
-      along-step w (at-test .if1 .left) (inside-step (entry .args .p) (at-plain .plain .result .at) (at-turn .turn .ensures)) (at-ended .ended .ensures .1 (c .before .before .if2 .left))
+      along-step w (at-test .if1 .left) (at-test .if1 .left) (inside-step (entry .args .p) (at-plain .plain .result .at) (at-turn .turn .ensures)) (at-ended .ended .ensures .1 (c .before .before .if2 .left))
       (at-turn .turn .kept .1 .1 .1 .1 .1 .1 .1 .1 .1 .0) (at-turn .turn .kept .1 .1 .1 .1 .1 .1 .1 .1 .1 .1 .0)
 
   pub meets : {M : Type 1} → lts.Closed claims (run-at t) run.Post M

@@ -42,7 +42,7 @@ module _ (t : ℕ) where
       let at-case = c .before .before in
       let at-slices = at-case .before .before in
       let entry = at-slices .before .before .before .before .before in
-      let h = told _ _ _ (at-case .enum-told2 .given .1) (entry .pre .1 .1 .1 .1) in
+      let h = told _ _ _ _ (at-case .enum-told2 .given .1) (entry .pre .1 .1 .1 .1) in
       (omega (arith, entry .pre .0), (entry .pre .1 .0, h .within))
 
   add-t19 : lts.Need-add-t19 claims (turn-at t) turn.Post
@@ -52,7 +52,7 @@ module _ (t : ℕ) where
       let at-case = at-call .before .before .before in
       let at-slices = at-case .before .before in
       let entry = at-slices .before .before .before .before .before in
-      let h = told _ _ _ (at-case .enum-told2 .given .1) (entry .pre .1 .1 .1 .1) in
+      let h = told _ _ _ _ (at-case .enum-told2 .given .1) (entry .pre .1 .1 .1 .1) in
       omega (arith, at-call .graphic2 .ensures _ (h .macros) .most, entry .pre .1 .1 .0 .short)
 
   enum-told-3 : lts.Need-enum-told-3 claims (turn-at t) turn.Post
@@ -63,7 +63,7 @@ module _ (t : ℕ) where
       let at-case = c .before in
       let at-slices = at-case .before .before in
       let entry = at-slices .before .before .before .before .before in
-      let h = told _ _ _ (at-case .enum-told3 .given .1) (entry .pre .1 .1 .1 .1) in
+      let h = told _ _ _ _ (at-case .enum-told3 .given .1) (entry .pre .1 .1 .1 .1) in
       (h, (entry .pre .1 .1 .0, ready-good (entry .pre .1 .0 .ready)))
 
   enum-told-4 : lts.Need-enum-told-4 claims (turn-at t) turn.Post
@@ -84,7 +84,7 @@ module _ (t : ℕ) where
       let at-case = at-call .before .before .before in
       let at-slices = at-case .before .before in
       let entry = at-slices .before .before .before .before .before in
-      let h = told _ _ _ (at-case .enum-told .given .1) (entry .pre .1 .1 .1 .1) in
+      let h = told _ _ _ _ (at-case .enum-told .given .1) (entry .pre .1 .1 .1 .1) in
       step-as (λ g s k. step-char g _ _ _ _ _ _ s _ _ (k .gl) (k .gr) (h .char)) (at-call .graphic .ensures _ (h .macros))
 
   same-length-3 : lts.Need-same-length-3 claims (turn-at t) turn.Post
@@ -104,7 +104,7 @@ module _ (t : ℕ) where
       let at-case = at-call .before .before .before in
       let at-slices = at-case .before .before in
       let entry = at-slices .before .before .before .before .before in
-      let h = told _ _ _ (at-case .enum-told2 .given .1) (entry .pre .1 .1 .1 .1) in
+      let h = told _ _ _ _ (at-case .enum-told2 .given .1) (entry .pre .1 .1 .1 .1) in
       step-as (λ g s k. step-shift g _ _ _ _ _ _ s _ (h .shift) ∙ shift-char g _ _ _ _ _ _ s (h .within) (h .behind))
       (shift-step (at-call .graphic2 .ensures _ (h .macros)))
 
@@ -118,7 +118,7 @@ module _ (t : ℕ) where
       let at-slices = at-case .before .before in
       let entry = at-slices .before .before .before .before .before in
       let a = entry .args in
-      let h = told _ _ _ (at-case .enum-told3 .given .1) (entry .pre .1 .1 .1 .1) in
+      let h = told _ _ _ _ (at-case .enum-told3 .given .1) (entry .pre .1 .1 .1 .1) in
       step-as (λ g s k. step-macro g _ _ _ _ _ _ s (h .1))
       (took-ran (λ g. below g (a .p .left)) (entry .pre .1 .0 .ready .within)
       (λ R. at-call .macro-cmd .ensures (a .p .left) R (a .p .base + a .i) (a .cells .now) _))
@@ -127,13 +127,13 @@ module _ (t : ℕ) where
   returns-4 c =
       let at-slices = c .before .before in
       let entry = at-slices .before .before .before .before .before in
-      ended-step _ _ _ _ _ _ (entry .pre .1 .0 .ready) (entry .pre .1 .1 .1 .0) (told _ _ _ (c .enum-told4 .given .1) (entry .pre .1 .1 .1 .1))
+      ended-step _ _ _ _ _ _ (entry .pre .1 .0 .ready) (entry .pre .1 .1 .1 .0) (told _ _ _ _ (c .enum-told4 .given .1) (entry .pre .1 .1 .1 .1))
 
   returns-5 : lts.Need-returns-5 claims (turn-at t) turn.Post
   returns-5 c =
       let at-slices = c .before .before in
       let entry = at-slices .before .before .before .before .before in
-      absurd (omega (arith, told _ _ _ (c .enum-told5 .given .1) (entry .pre .1 .1 .1 .1), entry .pre .1 .1 .1 .0))
+      absurd (omega (arith, told _ _ _ _ (c .enum-told5 .given .1) (entry .pre .1 .1 .1 .1), entry .pre .1 .1 .1 .0))
 
   pub meets : {M : Type 1} → lts.Closed claims (turn-at t) turn.Post M
   meets =
