@@ -1,6 +1,6 @@
 /* Reads, codes and keys a title, counts its private-use characters, asks whether it is clean and
- * how much room it takes, keeps titles in a catalogue: the calls of arib_text.h, as a test. c/test
- * builds and runs it. */
+ * how much room it takes, keeps titles in a catalogue, goes back to a bookmark: the calls of
+ * arib_text.h, as a test. c/test builds and runs it. */
 #include <assert.h>
 #include <stdio.h>
 #include <stdlib.h>
@@ -292,6 +292,67 @@ static void refuses_catalogues(void)
     assert(arib_catalogue_remove(catalogue, sizeof catalogue - 1, 0) == 12);
 }
 
+/* あ, katakana to G0, a newline, ア, an undefined control, い. */
+static const uint8_t caption[] = {0xA2, 0x1B, 0x28, 0x31, 0x0D, 0x22, 0xA0, 0xA4};
+
+/* Bookmarks, and what is read behind one. */
+static uint32_t bookmarks[ARIB_BOOKMARK_STORE], rest_issues[ROOM];
+static uint8_t rest[16];
+static size_t rest_counts[5];
+
+static uint32_t sets(size_t place, uint32_t name)
+{
+    return arib_bookmark_set(cells, 8836, 0, 0, caption, sizeof caption, place, name, bookmarks,
+                             ARIB_BOOKMARK_STORE, counts, 3);
+}
+
+static uint32_t returns(uint32_t name, size_t room)
+{
+    return arib_bookmark_return(cells, 8836, 0, 0, caption, sizeof caption, name, bookmarks,
+                                ARIB_BOOKMARK_STORE, rest, room, rest_issues, ROOM, rest_counts, 5);
+}
+
+/* The second line, in which 22 is ア; then the first. The issue has its place in the whole. */
+static void goes_back(void)
+{
+    const uint32_t expected[ROOM] = {6, ARIB_UNDEFINED_CONTROL, 0xA0, 0, 7};
+    const uint32_t *bookmark = bookmarks + 3 * ARIB_BOOKMARK_NUMBERS;
+    counts[1] = 7;
+    assert(sets(5, 3) == 0 && counts[0] == 0 && counts[1] == 7);
+    assert(bookmark[ARIB_BOOKMARK_IS_SET] == 1 && bookmark[ARIB_BOOKMARK_PLACE] == 5);
+    assert(bookmark[ARIB_BOOKMARK_SETS] == ARIB_KATAKANA && bookmark[ARIB_BOOKMARK_TEXT] == 4);
+    assert(returns(3, 16) == 0 && rest_counts[0] == 0 && rest_counts[1] == 6);
+    assert(rest_counts[2] == 1 && rest_counts[3] == 0 && rest_counts[4] == 0);
+    assert(memcmp(rest, "アい\0\0\0\0\0\0\0\0\0", 16) == 0);
+    assert(memcmp(rest_issues, expected, sizeof expected) == 0);
+    printf("A2 1B 28 31 0D 22 A0 A4 goes on at byte 5 with %s\n", (const char *)rest);
+
+    assert(sets(0, 3) == 0 && returns(3, 16) == 0 && rest_counts[1] == 10);
+    assert(memcmp(rest, "あ\nアい", 11) == 0);
+    assert(memcmp(rest_issues, expected, sizeof expected) == 0);
+}
+
+/* Places within the designation and behind the end, names that are too large or not set, a buffer
+ * that is too small; a first number above 1, and a number too few. */
+static void refuses_bookmarks(void)
+{
+    static uint32_t kept[ARIB_BOOKMARK_STORE];
+    const uint8_t zeros[sizeof rest] = {0};
+    memcpy(kept, bookmarks, sizeof kept);
+    assert(sets(2, 3) == 16 && sets(9, 3) == 16 && sets(5, 16) == 15 && sets(2, 16) == 15);
+    assert(returns(16, 16) == 15 && returns(2, 16) == 15 && returns(2, 9) == 15);
+    assert(returns(3, 9) == 8 && rest_counts[1] == 0 && rest_counts[2] == 0);
+    assert(memcmp(rest, zeros, 9) == 0 && memcmp(bookmarks, kept, sizeof kept) == 0);
+
+    bookmarks[0] = 2;
+    assert(sets(5, 3) == 15 && returns(3, 16) == 15 && memcmp(rest, zeros, 16) == 0);
+    bookmarks[0] = 0;
+    assert(memcmp(bookmarks, kept, sizeof kept) == 0 && returns(3, 16) == 0);
+    uint32_t refused = arib_bookmark_set(cells, 8836, 0, 0, caption, sizeof caption, 5, 3,
+                                         bookmarks, ARIB_BOOKMARK_STORE - 1, counts, 3);
+    assert(refused == 15);
+}
+
 int main(int argc, char **argv)
 {
     assert(argc == 2);
@@ -309,5 +370,7 @@ int main(int argc, char **argv)
     catalogues();
     refuses_entries();
     refuses_catalogues();
+    goes_back();
+    refuses_bookmarks();
     return 0;
 }

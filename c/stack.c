@@ -13,7 +13,7 @@ enum { STACK = 1 << 22, PATTERN = 0x5A, CAPTION = 1 };
 
 static uint16_t cells[8836];
 static uint8_t input[256], text[1 << 20], coding[65536];
-static uint32_t issues[1 << 16], store[1 << 20];
+static uint32_t issues[1 << 16], store[1 << 20], bookmarks[ARIB_BOOKMARK_STORE];
 static uint8_t catalogue[ARIB_CATALOGUE_BYTES], kept[ARIB_CATALOGUE_BYTES];
 static size_t input_len, counts[5];
 
@@ -151,6 +151,22 @@ static void *finds(void *unused)
     return unused;
 }
 
+/* Bookmark 1 at the end, so that all is read. */
+static void *sets(void *unused)
+{
+    arib_bookmark_set(cells, 8836, CAPTION, 0, input, input_len, input_len, 1, bookmarks, ARIB_BOOKMARK_STORE, counts,
+                      1);
+    return unused;
+}
+
+/* Bookmark 0, which is at the start, so that all is read again. */
+static void *returns(void *unused)
+{
+    arib_bookmark_return(cells, 8836, CAPTION, 0, input, input_len, 0, bookmarks, ARIB_BOOKMARK_STORE, text,
+                         sizeof text, issues, 1 << 16, counts, 5);
+    return unused;
+}
+
 static void *nothing(void *unused)
 {
     return unused;
@@ -223,6 +239,7 @@ int main(void)
 {
     size_t none = used(nothing);
     fill_cells();
+    assert(arib_bookmark_set(cells, 8836, CAPTION, 0, input, 0, 0, 0, bookmarks, ARIB_BOOKMARK_STORE, counts, 1) == 0);
     printf("decode %zu, without macros %zu\n", reading(decodes, 5) - none, reading(decodes, 0) - none);
     printf("key %zu, without macros %zu\n", reading(keys, 5) - none, reading(keys, 0) - none);
     printf("clean %zu, without macros %zu\n", reading(cleans, 5) - none, reading(cleans, 0) - none);
@@ -232,5 +249,7 @@ int main(void)
     printf("catalogue add %zu, without macros %zu\n", holding(adds, 5) - none, holding(adds, 0) - none);
     printf("catalogue remove %zu\n", holding(removes, 0) - none);
     printf("catalogue find %zu\n", holding(finds, 0) - none);
+    printf("bookmark set %zu, without macros %zu\n", reading(sets, 5) - none, reading(sets, 0) - none);
+    printf("bookmark return %zu, without macros %zu\n", reading(returns, 5) - none, reading(returns, 0) - none);
     return 0;
 }

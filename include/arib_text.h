@@ -22,12 +22,17 @@
  *       the number to remove absent
  *   13  the key to add to a catalogue has more than 255 bytes
  *   14  the catalogue to add to has 1,024 entries
+ *   15  the name of a bookmark is above 15, or is not set when returning; or the store of bookmarks
+ *       has another length, or a bookmark's first number above 1; or the numbers to go on from are
+ *       none that a reading of the input can have
+ *   16  at the place of a bookmark begins no step outside macro bodies, nor does the input end
+ *       there; or more than sixteen marks wait there
  *
  * Refused or not, every element of every buffer is written: behind the result stand zeros, and
- * after a refusal zeros throughout. The store of a catalogue is not such a buffer: it is lent with
- * what it holds, and a refusal leaves every byte of it as it was. `counts` gets as many of its
- * numbers as it has room for, and what it has beyond them stays as it was; after a refusal all but
- * the place are 0.
+ * after a refusal zeros throughout. The stores of a catalogue and of bookmarks are not such
+ * buffers: they are lent with what they hold, and a refusal leaves every element of them as it was.
+ * `counts` gets as many of its numbers as it has room for, and what it has beyond them stays as it
+ * was; after a refusal all but the place are 0.
  *
  * A private-use character is one from U+E000 to U+F8FF. Unicode gives it no shape, so that most
  * screens show a box. Some additional symbols are read as such, and a cell table may hold others.
@@ -101,6 +106,33 @@ enum arib_catalogue {
     ARIB_CATALOGUE_BYTES = 266248,  /* of its store, whatever it holds */
     ARIB_CATALOGUE_ENTRIES = 1024,  /* at most */
     ARIB_CATALOGUE_KEY = 255        /* bytes of an entry's key, at most */
+};
+
+/* The numbers of a bookmark in their order, each 0 where there is none, and how many they are. */
+enum arib_bookmark {
+    ARIB_BOOKMARK_IS_SET,         /* 1 if it is set */
+    ARIB_BOOKMARK_PLACE,          /* the byte of the input where it stands, or the input's length */
+    ARIB_BOOKMARK_SETS,           /* in G0 to G3: four of enum arib_set */
+    ARIB_BOOKMARK_GL = 6,         /* 0 to 3 for G0 to G3 */
+    ARIB_BOOKMARK_GR,
+    ARIB_BOOKMARK_NARROW,         /* 1 if the size is Small, Middle or SZX 60 */
+    ARIB_BOOKMARK_REPEAT,         /* the repeat that waits */
+    ARIB_BOOKMARK_WAITING,        /* how many marks wait */
+    ARIB_BOOKMARK_WAITING_AT,     /* the offset of the first of them */
+    ARIB_BOOKMARK_MARKS,          /* the marks: sixteen characters */
+    ARIB_BOOKMARK_STARTS = 28,    /* by code, the bytes of the input where 128 macro bodies start,
+                                   * each plus 1 */
+    ARIB_BOOKMARK_LENGTHS = 156,  /* by code, the lengths of these bodies */
+    ARIB_BOOKMARK_CHARGE = 284,   /* so far, as the next two */
+    ARIB_BOOKMARK_TEXT,           /* bytes of text, waiting marks not counted */
+    ARIB_BOOKMARK_ISSUES,
+    ARIB_BOOKMARK_NUMBERS
+};
+
+/* The sizes of a store of bookmarks. */
+enum arib_bookmarks {
+    ARIB_BOOKMARKS = 16,          /* in it, by name from 0 on */
+    ARIB_BOOKMARK_STORE = 4592    /* its numbers */
 };
 
 /* Decodes a string to UTF-8. counts: place, bytes of text, issues, charge (the bytes of the macro
@@ -188,6 +220,41 @@ uint32_t arib_catalogue_remove(uint8_t *store, size_t store_len, uint32_t number
  * by c/stack. */
 uint32_t arib_catalogue_find(const uint8_t *store, size_t store_len, const uint8_t *key,
                              size_t key_len, size_t *counts, size_t counts_len);
+
+/* A bookmark is a place of an input, named 0 to 15, with what a reading has there, so that it can
+ * go on from it. Sixteen stand in a store of ARIB_BOOKMARK_STORE numbers that the program lends to
+ * each call, ARIB_BOOKMARK_NUMBERS a name; all zeros is a store where none is set. The numbers can
+ * be kept and lent again. While a call sets a bookmark in a store, no other call may run over it.
+ *
+ * A bookmark goes with the input, the options and the cell table that it was set with. With others,
+ * or with numbers that were changed, the result is undecided but safe: the call answers 15 where
+ * the numbers are none that a reading of this input can have (the place or a macro body outside the
+ * input, a body with 95 4F in it, a set above 31, an element above 3, a repeat above 63, a charge
+ * above 64 for each byte of the input and 4,096, a mark that is none, a text of 2^31 bytes or
+ * more), and else goes on from what they say. */
+
+/* Sets a bookmark, instead of one that has the name. It stands where a step begins (a code with
+ * its parameters, a macro's definition with its body), outside macro bodies, or at the input's end.
+ * Reads from the start to there with the whole input in view, so that the steps before it are those
+ * of the whole reading; needs no buffers. counts: place, of a refusal, always 0. Questions 1, 2, 3,
+ * 15, 16. Takes at most some 13,000 bytes of stack on x86-64, by c/stack. */
+uint32_t arib_bookmark_set(const uint16_t *cells, size_t cells_len, uint32_t initial,
+                           uint32_t width, const uint8_t *input, size_t input_len, size_t place,
+                           uint32_t name, uint32_t *store, size_t store_len, size_t *counts,
+                           size_t counts_len);
+
+/* Returns to a bookmark: decodes the rest of the input. counts: as arib_decode, of the rest, but
+ * for the charge, which is that of the whole reading. An issue is as arib_decode gives it: its
+ * offset is a byte of the whole input, its position a byte of the whole text. So the text before
+ * the bookmark, ARIB_BOOKMARK_TEXT bytes, and the rest are what arib_decode gives, and likewise the
+ * issues. Marks that wait at the bookmark stand in the rest, behind their base; buffers in which
+ * the whole fits hold it. The store is not written. Questions 1, 2, 3, 15, 8, 9 in this order.
+ * Takes at most some 13,000 bytes of stack on x86-64, by c/stack. */
+uint32_t arib_bookmark_return(const uint16_t *cells, size_t cells_len, uint32_t initial,
+                              uint32_t width, const uint8_t *input, size_t input_len,
+                              uint32_t name, const uint32_t *store, size_t store_len,
+                              uint8_t *text, size_t text_len, uint32_t *issues, size_t issues_len,
+                              size_t *counts, size_t counts_len);
 
 #ifdef __cplusplus
 }

@@ -6,7 +6,7 @@ use oracle::coding::{Refusal, refusal};
 use oracle::options::Options;
 
 use crate::coding::{Coding, STATE};
-use crate::model::{self, ISSUE, Reading};
+use crate::model::{self, Between, ISSUE, Reading};
 
 /// How many numbers a cell table has.
 pub const CELLS: usize = 94 * 94;
@@ -93,6 +93,22 @@ impl Call<'_> {
     /// The model's reading, for a call that questions 1 to 3 let through.
     pub fn read(&self, reading: &mut Reading) {
         model::read(self.cells, self.initial, self.width, self.input, reading);
+    }
+
+    /// The model's reading between steps, at this place, if an outermost step begins there or it is
+    /// the end.
+    pub fn between(&self, place: usize) -> Option<Between> {
+        model::between(self.cells, self.initial, self.width, self.input, place)
+    }
+
+    /// All such places.
+    pub fn places(&self) -> Vec<usize> {
+        model::places(self.cells, self.initial, self.width, self.input)
+    }
+
+    /// The model's reading from there on.
+    pub fn read_on(&self, from: &Between, reading: &mut Reading) {
+        model::read_on(self.cells, self.width, self.input, from, reading);
     }
 }
 

@@ -13,7 +13,7 @@ pub mod vectors;
 use crate::runs::{self, Amount, Part};
 
 pub use hold::Holder;
-pub use lent::{AMPLE, Buffers, DECODED};
+pub use lent::{AMPLE, Buffers, DECODED, issues};
 pub use tally::Tally;
 
 /// How the runs are done.

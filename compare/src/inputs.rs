@@ -5,6 +5,7 @@ pub mod corners;
 mod damage;
 pub mod long;
 mod pieces;
+mod waiting;
 pub mod ways;
 mod writer;
 

@@ -15,8 +15,16 @@ impl Element for u8 {
     const PATTERN: u8 = 0xA5;
 }
 
+impl Element for u16 {
+    const PATTERN: u16 = u16::from_ne_bytes([u8::PATTERN; 2]);
+}
+
 impl Element for u32 {
     const PATTERN: u32 = u32::from_ne_bytes([u8::PATTERN; 4]);
+}
+
+impl Element for usize {
+    const PATTERN: usize = usize::MAX;
 }
 
 /// A buffer that is used again from call to call.
@@ -24,15 +32,28 @@ impl Element for u32 {
 pub struct Buffer<T> {
     elements: Vec<T>,
     room: usize,
+    /// Whether what is lent is allocated anew for each call, with nothing beside it.
+    alone: bool,
 }
 
 impl<T: Element> Buffer<T> {
+    /// One whose elements stand alone in their allocation, so that memcheck sees what is read or
+    /// written beside them.
+    pub fn alone() -> Self {
+        Buffer { elements: Vec::new(), room: 0, alone: true }
+    }
+
     /// So much room, filled with the pattern.
     pub fn lend(&mut self, room: usize) -> &mut [T] {
         self.room = room;
-        self.elements.clear();
-        self.elements.resize(room + 2 * BESIDE, T::PATTERN);
-        &mut self.elements[BESIDE..][..room]
+        if self.alone {
+            self.elements = vec![T::PATTERN; room];
+        } else {
+            self.elements.clear();
+            self.elements.resize(room + 2 * BESIDE, T::PATTERN);
+        }
+        let beside = self.beside();
+        &mut self.elements[beside..][..room]
     }
 
     /// A copy of these.
@@ -44,13 +65,13 @@ impl<T: Element> Buffer<T> {
 
     /// What was lent.
     pub fn lent(&self) -> &[T] {
-        &self.elements[BESIDE..][..self.room]
+        &self.elements[self.beside()..][..self.room]
     }
 
     /// The first place that is not the result, then zeros to the room's end, with the pattern
     /// whole on both sides.
     pub fn fault(&self, name: &str, result: &[T]) -> Option<String> {
-        let (before, rest) = self.elements.split_at(BESIDE);
+        let (before, rest) = self.elements.split_at(self.beside());
         let (lent, after) = rest.split_at(self.room);
         let (written, unused) = lent.split_at(result.len());
         let is_zero = |unused: &[T]| unused.iter().all(|&n| n == T::default());
@@ -63,6 +84,11 @@ impl<T: Element> Buffer<T> {
         let expected = |i| result.get(i).copied().unwrap_or_default();
         let first = (0..self.room).find(|&i| lent[i] != expected(i))?;
         Some(format!("{name} {first} is {:X?}, expected {:X?}", lent[first], expected(first)))
+    }
+
+    /// How many elements stand on either side.
+    fn beside(&self) -> usize {
+        if self.alone { 0 } else { BESIDE }
     }
 }
 

@@ -1,10 +1,12 @@
-//! Decoding, keys, clean titles, measuring, coding and the catalogue by the static library of
-//! crates/text, and by the crate in rust/ over it, held against the Rust and against a model of
-//! docs/01-scope.md ("01"), and measured against the Rust.
+//! Decoding, keys, clean titles, measuring, coding, the catalogue and bookmarks by the static
+//! library of crates/text, and by the crate in rust/ over it, held against the Rust and against a
+//! model of docs/01-scope.md ("01"), and measured against the Rust.
 
 pub mod bench;
 #[cfg(feature = "library")]
 pub mod binding;
+pub mod bookmark;
+pub mod bookmarks;
 pub mod call;
 pub mod catalogue;
 pub mod cells;

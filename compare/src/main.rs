@@ -1,5 +1,6 @@
-//! `compare decode`, `encode`, `catalogue`, `crate`, `programs`, `vectors`, `encode-vectors`,
-//! `catalogue-vectors` or `bench`; README.md has what each prints.
+//! `compare decode`, `encode`, `catalogue`, `bookmarks`, `crate`, `programs`, `vectors`,
+//! `encode-vectors`, `catalogue-vectors`, `bookmark-vectors` or `bench`; README.md has what each
+//! prints.
 
 use std::io::{self, Write};
 use std::path;
@@ -9,20 +10,22 @@ use compare::bench::{self, Side};
 use compare::runs::{Amount, Runs, Worker};
 use compare::subject::{self, Subject};
 use compare::words::{Words, number};
-use compare::{catalogue, decode, encode};
+use compare::{bookmarks, catalogue, decode, encode};
 
 const USAGE: &str = "usage:
 compare decode [--seed N] [--random N] [--every N] [--threads N] [--greatest] [--subject model]
 compare encode [--seed N] [--random N] [--every N] [--threads N] [--greatest] [--subject model]
 compare catalogue [--seed N] [--random N] [--threads N] [--subject model]
+compare bookmarks [--quick] [--seed N] [--random N] [--threads N] [--subject model]
 compare crate [--seed N] [--inputs N] [--texts N] [--threads N]
 compare programs [--seed N] [--random N] [--lines N] [--threads N] [--bin FOLDER]
 compare vectors N
 compare encode-vectors N
 compare catalogue-vectors [N]
+compare bookmark-vectors [N]
 compare bench [CASE ..] [--subject model]
 compare bench --list
-compare bench --only rust|subject|exact|key|question CASE PASSES [STORE] [--subject model]";
+compare bench --only rust|subject|exact|key|half|question CASE PASSES [STORE] [--subject model]";
 
 fn main() -> ExitCode {
     let mut words = Words::of_program();
@@ -30,11 +33,13 @@ fn main() -> ExitCode {
         Some("decode") => run(words, decode::USUAL, decode::all),
         Some("encode") => run(words, encode::USUAL, encode::all),
         Some("catalogue") => run_catalogue(words),
+        Some("bookmarks") => run_bookmarks(words),
         Some("crate") => run_crate(words),
         Some("programs") => run_programs(words),
         Some("vectors") => write_file(words, None, decode::vectors::file),
         Some("encode-vectors") => write_file(words, None, encode::vectors::file),
         Some("catalogue-vectors") => write_file(words, Some(usize::MAX), catalogue::vectors::file),
+        Some("bookmark-vectors") => write_file(words, Some(usize::MAX), bookmarks::vectors::file),
         Some("bench") => measure(words),
         _ => Err(USAGE.into()),
     };
@@ -76,6 +81,21 @@ fn run_catalogue(mut words: Words) -> Result<bool, String> {
     let runs = runs(words, subject, amount)?;
     println!("subject: {name}");
     Ok(all(&runs))
+}
+
+/// All runs of bookmarks, or the quick ones with slices that lie alone; false at a difference.
+fn run_bookmarks(mut words: Words) -> Result<bool, String> {
+    use compare::bookmarks::{Amount, Lying, QUICK, USUAL, all, quick};
+    let (name, subject) = subject(&mut words)?;
+    let (run, usual, lying): (fn(&_) -> bool, _, _) = if words.flag("--quick") {
+        (quick, QUICK, Lying::Alone)
+    } else {
+        (all, USUAL, Lying::Guarded)
+    };
+    let amount = Amount { random: words.number("--random", usual.random)? };
+    let runs = runs(words, (subject, lying), amount)?;
+    println!("subject: {name}");
+    Ok(run(&runs))
 }
 
 /// All differential runs of the crate in rust/; false at a difference.

@@ -2,6 +2,7 @@
 //! a machine that takes one step at a time over a stack of stretches of the input, first how
 //! far the step reaches, then what it does.
 
+mod between;
 mod characters;
 mod effects;
 mod extent;
@@ -10,6 +11,7 @@ mod output;
 pub(crate) mod sets;
 pub(crate) mod tables;
 
+pub use between::{Between, between, places, read_on};
 use extent::Extent;
 use sets::Set;
 
@@ -59,12 +61,7 @@ impl Reading {
 /// Decodes `input` into `reading`. The cell table has 8,836 numbers; an option that is not 1
 /// counts as 0.
 pub fn read(cells: &[u16], initial: u32, width: u32, input: &[u8], reading: &mut Reading) {
-    reading.text.clear();
-    reading.issues.clear();
-    reading.charge = 0;
-    let mut machine = Machine::new(cells, initial == 1, width == 1, input, reading);
-    while machine.advance() {}
-    machine.release_marks();
+    Machine::new(cells, initial == 1, width == 1, input, reading).run();
 }
 
 /// A part of the input that is being read.
@@ -113,6 +110,9 @@ impl<'a> Machine<'a> {
         input: &'a [u8],
         reading: &'a mut Reading,
     ) -> Self {
+        reading.text.clear();
+        reading.issues.clear();
+        reading.charge = 0;
         let whole = Stretch { at: 0, end: input.len(), caller: None };
         let mut open = [Stretch::default(); OPEN];
         open[0] = whole;
@@ -132,6 +132,12 @@ impl<'a> Machine<'a> {
             open,
             depth: 1,
         }
+    }
+
+    /// Takes all steps that are left, and releases the marks.
+    fn run(mut self) {
+        while self.advance() {}
+        self.release_marks();
     }
 
     /// Takes one step in the innermost stretch, or leaves it; false once the input is read.

@@ -62,6 +62,20 @@ pub trait Subject: Sync {
     /// `arib_catalogue_find`: the refusal's number, or 0. The first three counts are the place, how
     /// many entries have the key, and the smallest of their numbers.
     fn find(&self, store: &[u8], key: &[u8], counts: &mut [usize]) -> u32;
+
+    /// `arib_bookmark_set`: the refusal's number, or 0. The first count is the place.
+    fn set(
+        &self,
+        call: Call,
+        place: usize,
+        name: u32,
+        store: &mut [u32],
+        counts: &mut [usize],
+    ) -> u32;
+
+    /// `arib_bookmark_return`: the refusal's number, or 0. The first five counts are those of
+    /// `arib_decode`, of the rest, with the charge of the whole.
+    fn go_on(&self, call: Call, name: u32, store: &[u32], lent: Lent) -> u32;
 }
 
 /// The model, which is always there.

@@ -8,6 +8,18 @@ pub fn text_room(bytes: &[u8]) -> usize {
 /// How many issues the first buffer for them holds, which is not allocated.
 pub const ISSUE_ROOM: usize = 64;
 
+/// More room, be it for bytes of text or for issues, and if there was none.
+pub fn more_room(room: usize) -> usize {
+    4 * room + 64
+}
+
+/// The most room that either takes: for each byte that is read, of the string or of a macro's body,
+/// 63 times a character of four bytes.
+pub fn most_room(bytes: &[u8]) -> usize {
+    let charge = 64 * bytes.len() + 4_096;
+    63 * 4 * (bytes.len() + charge)
+}
+
 /// Four times as much.
 pub fn larger<T: Clone + Default>(buffer: &[T]) -> Vec<T> {
     vec![T::default(); 4 * buffer.len()]

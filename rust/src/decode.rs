@@ -3,10 +3,10 @@
 use std::error::Error;
 use std::fmt;
 
-use crate::buffers::{ISSUE_ROOM, text_room, written};
+use crate::buffers::{ISSUE_ROOM, more_room, most_room, text_room, written};
 use crate::cells;
 use crate::ffi::{self, Call, ISSUE_NUMBERS};
-use crate::measure::{Measured, measure_with};
+use crate::measure::measure_with;
 use crate::sets::{GraphicSet, InitialState};
 
 /// How the width of alphanumerics and SP goes over into Unicode.
@@ -62,7 +62,8 @@ pub struct Issue {
     /// The bytes of [`Decoded::text`] that were written when the issue was reported. The text up
     /// to there came before the issue; U+FFFD or the marks that the issue brings stand behind it,
     /// as do marks that still waited for their character. Always a character boundary, and never
-    /// less than the position of the issue before. isdb-text has no such field.
+    /// less than the position of the issue before. Of a rest, what stands before its bookmark
+    /// counts too ([`Bookmarks::resume`](crate::Bookmarks::resume)). isdb-text has no such field.
     pub position: usize,
 }
 
@@ -158,25 +159,45 @@ pub fn decode_with(bytes: &[u8], opts: &DecodeOptions) -> Decoded {
 /// assert_eq!(refused.number, 3);
 /// ```
 pub fn try_decode_with(bytes: &[u8], opts: &DecodeOptions) -> Result<Decoded, Refused> {
-    let mut issues = [0; ISSUE_NUMBERS * ISSUE_ROOM];
-    match decode_in(text_room(bytes), &mut issues, bytes, opts) {
-        Err(Refused { number: 8 | 9, .. }) => {
-            let Measured { text, issues, .. } = measure_with(bytes, opts)?;
-            decode_in(text, &mut vec![0; ISSUE_NUMBERS * issues], bytes, opts)
+    let call = opts.call(bytes);
+    decode_by(bytes, opts, |text, issues, counts| {
+        ffi::decode(call, text, issues, counts)
+    })
+}
+
+/// What a call decodes of a string: where the first buffers are too small, in those that the whole
+/// string takes. A call that goes on from other numbers than a reading has can take larger ones.
+pub(crate) fn decode_by(
+    bytes: &[u8],
+    opts: &DecodeOptions,
+    call: impl Fn(&mut [u8], &mut [u32], &mut [usize]) -> u32,
+) -> Result<Decoded, Refused> {
+    let mut first = [0; ISSUE_NUMBERS * ISSUE_ROOM];
+    let answer = decode_in(text_room(bytes), &mut first, bytes, &call);
+    let Err(Refused { number: 8 | 9, .. }) = answer else {
+        return answer;
+    };
+    let measured = measure_with(bytes, opts)?;
+    let (mut text, mut issues, most) = (measured.text, measured.issues, most_room(bytes));
+    loop {
+        match decode_in(text, &mut vec![0; ISSUE_NUMBERS * issues], bytes, &call) {
+            Err(Refused { number: 8, .. }) if text < most => text = more_room(text).min(most),
+            Err(Refused { number: 9, .. }) if issues < most => issues = more_room(issues),
+            answer => return answer,
         }
-        answer => answer,
     }
 }
 
-/// Decodes a string with room for so many bytes of text, and for the issues that this buffer holds.
+/// What a call decodes of a string with room for so many bytes of text, and for the issues that
+/// this buffer holds.
 fn decode_in(
     text: usize,
     issues: &mut [u32],
     bytes: &[u8],
-    opts: &DecodeOptions,
+    call: impl Fn(&mut [u8], &mut [u32], &mut [usize]) -> u32,
 ) -> Result<Decoded, Refused> {
     let (mut text, mut counts) = (vec![0; text], [0; 5]);
-    let number = ffi::decode(opts.call(bytes), &mut text, issues, &mut counts);
+    let number = call(&mut text, issues, &mut counts);
     if number != 0 {
         return Err(Refused::new(number, &counts));
     }

@@ -14,10 +14,13 @@ pub struct Call<'a> {
     pub input: &'a [u8],
 }
 
-/// Defines the calls that are lent buffers and counts. Each answers with the number of its refusal,
-/// or 0.
+/// Defines the calls that are lent buffers and counts, behind the values in brackets. Each answers
+/// with the number of its refusal, or 0.
 macro_rules! calls {
-    ($($(#[$doc:meta])* $name:ident = $symbol:ident($($lent:ident: $number:ty),*);)*) => {
+    ($(
+        $(#[$doc:meta])*
+        $name:ident = $symbol:ident$([$($value:ident: $type:ty),*])?($($lent:ident: $number:ty),*);
+    )*) => {
         unsafe extern "C" {
             $(fn $symbol(
                 cells: *const u16,
@@ -26,6 +29,7 @@ macro_rules! calls {
                 width: u32,
                 input: *const u8,
                 input_len: usize,
+                $($($value: $type,)*)?
                 $($lent: *mut $number, _: usize,)*
                 counts: *mut usize,
                 counts_len: usize,
@@ -34,7 +38,12 @@ macro_rules! calls {
 
         $($(#[$doc])*
         #[inline]
-        pub fn $name(call: Call, $($lent: &mut [$number],)* counts: &mut [usize]) -> u32 {
+        pub fn $name(
+            call: Call,
+            $($($value: $type,)*)?
+            $($lent: &mut [$number],)*
+            counts: &mut [usize],
+        ) -> u32 {
             // SAFETY: each pointer comes with the length of its slice, and no two slices overlap.
             unsafe {
                 $symbol(
@@ -44,6 +53,7 @@ macro_rules! calls {
                     call.width,
                     call.input.as_ptr(),
                     call.input.len(),
+                    $($($value,)*)?
                     $($lent.as_mut_ptr(), $lent.len(),)*
                     counts.as_mut_ptr(),
                     counts.len(),
@@ -64,6 +74,11 @@ calls! {
     clean = arib_clean();
     /// Counts: the first four of `decode` in buffers that are large enough.
     measure = arib_measure();
+    /// Counts: place, bytes of the key, charge. The input is the title. A refusal leaves the store
+    /// as it was.
+    catalogue_add = arib_catalogue_add[number: u32](store: u8, key: u8);
+    /// Counts: place, of a refusal. A refusal leaves the store as it was.
+    bookmark_set = arib_bookmark_set[place: usize, name: u32](store: u32);
 }
 
 unsafe extern "C" {
@@ -86,22 +101,6 @@ pub fn unknown_escape(input: &[u8], start: usize, length: usize, part: &mut [usi
 }
 
 unsafe extern "C" {
-    fn arib_catalogue_add(
-        cells: *const u16,
-        cells_len: usize,
-        initial: u32,
-        width: u32,
-        title: *const u8,
-        title_len: usize,
-        number: u32,
-        store: *mut u8,
-        store_len: usize,
-        key: *mut u8,
-        key_len: usize,
-        counts: *mut usize,
-        counts_len: usize,
-    ) -> u32;
-
     fn arib_catalogue_remove(store: *mut u8, store_len: usize, number: u32) -> u32;
 
     fn arib_catalogue_find(
@@ -112,36 +111,6 @@ unsafe extern "C" {
         counts: *mut usize,
         counts_len: usize,
     ) -> u32;
-}
-
-/// Counts: place, bytes of the key, charge. The input is the title. A refusal leaves the store as
-/// it was.
-#[inline]
-pub fn catalogue_add(
-    call: Call,
-    number: u32,
-    store: &mut [u8],
-    key: &mut [u8],
-    counts: &mut [usize],
-) -> u32 {
-    // SAFETY: each pointer comes with the length of its slice, and no two slices overlap.
-    unsafe {
-        arib_catalogue_add(
-            call.cells.as_ptr(),
-            call.cells.len(),
-            call.initial,
-            call.width,
-            call.input.as_ptr(),
-            call.input.len(),
-            number,
-            store.as_mut_ptr(),
-            store.len(),
-            key.as_mut_ptr(),
-            key.len(),
-            counts.as_mut_ptr(),
-            counts.len(),
-        )
-    }
 }
 
 /// A refusal leaves the store as it was.
@@ -158,4 +127,57 @@ pub fn catalogue_find(store: &[u8], key: &[u8], counts: &mut [usize]) -> u32 {
     // SAFETY: each pointer comes with the length of its slice. The call writes only the counts,
     // which no other slice overlaps.
     unsafe { arib_catalogue_find(bytes, store.len(), sought, key.len(), found, counts.len()) }
+}
+
+unsafe extern "C" {
+    fn arib_bookmark_return(
+        cells: *const u16,
+        cells_len: usize,
+        initial: u32,
+        width: u32,
+        input: *const u8,
+        input_len: usize,
+        name: u32,
+        store: *const u32,
+        store_len: usize,
+        text: *mut u8,
+        text_len: usize,
+        issues: *mut u32,
+        issues_len: usize,
+        counts: *mut usize,
+        counts_len: usize,
+    ) -> u32;
+}
+
+/// Counts: those of `decode`, of the rest; the charge is the whole reading's.
+#[inline]
+pub fn bookmark_return(
+    call: Call,
+    name: u32,
+    store: &[u32],
+    text: &mut [u8],
+    issues: &mut [u32],
+    counts: &mut [usize],
+) -> u32 {
+    // SAFETY: each pointer comes with the length of its slice. The call writes only the buffers and
+    // the counts, which no other slice overlaps.
+    unsafe {
+        arib_bookmark_return(
+            call.cells.as_ptr(),
+            call.cells.len(),
+            call.initial,
+            call.width,
+            call.input.as_ptr(),
+            call.input.len(),
+            name,
+            store.as_ptr(),
+            store.len(),
+            text.as_mut_ptr(),
+            text.len(),
+            issues.as_mut_ptr(),
+            issues.len(),
+            counts.as_mut_ptr(),
+            counts.len(),
+        )
+    }
 }

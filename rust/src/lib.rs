@@ -28,8 +28,10 @@
 //! is an issue's place in the text, which a program that spells out an [`Issue`] has to name too;
 //! [`Decoded::private_use`] counts the private-use characters of the text, and likewise has to be
 //! named. A title that has any gets no key, for [`Reason::PrivateUse`]. A [`Catalogue`] holds
-//! titles by number and finds them by key, two spellings of one series together.
+//! titles by number and finds them by key, two spellings of one series together. [`Bookmarks`] name
+//! places of a string, from which its reading goes on.
 
+pub mod bookmarks;
 mod buffers;
 pub mod catalogue;
 mod cells;
@@ -43,6 +45,7 @@ pub mod measure;
 pub mod reason;
 pub mod sets;
 
+pub use bookmarks::{Bookmark, Bookmarks};
 pub use catalogue::{Catalogue, Found};
 pub use clean::clean_with;
 pub use decode::{

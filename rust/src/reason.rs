@@ -4,11 +4,12 @@ use std::fmt;
 
 use crate::decode::Refused;
 
-/// Why decoding, measuring, asking for issues or a key, or a call of a [`Catalogue`] is refused.
-/// Other questions do not fail: the cell table and the options are the crate's own, and its buffers
-/// grow.
+/// Why decoding, measuring, asking for issues or a key, or a call of a [`Catalogue`] or of
+/// [`Bookmarks`] is refused. Other questions do not fail: the cell table and the options are the
+/// crate's own, and its buffers grow.
 ///
 /// [`Catalogue`]: crate::Catalogue
+/// [`Bookmarks`]: crate::Bookmarks
 #[derive(Debug, Clone, Copy, PartialEq, Eq, Hash)]
 #[non_exhaustive]
 pub enum Reason {
@@ -25,6 +26,13 @@ pub enum Reason {
     KeyTooLong,
     /// 14: the catalogue to be added to has 1,024 entries.
     CatalogueFull,
+    /// 15: the bookmarks do not match the call. The name is above 15 or, on resuming, not set; the
+    /// string to resume is not the one of the setting; of numbers to make bookmarks from, the
+    /// length or the form is another.
+    BookmarkMismatch,
+    /// 16: no bookmark can stand at the place: it is within a step or behind the end, or more than
+    /// sixteen marks wait there.
+    BookmarkPlace,
 }
 
 impl Refused {
@@ -47,6 +55,8 @@ impl Refused {
             12 => Some(Reason::CatalogueMismatch),
             13 => Some(Reason::KeyTooLong),
             14 => Some(Reason::CatalogueFull),
+            15 => Some(Reason::BookmarkMismatch),
+            16 => Some(Reason::BookmarkPlace),
             _ => None,
         }
     }
@@ -63,6 +73,10 @@ impl fmt::Display for Reason {
             }
             Reason::KeyTooLong => "the key has more than 255 bytes",
             Reason::CatalogueFull => "the catalogue has 1,024 entries",
+            Reason::BookmarkMismatch => {
+                "the name is above 15 or not set, or numbers are no bookmarks of the string"
+            }
+            Reason::BookmarkPlace => "no bookmark can stand at the place",
         })
     }
 }

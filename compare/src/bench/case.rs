@@ -1,6 +1,6 @@
 //! What a case of the benchmark is.
 
-use super::Stock;
+use super::{Stock, middle};
 use crate::call::{Call, CodingRooms, Rooms};
 use crate::cells;
 use crate::coding::{Coder, Coding};
@@ -24,6 +24,10 @@ pub enum Work {
     Find(Stock),
     /// A title added to a catalogue with the number 0, before all others, and removed again.
     AddRemove(Stock),
+    /// A bookmark set in the middle.
+    Set,
+    /// A return to one there, in buffers that just suffice.
+    Return,
 }
 
 /// Room for the key of a title that is added: 255 full-width letters.
@@ -56,13 +60,13 @@ impl Case {
 }
 
 impl Ready {
-    /// The lengths of what is lent: text and issues, the key alone, nothing, or store and coding; of
-    /// a catalogue the key and the entries that it holds.
+    /// The lengths of what is lent: text and issues, the key alone, nothing, or store and coding;
+    /// of a catalogue the key and the entries that it holds.
     pub fn rooms(&self) -> [usize; 2] {
         match self.work {
             Work::Decode(Rooms { text, issues }) => [text, issues],
             Work::Key(text) => [text, 0],
-            Work::Clean | Work::Measure | Work::Crate => [0, 0],
+            Work::Clean | Work::Measure | Work::Crate | Work::Set | Work::Return => [0, 0],
             Work::Find(stock) => [0, stock.entries(MOST).len()],
             Work::AddRemove(stock) => [ADDED, stock.entries(MOST - 1).len()],
             Work::Code => {
@@ -70,6 +74,12 @@ impl Ready {
                 [self.store.unwrap_or(store), coding]
             }
         }
+    }
+
+    /// Each input with the place of its bookmark.
+    pub fn middles(&self) -> Vec<(&[u8], usize)> {
+        let with = |input| (input, middle(Call { input, ..self.call }));
+        self.inputs.iter().map(|input| with(input.as_slice())).collect()
     }
 
     /// The numbers of the store that a case of coding needs, and four for each state.

@@ -68,6 +68,20 @@ pub const MEASURE: &[Case] = &[
     same("measure-macro-empty", Work::Measure, MACRO_EMPTY),
 ];
 
+/// Bookmarks that are set, and returned to.
+pub const SET: &[Case] = &[
+    same("set-titles", Work::Set, TITLES),
+    same("set-kanji", Work::Set, KANJI),
+    same("set-mixed", Work::Set, MIXED),
+    same("set-marks", Work::Set, MARKS),
+];
+pub const RETURN: &[Case] = &[
+    same("return-titles", Work::Return, TITLES),
+    same("return-kanji", Work::Return, KANJI),
+    same("return-mixed", Work::Return, MIXED),
+    same("return-marks", Work::Return, MARKS),
+];
+
 /// Decoding by the crate: what fits its first buffers, text that does not, issues that do not.
 pub const CRATE: &[Case] = &[
     same("crate-titles", Work::Crate, TITLES),

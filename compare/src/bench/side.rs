@@ -4,6 +4,7 @@ use std::hint::black_box;
 
 use isdb_text::{decode_with, encode_with};
 
+use super::bookmark::{go_on, half, set};
 use super::{Ready, Work};
 use crate::call::Call;
 use crate::entries::MOST;
@@ -25,6 +26,9 @@ pub enum Side {
     /// The subject's `arib_key` of the titles that are added to a catalogue, in the same buffer; of
     /// keys that are sought nothing.
     Key,
+    /// The subject's `arib_measure` of what is before a bookmark that is set, or `arib_decode` of
+    /// what is behind one that is returned to, in a buffer that just suffices.
+    Half,
     /// `arib_decode` with no buffers and an option that question 2 refuses: question 1 alone.
     Question,
 }
@@ -39,6 +43,7 @@ impl Side {
             "subject" => Some(Side::Subject),
             "exact" => Some(Side::Exact),
             "key" => Some(Side::Key),
+            "half" => Some(Side::Half),
             "question" => Some(Side::Question),
             _ => None,
         }
@@ -52,6 +57,7 @@ impl Side {
             Side::Subject => own(subject, case),
             Side::Exact => exact(subject, case),
             Side::Key => keyed(subject, case),
+            Side::Half => half(subject, case),
             Side::Question => question(subject, case),
         }
     }
@@ -78,6 +84,7 @@ fn rust(case: &Ready) -> Runner<'_> {
             })
         }
         Work::Find(_) | Work::AddRemove(_) => panic!("the Rust has no catalogue"),
+        Work::Set | Work::Return => panic!("the Rust has no bookmarks"),
     }
 }
 
@@ -121,6 +128,8 @@ fn own<'a>(subject: &'a dyn Subject, case: &'a Ready) -> Runner<'a> {
                 assert_eq!(subject.remove(&mut store, 0), 0);
             })
         }
+        Work::Set => set(subject, case),
+        Work::Return => go_on(subject, case),
     }
 }
 

@@ -1,6 +1,6 @@
 //! The tables: whose calls are measured, and on what.
 
-use super::cases::{CATALOGUE, CODE, CRATE, MEASURE, READ};
+use super::cases::{CATALOGUE, CODE, CRATE, MEASURE, READ, RETURN, SET};
 use super::{Case, Side};
 
 /// Cases that are measured alike.
@@ -37,7 +37,7 @@ const fn subject(head: &'static str, off: bool) -> Column {
     Column { head, side: Side::Subject, off }
 }
 
-static TABLES: [Table; 5] = [
+static TABLES: [Table; 7] = [
     Table {
         name: "read",
         lent: &["text room", "issue room"],
@@ -54,6 +54,26 @@ static TABLES: [Table; 5] = [
         ],
         compared: Compared::Ratio,
         cases: MEASURE,
+    },
+    Table {
+        name: "set",
+        lent: &[],
+        sides: [
+            Column { head: "measuring", side: Side::Half, off: false },
+            subject("setting", false),
+        ],
+        compared: Compared::Ratio,
+        cases: SET,
+    },
+    Table {
+        name: "return",
+        lent: &[],
+        sides: [
+            Column { head: "decoding", side: Side::Half, off: false },
+            subject("returning", false),
+        ],
+        compared: Compared::Ratio,
+        cases: RETURN,
     },
     Table {
         name: "code",

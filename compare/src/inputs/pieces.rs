@@ -10,7 +10,7 @@ const CODES: [u8; 12] = [0x21, 0x22, 0x23, 0x24, 0x7E, 0x60, 0x61, 0x64, 0x6A, 0
 /// A weight, and what writes the piece.
 type Piece = (usize, fn(&mut Writer));
 
-const PIECES: [Piece; 21] = [
+static PIECES: [Piece; 21] = [
     (16, Writer::kanji),
     (8, Writer::by_a_way),
     (12, Writer::kana),
@@ -38,7 +38,7 @@ impl Writer {
     /// One piece.
     pub fn piece(&mut self) {
         let mut left = self.random.below(PIECES.iter().map(|(weight, _)| weight).sum());
-        for (weight, write) in PIECES {
+        for &(weight, write) in &PIECES {
             if left < weight {
                 return write(self);
             }
@@ -155,7 +155,7 @@ impl Writer {
         }
     }
 
-    fn repeat(&mut self) {
+    pub(super) fn repeat(&mut self) {
         let any = self.random.byte(0, 0xFF);
         let count = self.random.one_of(&[0x40, 0x41, 0x42, 0x43, 0x48, 0x00, 0x80, any]);
         self.put(&[0x98, count]);
@@ -223,7 +223,7 @@ impl Writer {
     }
 
     /// A body of pieces, other definitions begun within included.
-    fn macro_definition(&mut self) {
+    pub(super) fn macro_definition(&mut self) {
         if self.depth > 2 {
             return;
         }
@@ -238,7 +238,7 @@ impl Writer {
     }
 
     /// By SS3, or as a bare byte where GL or GR holds Macro.
-    fn macro_call(&mut self) {
+    pub(super) fn macro_call(&mut self) {
         let code = self.half() | self.code();
         match self.random.below(3) {
             0 => self.put(&[code]),

@@ -18,6 +18,7 @@ pub const PLANE_2: Set = 13;
 pub const ADDITIONAL: Set = 14;
 pub const MACRO: Set = 15;
 pub const DRCS_0: Set = 16;
+pub const LAST: Set = 31;
 
 /// The sets of G0 to G3 at the start; GL is G0 and GR is G2.
 pub fn at_start(caption: bool) -> [Set; 4] {

@@ -44,6 +44,21 @@ impl Subject for Library {
     fn find(&self, store: &[u8], key: &[u8], counts: &mut [usize]) -> u32 {
         ffi::catalogue_find(store, key, counts)
     }
+
+    fn set(
+        &self,
+        call: Call,
+        place: usize,
+        name: u32,
+        store: &mut [u32],
+        counts: &mut [usize],
+    ) -> u32 {
+        ffi::bookmark_set(given(call), place, name, store, counts)
+    }
+
+    fn go_on(&self, call: Call, name: u32, store: &[u32], lent: Lent) -> u32 {
+        ffi::bookmark_return(given(call), name, store, lent.text, lent.issues, lent.counts)
+    }
 }
 
 fn given(Call { cells, initial, width, input }: Call) -> ffi::Call {

@@ -8,18 +8,16 @@ use super::{CatalogueLent, CodingLent, Lent, Subject};
 use crate::call::{Call, CodingRooms, Rooms, numbered, question};
 use crate::coding::{Coder, Coding};
 use crate::entries::{self, Entries, Form};
-use crate::key;
 use crate::model::Reading;
+use crate::{bookmark, key};
 
 pub struct StandIn;
 
 impl Subject for StandIn {
     fn decode(&self, call: Call, lent: Lent) -> u32 {
-        let rooms = Rooms { text: lent.text.len(), issues: lent.issues.len() };
+        let rooms = rooms(&lent);
         let (number, reading) = read(call, |reading| rooms.questions(reading));
-        write(lent.text, &reading.text);
-        write(lent.issues, reading.issues.as_flattened());
-        leave(lent.counts, reading.counts());
+        give(lent, &reading);
         number
     }
 
@@ -81,6 +79,45 @@ impl Subject for StandIn {
         leave(counts, [0, entries, smallest]);
         found.err().unwrap_or(0)
     }
+
+    fn set(
+        &self,
+        call: Call,
+        place: usize,
+        name: u32,
+        store: &mut [u32],
+        counts: &mut [usize],
+    ) -> u32 {
+        let set = bookmark::set(call, place, name, store);
+        if let Ok(numbers) = set {
+            *bookmark::named_mut(store, name) = numbers;
+        }
+        leave(counts, [0]);
+        set.err().unwrap_or(0)
+    }
+
+    fn go_on(&self, call: Call, name: u32, store: &[u32], lent: Lent) -> u32 {
+        let rest = bookmark::go_on(call, name, store);
+        let rest = rest.and_then(|rest| match rooms(&lent).questions(&rest) {
+            0 => Ok(rest),
+            number => Err(number),
+        });
+        let number = rest.as_ref().err().copied().unwrap_or(0);
+        give(lent, &rest.unwrap_or_default());
+        number
+    }
+}
+
+/// The lengths of what is lent.
+fn rooms(lent: &Lent) -> Rooms {
+    Rooms { text: lent.text.len(), issues: lent.issues.len() }
+}
+
+/// A reading in what is lent.
+fn give(lent: Lent, reading: &Reading) {
+    write(lent.text, &reading.text);
+    write(lent.issues, reading.issues.as_flattened());
+    leave(lent.counts, reading.counts());
 }
 
 /// The store holds these entries from now on, or stays as it is: the refusal's number, or 0.

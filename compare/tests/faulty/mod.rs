@@ -16,6 +16,9 @@ pub struct Faulty {
     pub add: Adding,
     pub remove: Removing,
     pub find: Finding,
+    /// The whole of the calls of bookmarks.
+    pub set: Setting,
+    pub go_on: Returning,
 }
 
 /// A call that is lent a buffer for a key, and counts.
@@ -29,6 +32,10 @@ pub type Adding = fn(Call, u32, CatalogueLent) -> u32;
 pub type Removing = fn(&mut [u8], u32) -> u32;
 pub type Finding = fn(&[u8], &[u8], &mut [usize]) -> u32;
 
+/// Calls of bookmarks.
+pub type Setting = fn(Call, usize, u32, &mut [u32], &mut [usize]) -> u32;
+pub type Returning = fn(Call, u32, &[u32], Lent) -> u32;
+
 /// The model but for the parts.
 pub const SOUND: Faulty = Faulty {
     reading: |_, _| {},
@@ -39,6 +46,8 @@ pub const SOUND: Faulty = Faulty {
     add: |call, number, lent| model().add(call, number, lent),
     remove: |store, number| model().remove(store, number),
     find: |store, key, counts| model().find(store, key, counts),
+    set: |call, place, name, store, counts| model().set(call, place, name, store, counts),
+    go_on: |call, name, store, lent| model().go_on(call, name, store, lent),
 };
 
 impl Subject for Faulty {
@@ -84,5 +93,20 @@ impl Subject for Faulty {
 
     fn find(&self, store: &[u8], key: &[u8], counts: &mut [usize]) -> u32 {
         (self.find)(store, key, counts)
+    }
+
+    fn set(
+        &self,
+        call: Call,
+        place: usize,
+        name: u32,
+        store: &mut [u32],
+        counts: &mut [usize],
+    ) -> u32 {
+        (self.set)(call, place, name, store, counts)
+    }
+
+    fn go_on(&self, call: Call, name: u32, store: &[u32], lent: Lent) -> u32 {
+        (self.go_on)(call, name, store, lent)
     }
 }

@@ -354,14 +354,7 @@ fn with_settings(s: Core, settings: [u8; 7], len: usize, private_use: u32) -> Co
 }
 
 /// A run of characters and controls from the byte `from` on, which begin before the byte `to`.
-pub fn letters(
-    cells: &[u16],
-    b: &[u8],
-    from: usize,
-    to: usize,
-    s: Core,
-    text: &mut [u8],
-) -> Far
+pub fn letters(cells: &[u16], b: &[u8], from: usize, to: usize, s: Core, text: &mut [u8]) -> Far
     requires { ⌜ (from ≤ length (now b)) × (to ≤ length (now b)) × (length (now b) ≤ 65535) ⌝ }
     requires { ⌜ MayTake (length (now b) - from) s ⌝ }
     ensures { λ r. ⌜ ((base origin : ℕ) (i : List ℕ) → Stretch (now (cells .entry)) base origin (now (b .entry)) to from s (now (text .entry)) i (r .at) (r .core) (now (text .exit)) i) ⌝ }

@@ -25,8 +25,10 @@ use Rattle.key.specs.declared.KeyAnswer.{KeyAnswer}
 use Rattle.catalogue.specs.Catalogue as catalogue
 use Rattle.catalogue.specs.Contracts as catalogues
 use Rattle.catalogue.specs.declared.Found as found
+use Rattle.bookmark.specs.Bookmark as bookmark
+use Rattle.bookmark.specs.Contracts as bookmarks
 use Rattle.text_counts.specs.Counts.{fronted, escapeStart}
-use Rattle.text.specs.Calls.{counts, Decodes, Escapes, measureCounts, Measures, cleanCounts, Cleans, keyCounts, Keys, addCounts, Adds, findCounts, Finds, codingCounts, Codes}
+use Rattle.text.specs.Calls.{counts, Decodes, Escapes, measureCounts, Measures, cleanCounts, Cleans, keyCounts, Keys, addCounts, Adds, findCounts, Finds, Sets, Returns, codingCounts, Codes}
 
 -- an answer whose numbers were reported
 pub decodes : {c : Lent} {a : Answer} {before after t i : List ℕ} {n p x y z u : ℕ} → decoded.Answered c a t i
@@ -39,6 +41,21 @@ decodes v n p x y z u e = record {
   written = v .written;
   listed = v .listed;
 }
+
+-- so of the rest of a reading
+pub returns-to : {c : bookmark.Returning} {a : Answer} {before after t i : List ℕ} {n p x y z u : ℕ} → bookmarks.Returns c a t i
+    → n ≡ decoded.numberOf a → p ≡ decoded.placeOf a → x ≡ decoded.textOf a → y ≡ decoded.issuesOf a → z ≡ decoded.chargedOf a → u ≡ decoded.privateUseOf a
+    → after ≡ fronted before (p ∷ x ∷ y ∷ z ∷ u ∷ []) → Returns c before n t i after
+unfolding counts
+returns-to v n p x y z u e = record {
+  number = n ∙ v .number;
+  counted = e ∙ rw (p ∙ v .place, x ∙ v .counted, y ∙ v .reported, z ∙ v .charged, u ∙ v .private-use) refl;
+  written = v .written;
+  listed = v .listed;
+}
+
+pub sets-to : {c : bookmark.Setting} {n : ℕ} {before after s : List ℕ} → bookmarks.Sets c n s → after ≡ fronted before (0 ∷ []) → Sets c before n s after
+sets-to v e = record { number = v .number; counted = e; stored = v .stored }
 
 pub measured : {c : unbuffered.Lent} {a : MeasureAnswer} {before after : List ℕ} {n p x y z : ℕ} → measures.Answered c a
     → n ≡ measures.numberOf a → p ≡ measures.placeOf a → x ≡ measures.textOf a → y ≡ measures.issuesOf a → z ≡ measures.chargedOf a

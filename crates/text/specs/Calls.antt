@@ -10,6 +10,7 @@ use Rattle.measure.specs.Measure as measure
 use Rattle.clean.specs.Clean as clean
 use Rattle.key.specs.Key as key
 use Rattle.catalogue.specs.Catalogue as catalogue
+use Rattle.bookmark.specs.Bookmark as bookmark
 use Rattle.text_counts.specs.Counts.{fronted, escapeStart}
 
 -- The counts of a decoding: place, bytes of text, issues, charge, private-use characters. "A refusal gives the number and the byte place (0 except for 4, 5, 6), with all counts
@@ -82,6 +83,19 @@ findCounts o = 0 ∷ o .entries ∷ o .number ∷ []
 pub record Finds (store k before : List ℕ) (r : ℕ) (after : List ℕ) : Type 0 where
   pub number : r ≡ catalogue.found store k .refused
   pub counted : after ≡ fronted before (findCounts (catalogue.found store k))
+
+-- the number of the refusal as the result (0: none), the place as the only count, 0, and every number of the store: a setting asks none of 4, 5 and 6
+pub record Sets (c : bookmark.Setting) (before : List ℕ) (r : ℕ) (store after : List ℕ) : Type 0 where
+  pub number : r ≡ bookmark.wasSet c .refused
+  pub counted : after ≡ fronted before (0 ∷ [])
+  pub stored : store ≡ bookmark.wasSet c .store
+
+-- the number of the refusal as the result (0: none), the counts as a decoding has them, and every element of both buffers
+pub record Returns (c : bookmark.Returning) (before : List ℕ) (r : ℕ) (text issues after : List ℕ) : Type 0 where
+  pub number : r ≡ bookmark.returned c .refused
+  pub counted : after ≡ fronted before (counts (bookmark.returned c))
+  pub written : text ≡ bookmark.returned c .textBuffer
+  pub listed : issues ≡ bookmark.returned c .issueBuffer
 
 -- The counts of a coding: place, bytes of the coding, gap.
 unfoldable pub codingCounts : coding.Outcome → List ℕ

@@ -4,8 +4,9 @@ ghost use Rattle.decode.specs.Answers.{lent};
 ghost use Rattle.reading.specs.WithoutBuffers as unbuffered;
 ghost use Rattle.key.specs.Contracts as keys;
 ghost use Rattle.catalogue.specs.Contracts as catalogues;
+ghost use Rattle.bookmark.specs.Contracts as bookmarks;
 ghost use Rattle.encode.specs.Answers as codes;
-ghost use Rattle.text.specs.Calls.{Decodes, Escapes, Measures, Cleans, Keys, Adds, Removes, Finds, Codes};
+ghost use Rattle.text.specs.Calls.{Decodes, Escapes, Measures, Cleans, Keys, Adds, Removes, Finds, Sets, Returns, Codes};
 
 /// `decode_with`: the counts are the place of a refusal, then the text's bytes, the issues, the charge
 /// and the private-use characters. Answers the number of the refusal, 0 for none.
@@ -150,6 +151,56 @@ pub extern "C" fn arib_catalogue_find(store: &[u8], key: &[u8], counts: &mut [us
     let numbers = [found.entries, found.number as usize];
     text_counts::report(counts, 0, &numbers);
     found.refused
+}
+
+/// Names a place of an input in a store of bookmarks: the counts are the place of a refusal. Answers the number of the
+/// refusal, 0 for none.
+#[no_mangle]
+pub extern "C" fn arib_bookmark_set(
+    cells: &[u16],
+    initial: u32,
+    width: u32,
+    input: &[u8],
+    place: usize,
+    name: u32,
+    store: &mut [u32],
+    counts: &mut [usize],
+) -> u32
+    ensures { λ r. ⌜ Sets (bookmarks.setting (unbuffered.lent (now (cells .entry)) initial width (now (input .entry))) place name (now (store .entry)))
+        (now (counts .entry)) r (now (store .exit)) (now (counts .exit)) ⌝ }
+{
+    let refused = bookmark::set(cells, initial, width, input, place, name, store);
+    let nothing = [0usize; 0];
+    text_counts::report(counts, 0, &nothing);
+    refused
+}
+
+/// Returns to a named place: the counts are those of `arib_decode`, of the rest, and the charge of the whole reading.
+/// Answers the number of the refusal, 0 for none.
+#[no_mangle]
+pub extern "C" fn arib_bookmark_return(
+    cells: &[u16],
+    initial: u32,
+    width: u32,
+    input: &[u8],
+    name: u32,
+    store: &[u32],
+    text: &mut [u8],
+    issues: &mut [u32],
+    counts: &mut [usize],
+) -> u32
+    ensures { λ r. ⌜ Returns (bookmarks.returning (unbuffered.lent (now (cells .entry)) initial width (now (input .entry))) name (now (store .entry))
+        (now (text .entry)) (now (issues .entry))) (now (counts .entry)) r (now (text .exit)) (now (issues .exit)) (now (counts .exit)) ⌝ }
+{
+    let rest = bookmark::return_to(cells, initial, width, input, name, store, text, issues);
+    let numbers = [
+        decode::values::text(rest),
+        decode::values::issues(rest),
+        decode::values::charged(rest),
+        decode::values::private_use(rest),
+    ];
+    text_counts::report(counts, decode::values::place(rest), &numbers);
+    decode::values::number(rest)
 }
 
 /// `encode_with`: the counts are the place of a refusal, then the coding's bytes and the gap. Answers

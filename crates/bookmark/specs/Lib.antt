@@ -1,0 +1,3 @@
+pub mod Bookmark
+pub mod Contracts
+pub mod Laws

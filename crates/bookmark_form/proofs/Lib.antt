@@ -1,0 +1,4 @@
+pub mod Below
+pub mod Resumes
+pub mod Places
+pub mod Passing

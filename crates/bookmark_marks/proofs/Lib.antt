@@ -1,0 +1,4 @@
+pub mod Digits
+pub mod Unpacking
+pub mod Packing
+pub mod Restoring
