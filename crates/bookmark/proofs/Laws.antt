@@ -7,23 +7,23 @@ use native.Mathlib.Decide.{ℕ-discrete}
 use native.Mathlib.Omega.{arith}
 use borrow.Author.Tests.{le-leb, eq-eqb, leb-true, ltb-true, ltb-false}
 use lib.Dec.{eqb, ltb, leb}
-use lib.ListN.{length, take, drop, getD}
+use lib.ListN.{length, drop, getD}
 use lib.Seq.{getD-take, getD-drop}
 use Rattle.utf8.specs.Utf8.{utf8s}
 use Rattle.private_use.specs.PrivateUse.{privateUse}
 use Rattle.questions.specs.Buffer.{padded}
 use Rattle.issues.specs.Issue.{Issue, issuesNumbers}
 use Rattle.decode_output.specs.Output.{release}
-use Rattle.reading.specs.State.{Given, State, start, writes}
+use Rattle.reading.specs.State.{State, writes}
 use Rattle.reading.specs.Steps.{steps, run, decode}
-use Rattle.reading.specs.Between.{Between, before, rest}
+use Rattle.reading.specs.Between.{before, rest}
 use Rattle.reading.specs.Call as decoding
 use Rattle.reading.specs.WithoutBuffers as unbuffered
 use Rattle.laws_behind.specs.Behind.{behind}
 use Rattle.laws_behind.proofs.Behind.{reads-alike}
 use Rattle.laws_between.specs.Between.{Sound}
 use Rattle.laws_between.proofs.Between.{between-sound, between-within, steps-on}
-use Rattle.bookmark_form.specs.Numbers.{numbers, placeOf, textLength, stateOf}
+use Rattle.bookmark_form.specs.Numbers.{numbers, placeOf, stateOf}
 use Rattle.bookmark_form.specs.Form.{isStore, named, resumable, allBelow}
 use Rattle.bookmark_form.proofs.Below.{below-at, below-all}
 use Rattle.bookmark_form.proofs.Places.{length-numbers, head-of, text-at, state-of-numbers}

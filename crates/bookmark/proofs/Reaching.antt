@@ -1,6 +1,6 @@
 -- A setting: what was reached, and what is stored. Assumes nothing.
 use Prim.Native.Nat.{ℕ, _+_, _*_, _≤_, _<_}
-use mathlib.Core.Path.{_≡_, refl, sym, ap, _∙_}
+use mathlib.Core.Path.{_≡_, refl, ap, _∙_}
 use mathlib.Core.Bool.{Bool, true, false}
 use mathlib.Core.List.{List, _++_, append-assoc}
 use mathlib.Core.Logic.{inl, inr}
@@ -11,11 +11,8 @@ use lib.Dec.{eqb, leb}
 use borrow.Author.Tests.{eqb-true, leb-true, leb-false}
 use Rattle.lent.specs.Put.{Put}
 use Rattle.questions.proofs.Refusals.{passed}
-use Rattle.decode_output.specs.declared.Out.{Out}
-use Rattle.decode_output.specs.Output.{nothing}
 use Rattle.decode_output.proofs.Held.{held-waiting}
-use Rattle.utf8.specs.Utf8.{utf8s}
-use Rattle.reading.specs.State.{Given, given, start}
+use Rattle.reading.specs.State.{given, start}
 use Rattle.reading.specs.Macros.{limit}
 use Rattle.reading.specs.Between.{before}
 use Rattle.reading.specs.WithoutBuffers as unbuffered
@@ -24,8 +21,7 @@ use Rattle.decode_state.specs.declared.Decoder.{Decoder}
 use Rattle.decode_state.specs.Contracts.{startOf, undefined, Holds}
 use Rattle.decode_outer.specs.declared.Reached.{Reached}
 use Rattle.decode_outer.specs.Contracts.{stepsFrom, ReachesOrCut, TopRan}
-use Rattle.decode_outer.proofs.Start.{end-start, enough-end, issues-end, outside-start, reached-start}
-use Rattle.bookmark_form.specs.Numbers.{numbers}
+use Rattle.decode_outer.proofs.Start.{end-start, enough-end, issues-end, reached-start}
 use Rattle.bookmark_form.specs.Form.{isStore, allBelow}
 use Rattle.bookmark_marks.proofs.Packing.{packed-few, packed-many}
 use Rattle.bookmark.specs.Bookmark.{replaced}

@@ -5,7 +5,7 @@ use mathlib.Core.Bool.{true}
 use mathlib.Core.List.{List, [], _++_}
 use lib.ListN.{length}
 use Rattle.decode_output.specs.Output.{Output}
-use Rattle.reading.specs.State.{Given, State, writes}
+use Rattle.reading.specs.State.{Given, writes}
 use Rattle.reading.specs.Between.{before}
 use Rattle.reading.specs.WithoutBuffers as unbuffered
 use Rattle.bookmark_form.specs.Numbers.{numbers}

@@ -1,7 +1,7 @@
 -- The waiting marks out of the decoder's number (crate decode_output, specs/Waiting.antt), by its octal digits.
 use Prim.Native.Nat.{ℕ, zero, suc, _/_, _%_}
 use mathlib.Core.Bool.{cond}
-use mathlib.Core.List.{List, [], _∷_}
+use mathlib.Core.List.{List, _∷_}
 use lib.Dec.{eqb}
 use Rattle.decode_output.specs.Waiting.{markOf}
 

@@ -1,6 +1,6 @@
 -- The decoder at the state that a bookmark's numbers say. Assumes nothing.
 use Prim.Native.Nat.{ℕ, suc, _+_, _-_, _≤_, _<_}
-use mathlib.Core.Path.{_≡_, refl, sym, ap, _∙_, subst}
+use mathlib.Core.Path.{_≡_, refl, sym, ap, _∙_}
 use mathlib.Core.Bool.{Bool, true, false}
 use mathlib.Core.List.{List, [], _∷_, map}
 use native.Mathlib.Decide.{ℕ-discrete}
@@ -11,7 +11,6 @@ use lib.ListN.{List·getD-eq-default, length, take, drop, getD, set, length-set,
 use lib.Seq.{ext-getD, getD-take, getD-drop, getD-set-same, getD-set-other, length-take-le}
 use Rattle.decode_output.specs.declared.Out.{Out}
 use Rattle.decode_output.specs.Contracts as output
-use Rattle.reading.specs.State.{given}
 use Rattle.reading.specs.Macros.{endOf, limit}
 use Rattle.decode_state.specs.declared.Core.{Core}
 use Rattle.decode_state.specs.Contracts.{whole}

@@ -2,7 +2,7 @@
 use Prim.Native.Nat.{ℕ, _-_, _≤_}
 use mathlib.Core.Path.{_≡_, refl, sym, ap, _∙_, subst}
 use mathlib.Core.List.{List}
-use mathlib.Core.Logic.{_⊎_, inl, inr}
+use mathlib.Core.Logic.{inl, inr}
 use native.Mathlib.Omega.{arith}
 use lib.ListN.{length, drop}
 use Rattle.private_use.specs.PrivateUse.{privateUse}
@@ -13,14 +13,14 @@ use Rattle.decode_output.specs.Contracts as output
 use Rattle.reading.specs.State.{Given, State, given, start}
 use Rattle.reading.specs.Macros.{limit}
 use Rattle.reading.specs.Steps.{run}
-use Rattle.reading.specs.Between.{Between, until}
+use Rattle.reading.specs.Between.{until}
 use Rattle.decode_state.specs.declared.Core.{Core}
 use Rattle.decode_state.specs.declared.Decoder.{Decoder}
-use Rattle.decode_state.specs.Contracts.{startOf, undefined, whole, Holds, Cut, HoldsOrCut}
+use Rattle.decode_state.specs.Contracts.{startOf, undefined, Holds, Cut, HoldsOrCut}
 use Rattle.decode_state.proofs.Begun.{holds-start}
 use Rattle.decode_state.proofs.Steps.{until-all}
-use Rattle.decode_bodies.specs.Contracts.{below, Inside, Ready, Grown}
-use Rattle.decode_bodies.proofs.Along.{stepsTo, Went}
+use Rattle.decode_bodies.specs.Contracts.{below, Inside}
+use Rattle.decode_bodies.proofs.Along.{Went}
 use Rattle.decode_outer.specs.declared.Reached.{Reached}
 use Rattle.decode_outer.specs.Contracts.{Outside, stepsFrom, ReachesOrCut, TopRan}
 use Rattle.decode_outer.proofs.Defining.{inside-start}

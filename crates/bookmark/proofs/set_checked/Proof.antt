@@ -1,5 +1,4 @@
 -- `set_checked`: the steps up to the place, 16, or the numbers of the state there. Assumes nothing.
-use Prim.Native.Nat.{ℕ}
 use mathlib.Core.Path.{_≡_, refl, sym, _∙_}
 use mathlib.Core.Bool.{true, false}
 use native.Mathlib.Omega.{arith}

@@ -1,5 +1,4 @@
 -- `decoder` meets its contract. Assumes nothing.
-use mathlib.Core.Path.{_≡_}
 use native.Mathlib.Omega.{arith}
 use borrow.Author.Needs.{needs}
 use Rattle.bookmark_form.proofs.Resumes.{settings-known, counts-known, bodies-known, resumable-known}

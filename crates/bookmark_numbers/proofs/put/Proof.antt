@@ -1,5 +1,4 @@
 -- `put` meets its contract: the parts of the numbers stand one behind the other. Assumes nothing.
-use Prim.Native.Nat.{ℕ}
 use mathlib.Core.Path.{_≡_, ap, _∙_}
 use native.Mathlib.Omega.{arith}
 use borrow.Author.Needs.{needs}

@@ -1,9 +1,9 @@
 -- `put_starts` meets its contract. The invariant: the first i numbers are written. Assumes nothing.
 use Prim.Native.Nat.{_-_, _≤_}
-use mathlib.Core.Path.{_≡_, refl, sym, ap, _∙_}
+use mathlib.Core.Path.{_≡_, refl, sym, _∙_}
 use native.Mathlib.Omega.{arith}
 use borrow.Author.Needs.{needs}
-use lib.ListN.{length, take, set, length-set}
+use lib.ListN.{length, take, length-set}
 use mathlib.Core.List.{map}
 use lib.Seq.{sets, take-all}
 use Rattle.lent.proofs.Stores.{sets-more}

@@ -1,10 +1,10 @@
 -- `read_bodies` meets its contract. The invariant: the first starts and lengths are read. Assumes nothing.
 use Prim.Native.Nat.{ℕ, _-_}
-use mathlib.Core.Path.{_≡_, refl, sym, ap, _∙_}
+use mathlib.Core.Path.{refl, sym, ap, _∙_}
 use mathlib.Core.List.{map}
 use native.Mathlib.Omega.{arith}
 use borrow.Author.Needs.{needs}
-use lib.ListN.{length, take, drop}
+use lib.ListN.{take, drop}
 use Rattle.bookmark_numbers.proofs.Reading.{Read, read-none, read-one, read-all, length-part, part-at, length-less, less-at}
 use Rattle.bookmark_numbers.proofs.read_bodies.Statement.{statement}
 use Rattle.bookmark_numbers.proofs.read_bodies.Tie as tie
