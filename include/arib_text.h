@@ -143,7 +143,7 @@ enum arib_bookmarks {
  * text that were written when the issue was reported, before the U+FFFD or the marks that it
  * brings; marks that still waited for their character are not counted. So the text up to it is what
  * came before the issue, and cutting there never cuts a character. Positions never fall along the
- * list, and none exceeds the text's length. Questions 1, 2, 3, 8, 9. Takes at most some 12,000
+ * list, and none exceeds the text's length. Questions 1, 2, 3, 8, 9. Takes at most some 14,000
  * bytes of stack on x86-64, by c/stack: macro bodies run four deep. */
 uint32_t arib_decode(const uint16_t *cells, size_t cells_len, uint32_t initial, uint32_t width,
                      const uint8_t *input, size_t input_len, uint8_t *text, size_t text_len,
@@ -169,7 +169,7 @@ uint32_t arib_encode(const uint16_t *cells, size_t cells_len, uint32_t initial, 
 /* The key of a title: its text without newline, U+0020 and U+3000, the full-width forms of the 94
  * alphanumerics made half-width (U+FFE5 becomes U+00A5; U+FF3C stays, since backslash is not one of
  * the 94). counts: place, bytes of the key, charge. The buffer must hold the text before removal.
- * Questions 1, 2, 3, 8, 10, 11. Takes at most some 13,000 bytes of stack on x86-64, by c/stack. */
+ * Questions 1, 2, 3, 8, 10, 11. Takes at most some 14,000 bytes of stack on x86-64, by c/stack. */
 uint32_t arib_key(const uint16_t *cells, size_t cells_len, uint32_t initial, uint32_t width,
                   const uint8_t *input, size_t input_len, uint8_t *key, size_t key_len,
                   size_t *counts, size_t counts_len);
@@ -177,7 +177,7 @@ uint32_t arib_key(const uint16_t *cells, size_t cells_len, uint32_t initial, uin
 /* Whether a title reads without issue, that is, whether arib_decode with room enough counts no
  * issue; marks that wait at the very end are one. counts: place, 1 if the title is clean and 0 if
  * it is not. Stops at the first issue, however deep in macro bodies, and needs no buffers, since
- * neither text nor issues are kept. Questions 1, 2, 3. Takes at most some 12,000 bytes of stack, as
+ * neither text nor issues are kept. Questions 1, 2, 3. Takes at most some 14,000 bytes of stack, as
  * arib_decode does. */
 uint32_t arib_clean(const uint16_t *cells, size_t cells_len, uint32_t initial, uint32_t width,
                     const uint8_t *input, size_t input_len, size_t *counts, size_t counts_len);
@@ -187,7 +187,7 @@ uint32_t arib_clean(const uint16_t *cells, size_t cells_len, uint32_t initial, u
  * ARIB_ISSUE_NUMBERS numbers an issue, arib_decode never answers 8 or 9; with a byte of text less
  * it answers 8, with an issue less 9, whatever remainder its buffer has. The bytes of text are also
  * what the buffer of arib_key must hold. Needs no buffers, since neither text nor issues are kept.
- * Questions 1, 2, 3. Takes at most some 12,000 bytes of stack, as arib_decode does. */
+ * Questions 1, 2, 3. Takes at most some 14,000 bytes of stack, as arib_decode does. */
 uint32_t arib_measure(const uint16_t *cells, size_t cells_len, uint32_t initial, uint32_t width,
                       const uint8_t *input, size_t input_len, size_t *counts, size_t counts_len);
 
@@ -204,7 +204,7 @@ uint32_t arib_measure(const uint16_t *cells, size_t cells_len, uint32_t initial,
 /* Adds a title under a number that no entry has. The buffer gets its key; it must hold the text
  * before removal, as that of arib_key. counts: place, bytes of the key, charge. Question 12 for the
  * store; then those of arib_key, 1, 2, 3, 8, 10, 11; then 12 for a number that is present, 13, 14.
- * Takes at most some 13,000 bytes of stack on x86-64, by c/stack. */
+ * Takes at most some 15,000 bytes of stack on x86-64, by c/stack. */
 uint32_t arib_catalogue_add(const uint16_t *cells, size_t cells_len, uint32_t initial,
                             uint32_t width, const uint8_t *title, size_t title_len,
                             uint32_t number, uint8_t *store, size_t store_len, uint8_t *key,
@@ -237,7 +237,7 @@ uint32_t arib_catalogue_find(const uint8_t *store, size_t store_len, const uint8
  * its parameters, a macro's definition with its body), outside macro bodies, or at the input's end.
  * Reads from the start to there with the whole input in view, so that the steps before it are those
  * of the whole reading; needs no buffers. counts: place, of a refusal, always 0. Questions 1, 2, 3,
- * 15, 16. Takes at most some 13,000 bytes of stack on x86-64, by c/stack. */
+ * 15, 16. Takes at most some 14,000 bytes of stack on x86-64, by c/stack. */
 uint32_t arib_bookmark_set(const uint16_t *cells, size_t cells_len, uint32_t initial,
                            uint32_t width, const uint8_t *input, size_t input_len, size_t place,
                            uint32_t name, uint32_t *store, size_t store_len, size_t *counts,
@@ -249,7 +249,7 @@ uint32_t arib_bookmark_set(const uint16_t *cells, size_t cells_len, uint32_t ini
  * the bookmark, ARIB_BOOKMARK_TEXT bytes, and the rest are what arib_decode gives, and likewise the
  * issues. Marks that wait at the bookmark stand in the rest, behind their base; buffers in which
  * the whole fits hold it. The store is not written. Questions 1, 2, 3, 15, 8, 9 in this order.
- * Takes at most some 13,000 bytes of stack on x86-64, by c/stack. */
+ * Takes at most some 14,000 bytes of stack on x86-64, by c/stack. */
 uint32_t arib_bookmark_return(const uint16_t *cells, size_t cells_len, uint32_t initial,
                               uint32_t width, const uint8_t *input, size_t input_len,
                               uint32_t name, const uint32_t *store, size_t store_len,

@@ -1,3 +1,4 @@
 pub mod Bookmark
 pub mod Contracts
 pub mod Laws
+pub mod Examples
