@@ -41,7 +41,8 @@ returns c =
     let entry = at-start .before .before .before in
     let a = entry .args in
     let short = passed (a .cells .now) (a .initial) (a .width) 65535 (length (a .input .now)) (entry .pre) .within in
-    answered-no (a .cells .now) (a .initial) (a .width) (a .input .now) _ _ _ _ (at-top .top .result) _ _ (entry .pre) short (at-start .start .ensures) (at-undefined .undefined .ensures) (at-top .top .ensures)
+    answered-no (a .cells .now) (a .initial) (a .width) (a .input .now) _ _ _ _ (at-top .top .result) _ _ (entry .pre) short (at-start .start .ensures) (at-undefined .undefined .ensures)
+    (at-top .top .ensures)
     (c .if1 .taken)
 
 slice-aggregate-flush-dangling : tie.Need-slice-aggregate-flush-dangling
@@ -53,7 +54,8 @@ flush-dangling-requires c κs =
     let at-undefined = at-top .before .before .before in
     let at-start = at-undefined .before in
     let entry = at-start .before .before .before in
-    room-end (entry .args .input .now) (entry .args .initial) (entry .args .width) 1 (passed _ _ _ _ _ (entry .pre) .within) (at-start .start .ensures) (at-undefined .undefined .ensures) (at-top .top .ensures)
+    room-end (entry .args .input .now) (entry .args .initial) (entry .args .width) 1 (passed _ _ _ _ _ (entry .pre) .within) (at-start .start .ensures) (at-undefined .undefined .ensures)
+    (at-top .top .ensures)
 
 verdict-requires : tie.Need-verdict-requires
 verdict-requires c κs = search needs
@@ -70,7 +72,8 @@ returns-2 c =
     let a = entry .args in
     let short = passed (a .cells .now) (a .initial) (a .width) 65535 (length (a .input .now)) (entry .pre) .within in
     let v =
-    answered-end (a .cells .now) (a .initial) (a .width) (a .input .now) _ _ _ _ (at-top .top .result) _ _ (entry .pre) short (at-start .start .ensures) (at-undefined .undefined .ensures) (at-top .top .ensures)
+    answered-end (a .cells .now) (a .initial) (a .width) (a .input .now) _ _ _ _ (at-top .top .result) _ _ (entry .pre) short (at-start .start .ensures) (at-undefined .undefined .ensures)
+    (at-top .top .ensures)
     (at-if1 .if1 .left) (at-flush-dangling .flush-dangling .ensures _) in
     subst (λ (r : CleanAnswer). Answered (lent (a .cells .now) (a .initial) (a .width) (a .input .now)) r) (sym (c .verdict .ensures)) v
 

@@ -119,7 +119,8 @@ loop-again c =
     let step = at-step .step .ensures in
     record {
       along =
-          along-step w (at-if1 .if1 .left) (omega (arith, at-if1 .if1 .left, entry .pre .0 .1)) (outside-step 4 (at-steps .steps .result .at) (step .ran)) (at-ended .ended .ensures .1 (at-if2 .if2 .left))
+          along-step w (at-if1 .if1 .left) (omega (arith, at-if1 .if1 .left, entry .pre .0 .1)) (outside-step 4 (at-steps .steps .result .at) (step .ran))
+          (at-ended .ended .ensures .1 (at-if2 .if2 .left))
           (at-step .step .kept .1 .1 .1 .1 .1 .0) (at-step .step .kept .1 .1 .1 .1 .1 .1 .0);
       inside = step .inside;
     }

@@ -70,7 +70,8 @@ returns-2 c =
     let w = way-on (at-loop .loop .inv) (at-letters .letters .ensures (entry .args .o .base) (entry .args .o .origin) (at-loop .loop .issues)) (at-letters .letters .kept .1 .1 .1 .1 .1 .0) in
     let n : at-stop-at .stop-at .result ≡ End → ⊥ =
     λ e. ⊎-elim (λ z. omega (arith, z)) (⊎-elim (λ z. omega (arith, z)) (⊎-elim (λ z. omega (arith, z)) (λ z. omega (arith, z)))) (rw e at (c .match .keys2)) in
-    let stop = stop-at (at-stop-at .stop-at .result) (entry .args .b .now) (entry .args .o .to) (at-letters .letters .result .at) (at-letters .letters .result .core) n (at-stop-at .stop-at .ensures) in
+    let stop = stop-at (at-stop-at .stop-at .result) (entry .args .b .now) (entry .args .o .to) (at-letters .letters .result .at) (at-letters .letters .result .core) n
+    (at-stop-at .stop-at .ensures) in
     record { stretch = w .stretch; stop = stop }
 
 offset-requires : tie.Need-offset-requires Inv-loop μ-loop
@@ -138,7 +139,8 @@ returns-3 c =
     let entry = at-loop .before .before .before .before .before in
     let w = way-on (at-loop .loop .inv) (at-letters .letters .ensures (entry .args .o .base) (entry .args .o .origin) (at-loop .loop .issues)) (at-letters .letters .kept .1 .1 .1 .1 .1 .0) in
     let on =
-    way-step (at-simple .simple .result) (at-offset .offset .result) (at-offset .offset .ensures) (at-if1 .if1 .left) (omega (arith, at-if1 .if1 .left, entry .pre .0 .3)) w (at-simple .simple .ensures)
+    way-step (at-simple .simple .result) (at-offset .offset .result) (at-offset .offset .ensures) (at-if1 .if1 .left) (omega (arith, at-if1 .if1 .left, entry .pre .0 .3)) w
+    (at-simple .simple .ensures)
     (at-simple .simple .kept .1 .1 .1 .1 .1 .0) (at-simple .simple .kept .1 .1 .1 .1 .1 .1 .0) in
     record { stretch = on .stretch; stop = at-ended .ended .ensures .0 (c .if2 .taken) }
 
@@ -161,7 +163,8 @@ loop-again c =
     let at-loop = at-letters .before .before in
     let entry = at-loop .before .before .before .before .before in
     let w = way-on (at-loop .loop .inv) (at-letters .letters .ensures (entry .args .o .base) (entry .args .o .origin) (at-loop .loop .issues)) (at-letters .letters .kept .1 .1 .1 .1 .1 .0) in
-    way-step (at-simple .simple .result) (at-offset .offset .result) (at-offset .offset .ensures) (at-if1 .if1 .left) (omega (arith, at-if1 .if1 .left, entry .pre .0 .3)) w (at-simple .simple .ensures)
+    way-step (at-simple .simple .result) (at-offset .offset .result) (at-offset .offset .ensures) (at-if1 .if1 .left) (omega (arith, at-if1 .if1 .left, entry .pre .0 .3)) w
+    (at-simple .simple .ensures)
     (at-simple .simple .kept .1 .1 .1 .1 .1 .0) (at-simple .simple .kept .1 .1 .1 .1 .1 .1 .0)
 
 pub steps-spec : {M : Type 1} → statement M

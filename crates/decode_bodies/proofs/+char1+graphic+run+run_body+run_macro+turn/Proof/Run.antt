@@ -142,7 +142,8 @@ module _ (t : ℕ) where
       let entry = at-slices .before .before .before .before in
       let w =
       along-stretch (at-loop .loop .inv) (at-plain .plain .ensures .stretch) (at-plain .plain .kept .1 .1 .1 .1 .1 .0) (at-plain .plain .kept .1 .1 .1 .1 .1 .1 .0) in
-      along-step w (at-test .if1 .left) (at-test .if1 .left) (inside-step (entry .args .p) (at-plain .plain .result .at) (at-turn .turn .ensures)) (at-ended .ended .ensures .1 (c .before .before .if2 .left))
+      along-step w (at-test .if1 .left) (at-test .if1 .left) (inside-step (entry .args .p) (at-plain .plain .result .at) (at-turn .turn .ensures))
+      (at-ended .ended .ensures .1 (c .before .before .if2 .left))
       (at-turn .turn .kept .1 .1 .1 .1 .1 .1 .1 .1 .1 .0) (at-turn .turn .kept .1 .1 .1 .1 .1 .1 .1 .1 .1 .1 .0)
 
   pub meets : {M : Type 1} → lts.Closed claims (run-at t) run.Post M
