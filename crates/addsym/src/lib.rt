@@ -1,5 +1,7 @@
 // The additional symbols set (F = 03/11): rows 85 and 86 (additional Kanji, Table 7-11) and rows 90 to 94
 // (additional symbols, Table 7-10), by the code values of Table 7-19.
+#![tactic(auto)]
+
 ghost use Rattle.std.specs.Prelude.{◌≡◌, ◌+◌, ◌≤◌, length};
 ghost use Rattle.std.proofs.lemmas.List.Edits.{sets};
 ghost use Rattle.addsym.specs.Symbols.{row_place, symbol, FoundReads, cell_in, SymbolsIn};
@@ -9,7 +11,7 @@ mod tables;
 use tables::{ROW85, ROW86, ROW90, ROW91, ROW92, ROW93, ROW94, T719};
 
 /// One cell of the additional symbols set.
-#[derive(Drop)]
+#[derive(Clone, Copy)]
 pub struct AdditionalSymbol {
     /// Row: 85, 86, 90 to 94.
     pub row: u8,
@@ -22,7 +24,7 @@ pub struct AdditionalSymbol {
 }
 
 /// What stands at a row and a cell.
-#[derive(Drop)]
+#[derive(Clone, Copy)]
 pub enum Found {
     Symbol(AdditionalSymbol),
     Blank,

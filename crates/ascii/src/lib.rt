@@ -1,5 +1,7 @@
 // Words and numbers in ASCII, written into a buffer from a place on. What does not fit is not
 // written; the answer is the place behind in any case, so places are bounded.
+#![tactic(auto)]
+
 ghost use Rattle.std.specs.Prelude.{◌+◌, ◌≤◌, ◌<◌, ◌≡◌, length, set};
 ghost use Rattle.lent.specs.Put.{Put};
 ghost use Rattle.ascii.specs.Ascii.{digit, decimal, hexadecimal, refused_line};

@@ -16,5 +16,6 @@ some_right (x ∷ l) r = there (some_right l r)
 
 -- what follows at an element that has both
 pub meet : {A : Type 0} (P Q : A → Type 0) (R : Type 0) (l : List A) → All P l → Some Q l → ((x : A) → P x → Q x → R) → R
+meet {A = A} P Q R [] a x₃ f = elim x₃ [ ]
 meet P Q R (x ∷ l) a (here q) f = f x a.0 q
 meet P Q R (x ∷ l) a (there r) f = meet P Q R l a.1 r f

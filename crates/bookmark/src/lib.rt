@@ -1,4 +1,6 @@
 // Bookmarks in a caption file, request 9: a place of an input is named, with the state of the reading there, and returned to.
+#![tactic(auto)]
+
 ghost use Rattle.std.specs.Prelude.{◌≡◌, true, ◌≤◌, length};
 ghost use Rattle.reading.specs.State.{given};
 ghost use Rattle.reading.specs.WithoutBuffers as unbuffered;

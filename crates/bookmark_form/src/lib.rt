@@ -1,4 +1,6 @@
 // The store of bookmarks, request 9, and which of its numbers a reading can go on from.
+#![tactic(auto)]
+
 ghost use Rattle.std.specs.Prelude.{◌≡◌, List, ℕ, ◌-◌, ◌≤◌, length, get_or};
 ghost use Rattle.bookmark_form.specs.Form.{
   is_store,

@@ -1,4 +1,6 @@
 // A bookmark's waiting marks, request 9: out of the decoder, which keeps them as a number, and back into it.
+#![tactic(auto)]
+
 ghost use Rattle.std.specs.Prelude.{◌≡◌, true, List, [], ℕ, ◌+◌, ◌≤◌, ◌<◌, length, get_or};
 ghost use Rattle.questions.specs.Buffer.{padded};
 ghost use Rattle.decode_output.specs.Waiting.{mark_of};

@@ -1,4 +1,6 @@
 // A bookmark's numbers, request 9: from the decoder into the store, and back.
+#![tactic(auto)]
+
 ghost use Rattle.std.specs.Prelude.{◌≡◌, true, cond, [], ◌∷◌, ◌++◌, map, ℕ, ◌+◌, ◌-◌, ◌≤◌, ◌<◌, length, take, drop, get_or};
 ghost use Rattle.lent.specs.Put.{Put};
 ghost use Rattle.bookmark_form.specs.Numbers.{plus_one};
@@ -99,7 +101,7 @@ pub fn put(store: &mut [u32], at: usize, place: u32, d: Decoder) -> usize
 }
 
 /// The macro bodies of a bookmark.
-#[derive(Drop)]
+#[derive(Clone, Copy)]
 pub struct Bodies {
     pub starts: [u16; 128],
     pub lens: [u16; 128],

@@ -1,4 +1,6 @@
 // Issues of the rest of a reading, request 9: their positions are those in the whole text.
+#![tactic(auto)]
+
 ghost use Rattle.std.specs.Prelude.{◌≡◌, ℕ, ◌+◌, ◌*◌, ◌≤◌, ◌<◌, length, get_or};
 ghost use Rattle.bookmark_positions.specs.Positions.{moved};
 

@@ -1,5 +1,7 @@
 // A live title catalogue, request 8: titles are added with their keys, removed by their numbers, and found by a key. Each
 // call asks first whether the lent store is of the form; a refusal leaves it as it was.
+#![tactic(auto)]
+
 ghost use Rattle.std.specs.Prelude.{◌≡◌, true, ◌≤◌, length, take, []};
 ghost use Rattle.questions.specs.Buffer.{padded};
 ghost use Rattle.catalogue_form.specs.Form.{formed};
@@ -17,7 +19,7 @@ const KEY: usize = 255;
 
 /// What finding a key answers: the number of the refusal, 0 for none; the entries that have the key, and the smallest
 /// of their numbers.
-#[derive(Drop)]
+#[derive(Clone, Copy)]
 pub struct Found {
     pub refused: u32,
     pub entries: usize,

@@ -1,4 +1,6 @@
 // An entry put into its place in a catalogue's store, or taken away, with the two counts: request 8.
+#![tactic(auto)]
+
 ghost use Rattle.std.specs.Prelude.{◌≡◌, cond, ◌++◌, ◌≤◌, ◌<◌, ◌*◌, eqb, length, drop};
 ghost use Rattle.catalogue_distinct.specs.Distinct.{among};
 ghost use Rattle.catalogue_form.specs.Form.{big_endian, keys, bytes, entry_of, entries_of, entries};

@@ -1,5 +1,7 @@
 // The form of a catalogue's store, request 8: which bytes it holds, asked at the start of each call. Its cost is that of
 // reading every byte once and of counting the different keys.
+#![tactic(auto)]
+
 pub mod numbers;
 
 ghost use Rattle.std.specs.Prelude.{◌≡◌, ◌≤◌, ◌+◌, ◌*◌, length};

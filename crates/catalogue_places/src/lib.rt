@@ -1,5 +1,7 @@
 // The places of a catalogue's store: where a number stands, which have a key, and how places move when one is put
 // between them or taken away. Request 8.
+#![tactic(auto)]
+
 pub mod moving;
 
 ghost use Rattle.std.specs.Prelude.{◌≡◌, ◌≤◌, ◌*◌, length, drop};
@@ -12,7 +14,7 @@ use catalogue_distinct::PLACE;
 use catalogue_form::{HEAD, numbers};
 
 /// The entries that have a key: how many, and the first one's number, 0 where there is none.
-#[derive(Drop)]
+#[derive(Clone, Copy)]
 pub struct Holders {
     pub entries: usize,
     pub number: u32,

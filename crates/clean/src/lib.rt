@@ -1,5 +1,7 @@
 // The clean call: whether a string is read without an issue, or the number of the first question that fails. Request 2,
 // "Clean or not", and 01, "The questions, put in this order".
+#![tactic(auto)]
+
 pub mod values;
 
 ghost use Rattle.std.specs.Prelude.{◌≡◌, length};
@@ -8,7 +10,7 @@ ghost use Rattle.reading.specs.WithoutBuffers.{lent};
 ghost use Rattle.clean.specs.Promises.{verdict_of, Answered};
 
 /// What a clean call answers: whether there is no issue, or the number of the first question that it fails, with its place.
-#[derive(Drop)]
+#[derive(Clone, Copy)]
 pub enum CleanAnswer {
     Yes,
     No,

@@ -1,4 +1,6 @@
 // The C0 and C1 control codes of the eight-unit code (Tables 7-14 to 7-17), and the parameter bytes that follow them.
+#![tactic(auto)]
+
 ghost use Rattle.std.specs.Prelude.{◌≡◌, ◌<◌};
 ghost use Rattle.control.specs.Controls.{letter_of, name_of, count_of, params_of};
 
@@ -84,14 +86,14 @@ pub const CSI: u8 = 0x9B;
 pub const TIME: u8 = 0x9D;
 
 /// The name of a code: the first `len` of `bytes`, and zeros after them.
-#[derive(Drop)]
+#[derive(Clone, Copy)]
 pub struct ControlName {
     pub bytes: [u8; 5],
     pub len: usize,
 }
 
 /// The parameter bytes of a code.
-#[derive(Drop)]
+#[derive(Clone, Copy)]
 pub enum Params {
     /// Their number, which the bytes themselves do not change.
     Fixed(usize),

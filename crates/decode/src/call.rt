@@ -11,7 +11,7 @@ use issues::NUMBERS;
 
 /// What a decoding call answers: the text's bytes, the issues, the charge and the private-use
 /// characters, or the number of the first question that it fails, with its place.
-#[derive(Drop)]
+#[derive(Clone, Copy)]
 pub enum Answer {
     Decoded {
         text: usize,

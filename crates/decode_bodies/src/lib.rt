@@ -1,6 +1,8 @@
 // Macro bodies: `run`, `run_macro`, and `graphic` and `char1` for the macro set, of decode.rs. They
 // call each other through the bodies. The macros stay while bodies run, since no definition ends in
 // one.
+#![tactic(auto)]
+
 ghost use Rattle.std.specs.Prelude.{◌≡◌, ℕ, ◌+◌, ◌<◌, List, length, drop, get_or};
 ghost use Rattle.control.specs.Codes.{MACRO};
 ghost use Rattle.reading.specs.Macros.{Run, run_macro, run_body, macro_cmd};
@@ -17,7 +19,7 @@ use decode_steps::{Source, Stop};
 use issues::IssueKind;
 
 /// Where a body runs.
-#[derive(Drop)]
+#[derive(Clone, Copy)]
 pub struct Place {
     /// The body's place in the input; 0 for a built-in one, and for the input itself.
     pub base: u32,

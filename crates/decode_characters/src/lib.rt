@@ -1,4 +1,6 @@
 // A character written, and an issue reported: `emit`, `issue` and `placeholder` of decode.rs, over `Core`.
+#![tactic(auto)]
+
 ghost use Rattle.std.specs.Prelude.{ℕ, ◌≡◌, true, false, List};
 ghost use Rattle.private_use.specs.PrivateUse.{is_private_use};
 ghost use Rattle.tables.specs.Kanji.{CellReads, Classed};

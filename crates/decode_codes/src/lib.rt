@@ -1,5 +1,7 @@
 // What a code reads as: the character of a one-byte set, the cell of a two-byte set, and the issue where there is none.
 // From `char1` and `char2` of decode.rs. Sets are 01's numbers, codes are in GL form.
+#![tactic(auto)]
+
 ghost use Rattle.std.specs.Prelude.{◌≡◌, ◌||◌, ◌&&◌, ℕ, ◌+◌, ◌*◌, ◌/◌, eqb, leb};
 ghost use Rattle.sets.specs.Sets.{bytes_per_char};
 ghost use Rattle.tables.specs.Kanji.{CellReads};

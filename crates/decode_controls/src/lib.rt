@@ -2,6 +2,8 @@
 // effect, and how many bytes it takes. `decode_reports` and `decode_settings` take the step.
 //
 // ARIB STD-B24 volume 1 part 2, 7.1: Tables 7-1 and 7-2 (escapes), 7-15 to 7-17 (controls).
+#![tactic(auto)]
+
 ghost use Rattle.std.specs.Prelude.{◌≡◌, ◌&&◌, List, [], ◌∷◌, ℕ, ◌+◌, ◌-◌, ◌≤◌, ◌<◌, leb, length, take, drop, get_or};
 ghost use Rattle.control.specs.Codes.{ESC};
 ghost use Rattle.sets.specs.Sets.{is_narrow, from_designation, to_element};
@@ -28,7 +30,7 @@ use control::{CDC, COL, CSI, ESC, LS0, LS1, MSZ, NSZ, Params, RPC, SSZ, SZX, TIM
 use sets::{CharSize, Designated, GraphicSet, Shift};
 
 /// What a control does.
-#[derive(Drop)]
+#[derive(Clone, Copy)]
 pub enum Effect {
     /// Nothing that a text shows.
     Nothing,
@@ -53,7 +55,7 @@ pub enum Effect {
 }
 
 /// A control that was read.
-#[derive(Drop)]
+#[derive(Clone, Copy)]
 pub struct Control {
     pub effect: Effect,
     /// The bytes that it takes.

@@ -1,5 +1,7 @@
 // Graphic characters: `graphic`, `char1` and `char2` of decode.rs, but for the macro set, whose characters run bodies.
 // What a code reads as is in `decode_codes`. Sets are 01's numbers, codes are in GL form.
+#![tactic(auto)]
+
 ghost use Rattle.std.specs.Prelude.{◌≡◌, true, ℕ, ◌+◌, ◌≤◌, ◌<◌, List, length, drop, get_or};
 ghost use Rattle.reading.specs.State.{truncated};
 ghost use Rattle.reading.specs.Macros.{Run};
@@ -11,7 +13,7 @@ use decode_state::{Core, Stepped};
 use issues::IssueKind;
 
 /// The byte of a body at which a character or a control begins.
-#[derive(Drop)]
+#[derive(Clone, Copy)]
 pub struct At {
     /// Its place in the body.
     pub i: usize,
@@ -20,7 +22,7 @@ pub struct At {
 }
 
 /// A code of a two-byte set.
-#[derive(Drop)]
+#[derive(Clone, Copy)]
 struct Code2 {
     set: u8,
     a: u8,

@@ -1,5 +1,7 @@
 // The character at a place of the input, where it is written as it stands: neither a repeat nor a mark waits, and it is
 // no mark. From `graphic`, `char1` and `char2` of decode.rs, over numbers alone.
+#![tactic(auto)]
+
 ghost use Rattle.std.specs.Prelude.{◌≡◌, true, cond, ℕ, ◌+◌, ◌≤◌, ◌<◌, ltb, length, get_or};
 ghost use Rattle.std.proofs.lemmas.List.Edits.{sets};
 ghost use Rattle.utf8.specs.Utf8.{utf8};
@@ -11,7 +13,7 @@ use control::{APR, SP};
 use tables::Cell;
 
 /// The sets that are invoked in GL and GR, and whether alphanumerics and SP are narrow.
-#[derive(Drop)]
+#[derive(Clone, Copy)]
 pub struct Invoked {
     pub gl: u8,
     pub gr: u8,
@@ -19,7 +21,7 @@ pub struct Invoked {
 }
 
 /// A character, or none, and the bytes that it takes.
-#[derive(Drop)]
+#[derive(Clone, Copy)]
 pub struct Taken {
     pub cell: Cell,
     pub used: usize,

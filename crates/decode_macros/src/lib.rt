@@ -1,5 +1,7 @@
 // Macro bodies: the built-in ones of Table 7-18 (`default_macro` of decode.rs), and the reading of MACRO,
 // which defines one (`macro_cmd`).
+#![tactic(auto)]
+
 ghost use Rattle.std.specs.Prelude.{ℕ, ◌+◌, ◌-◌, ◌%◌, ◌≤◌, ◌<◌, ◌≡◌, cond, [], ◌∷◌, length, drop};
 ghost use Rattle.lent.specs.Put.{Put};
 ghost use Rattle.sets.specs.Sets.{designation};
@@ -101,7 +103,7 @@ pub fn body_end(b: &[u8], from: usize) -> usize
 }
 
 /// What MACRO does, by the bytes behind it. Table 7-16.
-#[derive(Drop)]
+#[derive(Clone, Copy)]
 pub enum Command {
     /// The input, or a body, ends before it does.
     Cut,

@@ -1,5 +1,7 @@
 // Steps outside every body. There alone macros are defined, so the decoder's struct with its two
 // arrays goes in and comes back by value here, and is lent to the cycle.
+#![tactic(auto)]
+
 ghost use Rattle.std.specs.Prelude.{◌≡◌, ℕ, ◌+◌, ◌-◌, ◌≤◌, ◌<◌, length, drop, get_or, set, cond};
 ghost use Rattle.reading.specs.Characters.{graphic};
 ghost use Rattle.reading.specs.Macros.{run_macro, defined, macro_cmd};
@@ -17,14 +19,14 @@ use decode_steps::{Source, Stop};
 use issues::IssueKind;
 
 /// After a step outside every body, where macros are defined.
-#[derive(Drop)]
+#[derive(Clone, Copy)]
 pub struct Outer {
     pub used: usize,
     pub decoder: Decoder,
 }
 
 /// After steps outside every body: the byte at which the next one begins, or the end.
-#[derive(Drop)]
+#[derive(Clone, Copy)]
 pub struct Reached {
     pub at: usize,
     pub decoder: Decoder,

@@ -1,6 +1,8 @@
 // What a decoder has written: text and issues in two lent buffers, with the marks that wait at the
 // end of the text. What does not fit is counted and not written, so that the counts are those of
 // the whole result. From `emit`, `issue` and `flush_dangling` of decode.rs.
+#![tactic(auto)]
+
 ghost use Rattle.std.specs.Prelude.{◌≡◌, true, false, ℕ, ◌≤◌, List, length, take, set, replicate};
 ghost use Rattle.std.proofs.lemmas.List.Edits.{sets};
 ghost use Rattle.private_use.specs.PrivateUse.{is_private_use, private_use};
@@ -20,7 +22,7 @@ ghost use Rattle.decode_output.specs.Promises.{out_of, counted, Room, Wrote};
 
 use issues::{IssueKind, NUMBERS};
 
-#[derive(Drop)]
+#[derive(Clone, Copy)]
 pub struct Out {
     /// Bytes of the text without the waiting marks.
     pub len: usize,

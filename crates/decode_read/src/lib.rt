@@ -1,5 +1,7 @@
 // A whole string, or the rest of one: every step, and the release of the marks that wait at its end. Decoding and measuring
 // are this, with buffers and without.
+#![tactic(auto)]
+
 ghost use Rattle.std.specs.Prelude.{◌≡◌, ◌-◌, ◌≤◌, length};
 ghost use Rattle.decode_outer.specs.Promises.{Outside};
 ghost use Rattle.decode_read.specs.Promises.{ReadOn, Read};
@@ -7,7 +9,7 @@ ghost use Rattle.decode_read.specs.Promises.{ReadOn, Read};
 use decode_state::Decoder;
 
 /// What a reading comes to: the text's bytes, the issues, the charge and the private-use characters.
-#[derive(Drop)]
+#[derive(Clone, Copy)]
 pub struct Counts {
     pub text: usize,
     pub issues: usize,

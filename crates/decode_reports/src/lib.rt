@@ -1,4 +1,6 @@
 // The steps of controls that write no text and concern no macro, over the decoder's state, with what they report.
+#![tactic(auto)]
+
 ghost use Rattle.std.specs.Prelude.{List, ℕ, ◌+◌, ◌-◌, ◌≤◌, ◌<◌, length, drop, get_or};
 ghost use Rattle.reading.specs.State.{Given, took, truncated, issue};
 ghost use Rattle.reading.specs.Macros.{Run};

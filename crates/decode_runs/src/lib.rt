@@ -1,6 +1,8 @@
 // Runs of characters and controls that are read as they stand: the decoder's innermost loops. They are `run`, `graphic`,
 // `char1` and `char2` of decode.rs where neither a repeat nor a mark waits, over numbers alone. They stop where they like:
 // what they leave is read step by step.
+#![tactic(auto)]
+
 ghost use Rattle.std.specs.Prelude.{◌≡◌, true, ℕ, ◌+◌, ◌-◌, ◌*◌, ◌^◌, ◌≤◌, ◌<◌, List, length};
 ghost use Rattle.decode_state.specs.Promises.{MayTake, Stretch};
 ghost use Rattle.decode_settings.specs.Promises.{Settings};
@@ -13,7 +15,7 @@ use decode_state::{Core, Far};
 use tables::Cell;
 
 /// A place in the input, the bytes of text that there are then, and how many of its characters are private-use.
-#[derive(Drop)]
+#[derive(Clone, Copy)]
 struct Reached {
     at: usize,
     len: usize,
@@ -22,7 +24,7 @@ struct Reached {
 
 /// How far a run goes: before the byte `to`, and whether what it writes fits. Where the text is at its end nothing does,
 /// and a run is counted and not written.
-#[derive(Drop)]
+#[derive(Clone, Copy)]
 struct Limit {
     to: usize,
     fits: bool,

@@ -5,6 +5,8 @@
 //
 // The codes are told apart here as `decode_controls::read` does: called from two places it would be compiled apart from
 // this loop, which is the innermost one.
+#![tactic(auto)]
+
 ghost use Rattle.std.specs.Prelude.{◌≡◌, List, ℕ, ◌+◌, ◌≤◌, ◌<◌, length, drop, get_or, set};
 ghost use Rattle.reading.specs.State.{Given, State, Step};
 ghost use Rattle.reading.specs.Macros.{Run};

@@ -1,12 +1,14 @@
 // The decoder's state: `Decoder` of decode.rs, by value. The specs say how it and the two lent
 // buffers hold a state of the definition, and what a function that takes steps promises.
+#![tactic(auto)]
+
 ghost use Rattle.std.specs.Prelude.{◌≡◌, true, false, cond, eqb};
 ghost use Rattle.decode_state.specs.Promises.{start_of, undefined, Ends};
 
 use decode_output::Out;
 
 /// What every step can change.
-#[derive(Drop)]
+#[derive(Clone, Copy)]
 pub struct Core {
     /// The sets in G0 to G3, by 01's numbers.
     pub sets: [u8; 4],
@@ -26,7 +28,7 @@ pub struct Core {
 }
 
 /// The whole state: by macro code, the body's start in the input (0: none) and its length.
-#[derive(Drop)]
+#[derive(Clone, Copy)]
 pub struct Decoder {
     pub core: Core,
     pub starts: [u16; 128],
@@ -34,14 +36,14 @@ pub struct Decoder {
 }
 
 /// After a step: the bytes it took.
-#[derive(Drop)]
+#[derive(Clone, Copy)]
 pub struct Stepped {
     pub used: usize,
     pub core: Core,
 }
 
 /// After a run of steps: the place where it stopped.
-#[derive(Drop)]
+#[derive(Clone, Copy)]
 pub struct Far {
     pub at: usize,
     pub core: Core,

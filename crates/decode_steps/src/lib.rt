@@ -1,5 +1,7 @@
 // Steps that concern no macro. They are taken outside the cycle, so that plain text costs no
 // calls through it.
+#![tactic(auto)]
+
 ghost use Rattle.std.specs.Prelude.{◌≡◌, ℕ, ◌+◌, ◌-◌, ◌≤◌, ◌<◌, true, List, length, drop, get_or};
 ghost use Rattle.reading.specs.Characters.{is_graphic, graphic_of};
 ghost use Rattle.reading.specs.Macros.{Run};
@@ -15,7 +17,7 @@ use decode_state::{Core, Stepped};
 
 /// Where a run of steps that concern no macro stops. The specs speak of the code elements; without
 /// the two numbers the steps cost some four instructions more.
-#[derive(Drop)]
+#[derive(Clone, Copy)]
 pub enum Stop {
     /// Nowhere before the byte up to which they are taken.
     End,
@@ -30,7 +32,7 @@ pub enum Stop {
 }
 
 /// After such a run.
-#[derive(Drop)]
+#[derive(Clone, Copy)]
 pub struct Stretched {
     pub at: usize,
     pub stop: Stop,
@@ -38,7 +40,7 @@ pub struct Stretched {
 }
 
 /// Where the bytes of a body stand, and how far its steps are taken.
-#[derive(Drop)]
+#[derive(Clone, Copy)]
 pub struct Source {
     /// The body's place in the input; 0 for a built-in one, and for the input itself.
     pub base: u32,

@@ -13,7 +13,7 @@ use encode_find::{Options, Plan, Target};
 
 /// What a coding call answers: the coding's length and its gap, or the number of the first question
 /// that it fails, with its place.
-#[derive(Drop)]
+#[derive(Clone, Copy)]
 pub enum Answer {
     Coded { length: usize, gap: usize },
     Refused { number: u32, place: usize },

@@ -1,3 +1,5 @@
 // Text to the eight-unit code: encode.rs.
+#![tactic(auto)]
+
 pub mod call;
 pub mod values;

@@ -1,5 +1,7 @@
 // The coding to which the search leads, written from its end to its beginning: encode.rs, from the
 // cheapest node of the last layer back to the start.
+#![tactic(auto)]
+
 ghost use Rattle.std.specs.Prelude.{◌≡◌, List, [], ◌+◌, ◌*◌, ◌≤◌, length};
 ghost use Rattle.std.proofs.lemmas.List.Edits.{sets};
 ghost use Rattle.lent.specs.Put.{Put};
@@ -14,7 +16,7 @@ use encode_candidates::Cands;
 
 /// How many characters there are, the number of the store at which the node stands to which their
 /// coding leads, the coding's length, and the option under which it was searched.
-#[derive(Drop)]
+#[derive(Clone, Copy)]
 pub struct Goal {
     pub count: usize,
     pub node: usize,

@@ -1,5 +1,7 @@
 // The candidate codes of a character: encode.rs, `candidates`. The reverse look-ups in the two-byte sets are given, so
 // that they are done once a character.
+#![tactic(auto)]
+
 ghost use Rattle.std.specs.Prelude.{◌≡◌, cond, [], ◌∷◌, ◌++◌, ◌+◌, ◌≤◌, ◌<◌, eqb};
 ghost use Rattle.control.specs.Codes.{SP};
 ghost use Rattle.tables_onebyte.specs.Reverse.{one_byte_reverse};
@@ -16,7 +18,7 @@ use tables_onebyte::{Code, OneByteTable};
 /// Candidates in the order of trial: a set's code (0 to 6: Kanji, Alphanumeric, Hiragana, Katakana, JisX0201Katakana,
 /// AdditionalSymbols, Macro; 7: none, for SP and APR), a code in GL form (one byte, or row byte × 256 + cell byte) and a
 /// size (0 either, 1 narrow, 2 wide) for each.
-#[derive(Drop)]
+#[derive(Clone, Copy)]
 pub struct Cands {
     pub count: usize,
     pub sets: [u8; 9],

@@ -1,4 +1,6 @@
 // The search for a coding: questions 4 to 7, the coding's length and its gap. No byte is written yet.
+#![tactic(auto)]
+
 ghost use Rattle.std.specs.Prelude.{◌≡◌, ℕ, ◌≤◌, length};
 ghost use Rattle.coding.specs.Candidates.{candidates_of};
 ghost use Rattle.coding.specs.Search.{code, gap_of};
@@ -11,7 +13,7 @@ use encode_search::Task;
 use encode_tokens::Tokens;
 
 /// The two options of a call.
-#[derive(Drop)]
+#[derive(Clone, Copy)]
 pub struct Options {
     pub initial: u32,
     pub width: u32,
@@ -19,7 +21,7 @@ pub struct Options {
 
 /// Where the coding is: how many characters there are, the number of the store at which the node
 /// stands to which it leads, its length and its gap.
-#[derive(Drop)]
+#[derive(Clone, Copy)]
 pub struct Target {
     pub count: usize,
     pub node: usize,
@@ -28,7 +30,7 @@ pub struct Target {
 }
 
 /// What questions 4 to 7 say of a text.
-#[derive(Drop)]
+#[derive(Clone, Copy)]
 pub enum Plan {
     /// All yes, and there is no character.
     Nothing,

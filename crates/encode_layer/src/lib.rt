@@ -1,6 +1,8 @@
 // A layer of the search in a part of the lent store: four numbers a node, three of its own and one of
 // the index by which a state is found. From the closure `push` of encode.rs, and what it does with a
 // layer.
+#![tactic(auto)]
+
 ghost use Rattle.std.specs.Prelude.{◌≡◌, List, [], ◌∷◌, ℕ, ◌+◌, ◌*◌, ◌≤◌, ◌<◌, length};
 ghost use Rattle.base.specs.Lists.{All};
 ghost use Rattle.coding.specs.Candidates.{Cand};
@@ -131,7 +133,7 @@ fn lower(floor: u32, b: u32) -> u32
 }
 
 /// What is left of a layer: how many nodes are kept, and the floor.
-#[derive(Drop)]
+#[derive(Clone, Copy)]
 pub struct Left {
     pub count: usize,
     pub floor: u32,

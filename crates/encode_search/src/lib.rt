@@ -1,6 +1,8 @@
 // The search for the shortest coding, a layer of states for each character, in the lent store: the
 // loop of `encode_with` of encode.rs. The newest layer has four numbers a state, the layers before it
 // one; while the next is reached, the part of the store from the newest on is lent.
+#![tactic(auto)]
+
 ghost use Rattle.std.specs.Prelude.{◌≡◌, false, ◌+◌, ◌-◌, ◌*◌, ◌≤◌, ◌<◌, length};
 ghost use Rattle.base.specs.Lists.{All};
 ghost use Rattle.encode_layer.specs.Entries.{entries_of};
@@ -67,14 +69,14 @@ fn buckets(nodes: usize) -> usize
 }
 
 /// The newest layer: how many nodes it has, and the layer before it.
-#[derive(Drop)]
+#[derive(Clone, Copy)]
 struct Layer {
     count: usize,
     before: usize,
 }
 
 /// The next layer: whether it fits the store, how many of its states are kept, and the floor.
-#[derive(Drop)]
+#[derive(Clone, Copy)]
 struct Step {
     fits: bool,
     count: usize,
@@ -126,7 +128,7 @@ fn less(a: usize, b: usize) -> usize
 
 /// Where the search stands: how many nodes the newest layer has, and the one before it, the shortest
 /// codes of the characters to come in bytes, and the floor.
-#[derive(Drop)]
+#[derive(Clone, Copy)]
 struct Stand {
     count: usize,
     before: usize,
@@ -135,7 +137,7 @@ struct Stand {
 }
 
 /// A character, with its cells of the Kanji set and of the additional symbols.
-#[derive(Drop)]
+#[derive(Clone, Copy)]
 struct Character {
     c: u32,
     kanji: u16,
@@ -143,7 +145,7 @@ struct Character {
 }
 
 /// The next layer as above, with what is left of the shortest codes after it.
-#[derive(Drop)]
+#[derive(Clone, Copy)]
 struct Next {
     fits: bool,
     count: usize,
@@ -175,7 +177,7 @@ fn turn(store: &mut [u32], at: Stand, x: Character, annex: bool) -> Next
 
 /// What stays through a search: how many characters there are, the sum of their shortest codes in
 /// bytes, and the options.
-#[derive(Drop)]
+#[derive(Clone, Copy)]
 pub struct Task {
     pub count: usize,
     pub rest: usize,
@@ -185,7 +187,7 @@ pub struct Task {
 
 /// Where the search led: whether its layers fit the store, from which number on the newest layer
 /// stands, how many nodes it has and the one before it, and the floor.
-#[derive(Drop)]
+#[derive(Clone, Copy)]
 pub struct Last {
     pub fits: bool,
     pub from: usize,

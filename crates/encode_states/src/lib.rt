@@ -1,5 +1,7 @@
 // The coder's state in one number, and how a character was written in another: encode.rs, `State`
 // and what it pushes. A set is a code of three bits: specs/Packed.antt.
+#![tactic(auto)]
+
 ghost use Rattle.std.specs.Prelude.{◌≡◌, ◌+◌, ◌*◌, ◌/◌, ◌%◌, ◌<◌, length};
 ghost use Rattle.sets.specs.Sets.{designation};
 ghost use Rattle.coding.specs.State.{start, set_in, designate, invoke_gl, invoke_gr, resize, lock_gl};

@@ -1,4 +1,6 @@
 // The text's characters in the order in which they are coded: encode.rs, "Tokenise", with questions 4, 5 and 6.
+#![tactic(auto)]
+
 ghost use Rattle.std.specs.Prelude.{◌≡◌, false};
 ghost use Rattle.coding.specs.Tokens.{tokens, baseless};
 ghost use Rattle.encode_tokens.specs.Promises.{ArraysFit, Tokenised};
@@ -7,7 +9,7 @@ ghost use Rattle.encode_tokens.specs.Steps.{bases_of, Orders, Within, Appended, 
 use utf8::{Sequence, Text};
 
 /// What questions 4 to 6 say.
-#[derive(Drop)]
+#[derive(Clone, Copy)]
 pub enum Tokens {
     /// All three yes: how many characters there are, and the sum of their shortest codes.
     Ordered { count: usize, rest: usize },
@@ -16,14 +18,14 @@ pub enum Tokens {
 }
 
 /// Whether each mark has a base after the last newline, or where the first stands that has none.
-#[derive(Drop)]
+#[derive(Clone, Copy)]
 enum Bases {
     All,
     NoBase(usize),
 }
 
 /// A character that is coded next, and the base that then waits for its marks, each with its place in the text.
-#[derive(Drop)]
+#[derive(Clone, Copy)]
 struct Next {
     char: u32,
     place: usize,
@@ -32,7 +34,7 @@ struct Next {
 }
 
 /// A character, and which it is in the order in which they are coded.
-#[derive(Drop)]
+#[derive(Clone, Copy)]
 struct Nth {
     n: usize,
     char: u32,

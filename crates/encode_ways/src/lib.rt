@@ -1,6 +1,8 @@
 // The nodes that a node reaches by a candidate, pushed into the layer in the order of `ways` of
 // encode.rs. A node's link is that of its place before, to which each choice on the way adds its
 // part: specs/Turn.antt.
+#![tactic(auto)]
+
 ghost use Rattle.std.specs.Prelude.{◌≡◌, List, ◌∷◌, ℕ, ◌+◌, ◌*◌, ◌/◌, ◌%◌, ◌≤◌, ◌<◌, length, drop};
 ghost use Rattle.coding.specs.Candidates.{Cand};
 ghost use Rattle.coding.specs.Ways.{through, by_element, ways};

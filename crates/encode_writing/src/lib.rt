@@ -1,4 +1,6 @@
 // The bytes of a character, written as the search chose: encode.rs, what `push` is given.
+#![tactic(auto)]
+
 ghost use Rattle.std.specs.Prelude.{◌≡◌, cond, List, [], ◌∷◌, map, ℕ, ◌+◌, ◌/◌, ◌%◌, ◌≤◌, ◌<◌, eqb, length};
 ghost use Rattle.lent.specs.Put.{Put};
 ghost use Rattle.sets.specs.Sets.{HoldsBytes, set_number, shift_bytes, designation};

@@ -1,6 +1,8 @@
 // Codes standard input, a text of at most 7,281 bytes in UTF-8, and prints the coding's length and gap
 // and its bytes. The cell table is `jis.tab` in the working directory, or zeros if there is none. All
 // that is printed is `encoding_lines::encoding` of what was read.
+#![tactic(auto)]
+
 use files::{read, read_table};
 use libc::{STDIN_FILENO, STDOUT_FILENO};
 

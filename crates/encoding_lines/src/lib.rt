@@ -1,4 +1,6 @@
 // All that the program `encoding` prints: the coding call, and its answer in the form of `encoding_form`.
+#![tactic(auto)]
+
 ghost use Rattle.std.specs.Prelude.{◌≡◌, length};
 ghost use Rattle.ascii.specs.Promises.{Printed};
 ghost use Rattle.encoding_form.specs.Promises.{greatest};

@@ -1,11 +1,13 @@
 // `IssueKind` of decode.rs: what could not be represented exactly. The decoder writes an issue as
 // `NUMBERS` numbers: its offset, the three of `numbers`, and its position in the text.
+#![tactic(auto)]
+
 ghost use Rattle.std.specs.Prelude.{◌≡◌};
 ghost use Rattle.issues.specs.Issue.{numbers_of};
 
 /// Kinds of decoding problems, in the Rust's order. A set is 01's number of it, a code the GL form
 /// (two bytes as 16 bits).
-#[derive(Drop)]
+#[derive(Clone, Copy)]
 pub enum IssueKind {
     /// An escape sequence that Tables 7-1 to 7-3 do not list: its start in the input and its length.
     UnknownEscape { start: u32, len: u32 },
@@ -40,7 +42,7 @@ pub enum IssueKind {
 pub const NUMBERS: usize = 5;
 
 /// Those beside the offset and the position: the kind, 1 to 13, and two fields, 0 where unused.
-#[derive(Drop)]
+#[derive(Clone, Copy)]
 pub struct Numbers {
     pub kind: u32,
     pub first: u32,

@@ -1,4 +1,6 @@
 // The cell table of a program, from the bytes of its file `jis.tab`.
+#![tactic(auto)]
+
 ghost use Rattle.std.specs.Prelude.{◌≡◌, length, get_or};
 ghost use Rattle.questions.specs.Buffer.{padded};
 ghost use Rattle.jis_tab.specs.CellTable.{big_endian};

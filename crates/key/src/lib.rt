@@ -1,5 +1,7 @@
 // The key call: the key of what a title's bytes decode to, or the number of the first question that fails. 01, "Keys" and
 // "The questions, put in this order", and request 6, "Private-use characters".
+#![tactic(auto)]
+
 pub mod values;
 
 ghost use Rattle.std.specs.Prelude.{◌≡◌, ◌≤◌, length};
@@ -15,7 +17,7 @@ const ISSUES: usize = 0;
 
 /// What a key call answers: the key's bytes and the charge, or the number of the first question that it fails, with its
 /// place.
-#[derive(Drop)]
+#[derive(Clone, Copy)]
 pub enum KeyAnswer {
     Keyed { len: usize, charged: usize },
     Refused { number: u32, place: usize },

@@ -1,5 +1,7 @@
 // The key of a text, by which two spellings of one title are found equal: the text without newline, U+0020 and U+3000,
 // its full-width alphanumerics made half-width. 01, "Keys", and request 1 of docs/REQUESTS.md.
+#![tactic(auto)]
+
 ghost use Rattle.std.specs.Prelude.{◌≡◌, [], ◌≤◌, length};
 ghost use Rattle.lent.specs.Put.{Put};
 ghost use Rattle.utf8.specs.Utf8.{utf8s};
@@ -9,7 +11,7 @@ ghost use Rattle.key_text.specs.Promises.{kept_of, Removed};
 use utf8::Sequence;
 
 /// What a key has for a character.
-#[derive(Drop)]
+#[derive(Clone, Copy)]
 pub enum Kept {
     Char(u32),
     Nothing,

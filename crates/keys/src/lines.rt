@@ -11,7 +11,7 @@ const WAITING: usize = 65536;
 
 /// Where the reading stands: lines ended, those of them that were malformed, bytes of the line that is being read (one
 /// more than the longest where it is longer), bytes printed and not yet written, and whether nothing failed.
-#[derive(Drop)]
+#[derive(Clone, Copy)]
 pub struct Progress {
     pub lines: u64,
     pub malformed: u64,
@@ -192,7 +192,7 @@ fn take_piece(
 }
 
 /// What a read came to, and whether there may be more to read.
-#[derive(Drop)]
+#[derive(Clone, Copy)]
 pub struct Reading {
     pub progress: Progress,
     pub more: bool,

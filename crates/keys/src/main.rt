@@ -2,6 +2,8 @@
 // NUMBER TAB and `refused`, number and place, or `line` and its number and `: malformed`, one line for each. How many
 // lines were malformed is said on standard error. The cell table is `jis.tab`, or zeros if absent; question 1 is put
 // once. `keys_lines::print` is the work on one line.
+#![tactic(auto)]
+
 mod lines;
 
 use libc::STDERR_FILENO;

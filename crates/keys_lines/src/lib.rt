@@ -1,4 +1,6 @@
 // One line of the program `keys`: from the line that is read to the line that is printed, in the form of `keys_form`.
+#![tactic(auto)]
+
 ghost use Rattle.std.specs.Prelude.{◌≡◌, true, ◌≤◌, length};
 ghost use Rattle.questions.specs.Questions.{cells_hold};
 ghost use Rattle.key.specs.Promises.{lent, Answered};
@@ -21,7 +23,7 @@ pub const TITLE: usize = 65535;
 pub const PRINTED: usize = 196620;
 
 /// What is printed: so many bytes, or nothing, since the line is malformed.
-#[derive(Drop)]
+#[derive(Clone, Copy)]
 pub enum Printed {
     Bytes(usize),
     Malformed,

@@ -1,6 +1,8 @@
 // Decodes standard input, at most 4,096 bytes, and prints text and issues: docs/01-scope.md, below
 // "The table of twelve". The cell table is `jis.tab` in the working directory, or zeros if there is
 // none. All that is printed is `listing_lines::listing` of what was read.
+#![tactic(auto)]
+
 use files::{read, read_table};
 use libc::{STDIN_FILENO, STDOUT_FILENO};
 

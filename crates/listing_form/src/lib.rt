@@ -1,4 +1,6 @@
 // The form of the lines that the program `listing` prints: from numbers and bytes to lines.
+#![tactic(auto)]
+
 ghost use Rattle.std.specs.Prelude.{◌+◌, ◌*◌, ◌≤◌, length};
 ghost use Rattle.lent.specs.Put.{Put};
 ghost use Rattle.ascii.specs.Promises.{Printed};

@@ -1,4 +1,6 @@
 // All that the program `listing` prints: the decoding call, and its answer in the form of `listing_form`.
+#![tactic(auto)]
+
 ghost use Rattle.std.specs.Prelude.{◌≡◌, length};
 ghost use Rattle.questions.specs.Questions.{first_refusal};
 ghost use Rattle.ascii.specs.Promises.{Printed};

@@ -1,5 +1,7 @@
 // The measuring call: how many bytes of text, issues and charge a string is read with, or the number of the first
 // question that fails. Request 5, "How much buffer", and 01, "The questions, put in this order".
+#![tactic(auto)]
+
 pub mod values;
 
 ghost use Rattle.std.specs.Prelude.{◌≡◌, length};
@@ -9,7 +11,7 @@ ghost use Rattle.measure.specs.Promises.{Answered};
 
 /// What a measuring call answers: the text's bytes, the issues and the charge, or the number of the first question that
 /// it fails, with its place.
-#[derive(Drop)]
+#[derive(Clone, Copy)]
 pub enum MeasureAnswer {
     Measured {
         text: usize,

@@ -1,4 +1,6 @@
 // Private-use characters: the Private Use Area of the Basic Multilingual Plane. The Unicode Standard, 23.5.
+#![tactic(auto)]
+
 ghost use Rattle.std.specs.Prelude.{◌≡◌};
 ghost use Rattle.private_use.specs.PrivateUse.{is_private_use};
 

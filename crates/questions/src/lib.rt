@@ -1,5 +1,6 @@
 // What every public call shares: the first three of the questions, which concern the cell table, the options and the
 // length of the input, and the zeros past a result.
+#![tactic(auto)]
 
 ghost use Rattle.std.specs.Prelude.{◌≡◌};
 ghost use Rattle.questions.specs.Questions.{all, scalar, zero?, cells_hold, options_hold, first_refusal};

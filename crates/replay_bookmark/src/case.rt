@@ -10,7 +10,7 @@ pub const RETURN: u32 = 1;
 /// Where the input starts in a case.
 pub const INPUT: usize = 72;
 
-#[derive(Drop)]
+#[derive(Clone, Copy)]
 pub struct Case {
     /// `SET` or `RETURN`.
     pub call: u32,

@@ -1,6 +1,8 @@
 // Holds the calls of bookmarks to calls whose answers are known: `bookmark.bin` has the calls with their answers,
 // `jis.tab` the cell table (compare/README.md has the layout). A line says how many answers were compared and how many
 // differ.
+#![tactic(auto)]
+
 mod calls;
 mod case;
 mod replaying;

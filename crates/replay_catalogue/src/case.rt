@@ -13,7 +13,7 @@ pub const REMOVE: u32 = 1;
 /// A key is sought.
 pub const FIND: u32 = 2;
 
-#[derive(Drop)]
+#[derive(Clone, Copy)]
 pub struct Case {
     /// `ADD`, `REMOVE` or `FIND`.
     pub call: u32,

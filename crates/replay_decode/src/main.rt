@@ -1,5 +1,7 @@
 // Holds `decode_with`, `measure` and `clean` to calls whose answers are known: `decode.bin` has the calls with their answers,
 // `jis.tab` the cell table (compare/README.md has the layout). A line says how many calls were compared and how many differ.
+#![tactic(auto)]
+
 mod decoding;
 
 use replay_vectors::files::{cells, read};

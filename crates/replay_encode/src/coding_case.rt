@@ -3,7 +3,7 @@ ghost use Rattle.replay_encode.specs.Small.{Small};
 
 use replay_vectors::numbers::{count, number};
 
-#[derive(Drop)]
+#[derive(Clone, Copy)]
 pub struct CodingCase {
     /// 0 for `jis.tab`, 1 for zeros.
     pub table: u32,

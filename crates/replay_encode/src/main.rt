@@ -1,5 +1,7 @@
 // Holds `encode_with` to calls whose answers are known: `encode.bin` has the calls with their answers, `jis.tab` the cell
 // table (compare/README.md has the layout). A line says how many answers were compared and how many differ.
+#![tactic(auto)]
+
 mod coding;
 mod coding_case;
 

@@ -1,6 +1,8 @@
 // Holds the leaf functions to the Rust's answers over their whole domains. `leaves.bin` has the answers and `jis.tab`
 // the cell table (oracle/README.md has both layouts). A line for each part says how many numbers were compared and how
 // many differ.
+#![tactic(auto)]
+
 mod characters;
 mod codes;
 mod numbers;

@@ -5,7 +5,7 @@ use crate::{characters, codes};
 use replay_vectors::files::byte;
 use replay_vectors::tally::Tally;
 
-#[derive(Drop)]
+#[derive(Clone, Copy)]
 pub enum Part {
     Kanji,
     AdditionalSymbols,

@@ -1,7 +1,7 @@
 // How many answers were compared, and how many of them differ.
 use libc::STDOUT_FILENO;
 
-#[derive(Drop)]
+#[derive(Clone, Copy)]
 pub struct Tally {
     pub compared: usize,
     pub differing: usize,

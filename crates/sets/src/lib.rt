@@ -1,6 +1,8 @@
 // Graphic sets, their final bytes, and the escape sequences that designate and invoke them in the eight-unit code.
 //
 // ARIB STD-B24 volume 1 part 2, 7.1.1: Table 7-1 (invocation), Table 7-2 (designation), Table 7-3 (sets and final bytes).
+#![tactic(auto)]
+
 ghost use Rattle.std.specs.Prelude.{◌≡◌, true, false, map, ◌%◌};
 ghost use Rattle.sets.specs.Sets.{
   set_number,
@@ -23,7 +25,7 @@ ghost use Rattle.sets.specs.Sets.{
 use control::ESC;
 
 /// A graphic set that can be designated to G0 .. G3: Table 7-3.
-#[derive(Drop)]
+#[derive(Clone, Copy)]
 pub enum GraphicSet {
     /// Table 7-4, two bytes a character, F = 04/2.
     Kanji,
@@ -62,14 +64,14 @@ pub enum GraphicSet {
 }
 
 /// The set that a designation selects, if Table 7-3 has one.
-#[derive(Drop)]
+#[derive(Clone, Copy)]
 pub enum Designated {
     Set(GraphicSet),
     Unknown,
 }
 
 /// A short byte string: the first `len` of `bytes`, and zeros after them.
-#[derive(Drop)]
+#[derive(Clone, Copy)]
 pub struct Sequence {
     pub bytes: [u8; 5],
     pub len: usize,
@@ -283,7 +285,7 @@ fn two_byte_drcs(f: u8) -> Designated
 }
 
 /// Locking and single shifts: Table 7-1.
-#[derive(Drop)]
+#[derive(Clone, Copy)]
 pub enum Shift {
     /// LS0, 00/15: G0 to GL, locking.
     Ls0,
@@ -403,7 +405,7 @@ pub fn same(a: &[u8], b: &[u8]) -> bool
 }
 
 /// The character size that SSZ, MSZ, NSZ or SZX selects: Table 7-16.
-#[derive(Drop)]
+#[derive(Clone, Copy)]
 pub enum CharSize {
     /// SSZ, 08/8.
     Small,
@@ -430,14 +432,14 @@ impl CharSize {
 }
 
 /// What is designated and invoked before the first byte: for captions by part 3, Table 8-2, for SI with katakana in G3.
-#[derive(Drop)]
+#[derive(Clone, Copy)]
 pub enum InitialState {
     Si,
     Caption,
 }
 
 /// The code elements in GL and GR.
-#[derive(Drop)]
+#[derive(Clone, Copy)]
 pub struct Invocations {
     pub gl: u8,
     pub gr: u8,

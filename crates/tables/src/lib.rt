@@ -1,13 +1,15 @@
 // Cells of the two-byte graphic sets, mapped to Unicode: ARIB STD-B24 volume 1 part 2, 7.1.1.3 (Tables 7-4, 7-10 and
 // 7-11), 7.2.1.1.1 (Table 7-19) and Annex E. A character is a Unicode scalar; a number that stands for one is 0 where
 // there is none.
+#![tactic(auto)]
+
 ghost use Rattle.std.specs.Prelude.{◌≡◌, ◌&&◌, leb, ltb};
 ghost use Rattle.addsym.specs.Symbols.{symbol};
 ghost use Rattle.tables.specs.Kanji.{CellReads, non_spacing, kanji_overrides, assigned, has_character, place_value, cell_with, table_at, jis_x0208_at, gap, kanji_symbol, kanji_at};
 ghost use Rattle.tables.specs.Marks.{mark_test};
 
 /// What a cell of a two-byte set reads as: an ordinary character, a private-use one, or none.
-#[derive(Drop)]
+#[derive(Clone, Copy)]
 pub enum Cell {
     Char(u32),
     PrivateUse(u32),
@@ -15,14 +17,14 @@ pub enum Cell {
 }
 
 /// A row and a cell, each from 1.
-#[derive(Drop)]
+#[derive(Clone, Copy)]
 pub enum Place {
     At(u8, u8),
     Nowhere,
 }
 
 /// A cell of the Kanji set and its character.
-#[derive(Drop)]
+#[derive(Clone, Copy)]
 pub struct Assignment {
     pub row: u8,
     pub cell: u8,
@@ -30,7 +32,7 @@ pub struct Assignment {
 }
 
 /// Whether a character is a mark, and the turns that the test for it took.
-#[derive(Drop)]
+#[derive(Clone, Copy)]
 pub struct MarkTest {
     pub mark: bool,
     pub turns: usize,

@@ -4,27 +4,29 @@
 //
 // The code has rules where the Rust has tables in memory, since a constant array is built anew at each use. The proofs
 // hold the rules to the tables of specs/.
+#![tactic(auto)]
+
 ghost use Rattle.std.specs.Prelude.{◌≡◌, ◌≤◌, ◌<◌};
 ghost use Rattle.tables_onebyte.specs.OneByte.{fullwidth_of, one_byte_at, OneByteReads};
 ghost use Rattle.tables_onebyte.specs.Reverse.{code_value, one_byte_reverse};
 ghost use Rattle.tables_onebyte.specs.Promises.{run_at, alphanumeric_at, kana_at, KanaFits, Inverse};
 
 /// What a code of a one-byte set reads as.
-#[derive(Drop)]
+#[derive(Clone, Copy)]
 pub enum OneByteChar {
     Char(u32),
     Undefined,
 }
 
 /// A GL code, 21 to 7E.
-#[derive(Drop)]
+#[derive(Clone, Copy)]
 pub enum Code {
     Gl(u8),
     Nothing,
 }
 
 /// The one-byte tables. `Fullwidth` is the alphanumeric set in a full-width character field.
-#[derive(Drop)]
+#[derive(Clone, Copy)]
 pub enum OneByteTable {
     Alphanumeric,
     Fullwidth,
@@ -35,7 +37,7 @@ pub enum OneByteTable {
 
 /// The numbers of a kana set: a run of characters from `first` at code 21 on, to the code `last`, and the first of the
 /// two iteration marks, at 77 and 78. Six signs, at 79 to 7E, are those of both sets.
-#[derive(Drop)]
+#[derive(Clone, Copy)]
 struct Kana {
     first: u32,
     last: u8,

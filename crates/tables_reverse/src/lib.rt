@@ -1,4 +1,6 @@
 // Reverse look-ups in the two-byte sets: the first cell in row order that reads as a character.
+#![tactic(auto)]
+
 ghost use Rattle.std.specs.Prelude.{◌≡◌, true, false, List, ℕ, ◌≤◌, ◌<◌, length, get_or, drop};
 ghost use Rattle.base.specs.First.{first_from};
 ghost use Rattle.addsym.specs.Symbols.{symbol};

@@ -1,5 +1,7 @@
 // The calls that other programs link: lib.rs. Each is a function of the crates below, with plain C
 // names; a slice passes as a pointer and a length.
+#![tactic(auto)]
+
 ghost use Rattle.decode.specs.Answers.{lent};
 ghost use Rattle.reading.specs.WithoutBuffers as unbuffered;
 ghost use Rattle.key.specs.Promises as keys;

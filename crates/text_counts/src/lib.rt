@@ -1,4 +1,6 @@
 // What the exported calls leave in a slice of counts, which may have any length.
+#![tactic(auto)]
+
 ghost use Rattle.std.specs.Prelude.{◌≡◌, ◌∷◌, set};
 ghost use Rattle.text_counts.specs.Counts.{fronted, escape_start};
 

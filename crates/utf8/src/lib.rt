@@ -1,5 +1,7 @@
 // UTF-8, in the place of Rust's `char` and `str`: a scalar is a u32, and a text is lent bytes.
 // The Unicode Standard, chapter 3: Table 3-6 (bit distribution) and Table 3-7 (well-formed byte sequences).
+#![tactic(auto)]
+
 ghost use Rattle.std.specs.Prelude.{◌≡◌, [], ◌∷◌, ◌+◌, ◌<◌, length, get_or, drop};
 ghost use Rattle.std.proofs.lemmas.List.Edits.{sets};
 ghost use Rattle.utf8.specs.Utf8.{
@@ -18,7 +20,7 @@ ghost use Rattle.utf8.specs.Utf8.{
 };
 
 /// What stands at a place of a text.
-#[derive(Drop)]
+#[derive(Clone, Copy)]
 pub enum Sequence {
     /// A well-formed sequence: its scalar, and its length in bytes.
     Scalar(u32, usize),
@@ -29,7 +31,7 @@ pub enum Sequence {
 }
 
 /// Whether a text is well-formed, or where its first ill-formed sequence begins.
-#[derive(Drop)]
+#[derive(Clone, Copy)]
 pub enum Text {
     WellFormed,
     FaultAt(usize),

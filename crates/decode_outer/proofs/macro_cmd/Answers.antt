@@ -1,0 +1,47 @@
+-- `macro_cmd`: the command is cut, ends, is malformed, or defines a macro.
+use Prim.Native.Nat.{◌-◌}
+use mathlib.Core.Path.{◌∙◌, ap}
+use lib.ListN.{length}
+use Rattle.decode_macros.specs.declared.Command.{Command}
+use Rattle.decode_macros.specs.Promises.{commanded}
+use Rattle.decode_bodies.specs.Promises.{below}
+use Rattle.decode_bodies.proofs.Steps.{took_ran}
+use Rattle.decode_bodies.proofs.Commands.{took_cut, took_malformed, within_malformed, within_ends, within_defines}
+use Rattle.decode_outer.proofs.Defining.{outer, outer_ends, outer_as}
+use Rattle.decode_outer.proofs.macro_cmd.Goals as goal
+
+pub definition-requires : goal.definition-requires
+definition-requires c =
+    (c.requires.outside, (c.requires.i_in_bounds, within_defines _ _ c.read_command.ensures.within c.in-Defines.is))
+
+pub returns-in-Cut : goal.returns-in-Cut
+returns-in-Cut c =
+    let outside = c.requires.outside in
+    outer c.with_core.ensures outside.inside
+    (took_ran (λ g. below g 4) outside.ready.within
+    (λ R. took_cut _ _ _ _ c.read_command.ensures.means _ _ _ _ _ c.in-Cut.is c.truncated-r.ensures 4 R c.args.i c.args.cells.now _))
+
+pub returns-in-Ends : goal.returns-in-Ends
+returns-in-Ends c =
+    let read = c.read_command.ensures in
+    let case = c.in-Ends.is in
+    outer_ends _ _ _ _ _ _ _ _ read.0 case (within_ends _ _ read.1 case) c.requires.outside
+
+pub returns-in-Malformed : goal.returns-in-Malformed
+returns-in-Malformed c =
+    let outside = c.requires.outside in
+    let read = c.read_command.ensures in
+    let case = c.in-Malformed.is in
+    outer c.with_core-in-Malformed.ensures outside.inside
+    (took_ran (λ g. below g 4) outside.ready.within
+    (λ R. took_malformed _ _ _ _ read.0 _ _ _ _ _ case (within_malformed _ _ read.1 case) c.report-after.ensures 4 R c.args.i c.args.cells.now _))
+
+pub returns-in-Defines : goal.returns-in-Defines
+unfolding commanded
+returns-in-Defines c =
+    let a = c.args in
+    outer_as
+    (λ g s k.
+    c.read_command.ensures.means g 4 (below g 4) a.i a.i s
+    ∙ ap (λ (z : Command). commanded z (length a.input.now - a.i) g 4 (below g 4) a.i a.i s) c.in-Defines.is)
+    c.definition.ensures

@@ -1,0 +1,17 @@
+-- `key::finish` meets its contract, by the decoding's answer. Assumes nothing.
+use mathlib.Core.Path.{ap}
+use native.Mathlib.Omega.{arith}
+use Rattle.decode.specs.Answers.{text_of}
+use Rattle.key.proofs.Calls.{keyed_as, refused_as}
+use Rattle.key.proofs.finish.Goals as goal
+
+pub from_text-requires : goal.from_text-requires
+from_text-requires c =
+    omega (arith, ap text_of c.in-Decoded.is, c.requires)
+
+pub returns-in-Decoded : goal.returns-in-Decoded
+returns-in-Decoded c =
+    λ l d. keyed_as l _ _ d _ _ _ _ _ _ c.in-Decoded.is c.from_text.ensures
+
+pub returns-in-Refused : goal.returns-in-Refused
+returns-in-Refused c = λ l d. refused_as l _ _ d _ _ _ c.in-Refused.is c.refuse.ensures

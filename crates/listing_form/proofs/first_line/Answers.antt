@@ -1,0 +1,11 @@
+-- `first_line` meets its contract: words and numbers stand one after another. Assumes nothing.
+use Rattle.lent.proofs.Putting.{put_then}
+use Rattle.listing_form.specs.Lines.{first_line}
+use Rattle.listing_form.proofs.first_line.Goals as goal
+
+pub returns : goal.returns
+unfolding first_line
+returns c =
+    let text = put_then c.word-at.ensures c.decimal-at.ensures.put in
+    let issues = put_then (put_then text c.word-at-2.ensures) c.decimal-at-2.ensures.put in
+    put_then (put_then (put_then issues c.word-at-3.ensures) c.decimal-at-3.ensures.put) c.word.ensures

@@ -1,0 +1,11 @@
+-- `replay` is safe and ends: each turn takes one more case, which starts in the file. Assumes nothing.
+use Prim.Native.Nat.{◌-◌, ◌≤◌}
+use mathlib.Core.Path.{◌≡◌}
+use lib.ListN.{length}
+use Rattle.replay_bookmark.proofs.replaying.replay.Given as goal
+
+abbrev pub invariant-loop : goal.invariant-loop
+invariant-loop l = (l.at ≤ length l.file) × (4593 ≡ length l.store)
+
+abbrev pub decreases-loop : goal.decreases-loop
+decreases-loop l = l.cases - l.counter

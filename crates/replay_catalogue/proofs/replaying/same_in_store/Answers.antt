@@ -1,0 +1,8 @@
+-- `same_in_store` is safe: the stated length is within the store. Assumes nothing.
+use mathlib.Core.Path.{sym}
+use native.Mathlib.Omega.{arith}
+use lib.Seq.{length-take-le}
+use Rattle.replay_catalogue.proofs.replaying.same_in_store.Goals as goal
+
+pub slice_bounds-same-end-2 : goal.slice_bounds-same-end-2
+slice_bounds-same-end-2 c = sym (length-take-le _ _ (omega arith))

@@ -1,0 +1,79 @@
+-- `tables_reverse::additional_reverse` meets its contract. The invariant: nothing is found before the cell. Assumes nothing.
+use mathlib.Core.Path.{◌≡◌, refl, sym, ap, ◌∙◌}
+use mathlib.Core.List.{[]}
+use mathlib.Core.Option.{none}
+use Prim.Native.Nat.{ℕ}
+use native.Mathlib.Omega.{arith}
+use Rattle.addsym.specs.Symbols.{symbol}
+use Rattle.tables_reverse.specs.Reverse.{symbol_place, additional_reverse, place_of}
+use Rattle.base.proofs.FirstLaws.{first_char, first_zero}
+use Rattle.tables_reverse.proofs.PlaceLaws.{symbol_place_lem}
+use Rattle.tables_reverse.proofs.RowLaws.{no_cell}
+use Rattle.tables_reverse.proofs.PassedLaws.{next_cell, next_row, past_rows, found_here, found_nowhere}
+use Rattle.tables_reverse.proofs.SymbolLaws.{from_85}
+use Rattle.tables_reverse.proofs.additional_reverse.Goals as goal
+
+-- a character that no cell reads as
+nowhere : (c : ℕ) → (c ≡ 0 → ⊥) → ((row cell : ℕ) → symbol row cell ≡ c → ⊥) → none ≡ additional_reverse c
+unfolding additional_reverse
+nowhere c h n =
+    past_rows 10 85 refl (from_85 c h) (λ r k a b d e q. n r k (sym (symbol_place_lem r k (omega arith) b d e 0) ∙ q))
+    ∙ ap place_of (sym (first_char symbol_place c [] 8836 h))
+
+pub returns-then-c-eq0 : goal.returns-then-c-eq0
+unfolding additional_reverse
+returns-then-c-eq0 c = ap place_of (sym (first_zero symbol_place 8836 c.args.c [] c.if-c-eq0.true))
+
+pub returns-then-is_no_symbol : goal.returns-then-is_no_symbol
+returns-then-is_no_symbol c =
+    let h = c.if-c-eq0.false in
+    nowhere c.args.c h (λ r k. c.is_no_symbol.ensures c.if-is_no_symbol.true r k h)
+
+pub returns-then-not-among_symbols : goal.returns-then-not-among_symbols
+returns-then-not-among_symbols c =
+    let h = c.if-c-eq0.false in
+    let x = c.args.c in
+    nowhere x h (no_cell c.symbols-scalars.result x c.symbols-scalars.ensures h (c.among_symbols.ensures c.if-not-among_symbols.true))
+
+pub rows-init : goal.rows-init
+rows-init c =
+    from_85 c.args.c c.if-c-eq0.false
+
+pub cells-init : goal.cells-init
+cells-init c = c.rows.invariant
+
+pub overflow_add-cell : goal.overflow_add-cell
+overflow_add-cell c = omega arith
+
+pub cells-smaller : goal.cells-smaller
+cells-smaller c = omega arith
+
+pub cells-preserved : goal.cells-preserved
+cells-preserved c =
+    let p = c.cells.invariant in
+    let e = symbol_place_lem c.rows.row c.cells.cell p.row_from (omega arith) p.cell_from (omega arith) 0 in
+    let s = c.symbol_in.ensures ∙ c.symbols-scalars.ensures c.rows.row c.cells.cell in
+    next_cell p c.rows-test.true c.cells-test.true (λ q. c.if-symbol_in-c.false (s ∙ sym e ∙ q))
+
+pub overflow_add-row : goal.overflow_add-row
+overflow_add-row c = omega arith
+
+pub rows-smaller : goal.rows-smaller
+rows-smaller c = omega arith
+
+pub rows-preserved : goal.rows-preserved
+rows-preserved c = next_row c.cells.invariant c.rows-test.true (omega arith)
+
+pub returns-after-rows : goal.returns-after-rows
+unfolding additional_reverse
+returns-after-rows c =
+    found_nowhere c.rows.invariant (omega arith) ∙ ap place_of (sym (first_char symbol_place c.args.c [] 8836 c.if-c-eq0.false))
+
+pub returns-then-symbol_in-c : goal.returns-then-symbol_in-c
+unfolding additional_reverse
+returns-then-symbol_in-c c =
+    let p = c.cells.invariant in
+    let e = symbol_place_lem c.rows.row c.cells.cell p.row_from (omega arith) p.cell_from (omega arith) 0 in
+    let s = c.symbol_in.ensures ∙ c.symbols-scalars.ensures c.rows.row c.cells.cell in
+    found_here p c.rows-test.true c.cells-test.true (e ∙ sym s ∙ c.if-symbol_in-c.true)
+    ∙ ap place_of (sym (first_char symbol_place c.args.c [] 8836 c.if-c-eq0.false))

@@ -1,0 +1,12 @@
+-- `utf8::first_fault` meets its contract: from `at` on the first fault is that of the whole text; each turn takes one sequence of one byte at least. Assumes nothing.
+use mathlib.Core.Path.{◌≡◌}
+use Prim.Native.Nat.{◌-◌, ◌≤◌}
+use lib.ListN.{length, drop}
+use Rattle.utf8.specs.Utf8.{fault_from, first_fault}
+use Rattle.utf8.proofs.first_fault.Given as goal
+
+abbrev pub invariant-loop-at : goal.invariant-loop-at
+invariant-loop-at l = (l.at ≤ length l.text) × (first_fault l.text ≡ fault_from l.at 0 (drop l.at l.text))
+
+abbrev pub decreases-loop-at : goal.decreases-loop-at
+decreases-loop-at l = length l.text - l.at
