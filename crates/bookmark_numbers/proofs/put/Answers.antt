@@ -10,8 +10,8 @@ use Rattle.bookmark_numbers.proofs.put.Goals as goal
 
 pub put_lens-n-requires : goal.put_lens-n-requires
 put_lens-n-requires c =
-    let starts : length c.args.t4.starts ≡ 128 = search rules in
-    let lens : length c.args.t4.lens ≡ 128 = search rules in
+    let starts : length c.args.d.starts ≡ 128 = search rules in
+    let lens : length c.args.d.lens ≡ 128 = search rules in
     let front : length c.front_of-front.result ≡ 12 = search rules in
     let a = c.put_all-n.ensures in
     let b = c.put_all-n-2.ensures in
@@ -22,7 +22,7 @@ put_lens-n-requires c =
       starts,
       lens,
       front,
-      length_plus c.args.t4.starts,
+      length_plus c.args.d.starts,
       ap length c.unpack-marks.ensures ∙ length_padded 16 _,
       a.next,
       b.next,
@@ -38,8 +38,8 @@ overflow_cast-back c =
 
 pub put_all-requires : goal.put_all-requires
 put_all-requires c =
-    let starts : length c.args.t4.starts ≡ 128 = search rules in
-    let lens : length c.args.t4.lens ≡ 128 = search rules in
+    let starts : length c.args.d.starts ≡ 128 = search rules in
+    let lens : length c.args.d.lens ≡ 128 = search rules in
     let front : length c.front_of-front.result ≡ 12 = search rules in
     let a = c.put_all-n.ensures in
     let b = c.put_all-n-2.ensures in
@@ -51,7 +51,7 @@ put_all-requires c =
       starts,
       lens,
       front,
-      length_plus c.args.t4.starts,
+      length_plus c.args.d.starts,
       ap length c.unpack-marks.ensures ∙ length_padded 16 _,
       a.next,
       b.next,

@@ -10,11 +10,10 @@ wait-requires c =
 
 pub returns-then-is_non_spacing : goal.returns-then-is_non_spacing
 returns-then-is_non_spacing c =
-    let cell = c.cell-1 in
     let is-non-spacing = c.is_non_spacing in
     let if1 = c.if-is_non_spacing in
     let wait = c.wait in
-    λ cells x e. did_as (λ g q starts lens t₀ i₀ s k. cell_mark _ _ s x _ (rw cell.given.1 at e) (tested _ is-non-spacing.ensures if1.true)) (wait.ensures cells _)
+    λ cells x e. did_as (λ g q starts lens t₀ i₀ s k. cell_mark _ _ s x _ (rw c.in-Char.is at e) (tested _ is-non-spacing.ensures if1.true)) (wait.ensures cells _)
 
 pub show-requires : goal.show-requires
 show-requires c =
@@ -26,11 +25,10 @@ show_private_use-requires c =
 
 pub returns-else-is_non_spacing : goal.returns-else-is_non_spacing
 returns-else-is_non_spacing c =
-    let cell = c.cell-1 in
     let is-non-spacing = c.is_non_spacing in
     let if1 = c.if-is_non_spacing in
     let show = c.show in
-    λ cells x e. did_as (λ g q starts lens t₀ i₀ s k. cell_char _ _ s x _ (rw cell.given.1 at e) (tested _ is-non-spacing.ensures if1.false)) (show.ensures cells _)
+    λ cells x e. did_as (λ g q starts lens t₀ i₀ s k. cell_char _ _ s x _ (rw c.in-Char.is at e) (tested _ is-non-spacing.ensures if1.false)) (show.ensures cells _)
 
 pub returns-in-PrivateUse : goal.returns-in-PrivateUse
 returns-in-PrivateUse c =

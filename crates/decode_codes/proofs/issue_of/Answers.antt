@@ -19,4 +19,4 @@ pub returns-in_default : goal.returns-in_default
 unfolding issue_of
 returns-in_default c =
     let z = c.args.set in
-    let n = c.in_default.in_default-own.rest in rw (c.code_of-code.ensures, ne_eqb z 0 n.0.0.1, ne_eqb z 14 n.0.1, ne_eqb z 16 n.1)
+    rw (c.code_of-code.ensures, ne_eqb z 0 c.in_default.in_default-own.rest.0.0.1, ne_eqb z 14 c.in_default.in_default-own.rest.0.1, ne_eqb z 16 c.in_default.in_default-own.rest.1)

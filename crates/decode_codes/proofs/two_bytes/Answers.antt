@@ -19,8 +19,7 @@ pub returns-in-12-to-14 : goal.returns-in-12-to-14
 unfolding bytes_per_char
 returns-in-12-to-14 c =
     let a = c.args in
-    let m = c.in-12-to-14.in_default-own in
-    let z = a.set in rw (ne_eqb z 0 m.rest.0.1, le-leb 12 z (omega arith), le-leb z 14 (omega arith))
+    let z = a.set in rw (ne_eqb z 0 c.in-12-to-14.in_default-own.rest.0.1, le-leb 12 z (omega arith), le-leb z 14 (omega arith))
 
 pub returns-in_default : goal.returns-in_default
 unfolding bytes_per_char
@@ -32,5 +31,4 @@ pub returns-in_default-2 : goal.returns-in_default-2
 unfolding bytes_per_char
 returns-in_default-2 c =
     let a = c.args in
-    let m = c.in_default.in_default-own in
-    let z = a.set in rw (ne_eqb z 0 m.rest.0.1, le-leb 12 z (omega arith), lt-leb z 14 (omega arith), ne_eqb z 16 m.rest.1)
+    let z = a.set in rw (ne_eqb z 0 c.in_default.in_default-own.rest.0.1, le-leb 12 z (omega arith), lt-leb z 14 (omega arith), ne_eqb z 16 c.in_default.in_default-own.rest.1)

@@ -28,7 +28,7 @@ returns-in-17-to-255 c =
 pub returns-in_default : goal.returns-in_default
 returns-in_default c =
     let a = c.args in
-    let if1 = c.if-set-lt4 in
+    let if1 = c.in_default in
     let letter_at = c.letter_at-x in
     let is_narrow_lem = c.is_narrow in
     let pre = c.requires in

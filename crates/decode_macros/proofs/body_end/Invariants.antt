@@ -6,9 +6,7 @@ use Rattle.reading.specs.Macros.{end_of}
 use Rattle.decode_macros.proofs.body_end.Given as goal
 
 abbrev pub invariant-loop-j : goal.invariant-loop-j
-invariant-loop-j l =  -- PARAMS ['b', 'from', 'j₀', 't4', 'j'] VARS ['l.b', 'l.from', 'l.initial.j', 'l.j']
-    (j ≤ length l.b) × (l.from + end_of (drop l.from l.b) ≡ j + end_of (drop j l.b))
+invariant-loop-j l = (l.j ≤ length l.b) × (l.from + end_of (drop l.from l.b) ≡ l.j + end_of (drop l.j l.b))
 
 abbrev pub decreases-loop-j : goal.decreases-loop-j
-decreases-loop-j l =  -- PARAMS ['b', 'from', 'j₀', 't4', 'j'] VARS ['l.b', 'l.from', 'l.initial.j', 'l.j']
-    length l.b - j
+decreases-loop-j l = length l.b - l.j

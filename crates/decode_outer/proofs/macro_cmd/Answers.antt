@@ -24,17 +24,15 @@ returns-in-Cut c =
 pub returns-in-Ends : goal.returns-in-Ends
 returns-in-Ends c =
     let read = c.read_command.ensures in
-    let case = c.in-Ends.is in
-    outer_ends _ _ _ _ _ _ _ _ read.0 case (within_ends _ _ read.1 case) c.requires.outside
+    outer_ends _ _ _ _ _ _ _ _ read.0 c.in-Ends.is (within_ends _ _ read.1 c.in-Ends.is) c.requires.outside
 
 pub returns-in-Malformed : goal.returns-in-Malformed
 returns-in-Malformed c =
     let outside = c.requires.outside in
     let read = c.read_command.ensures in
-    let case = c.in-Malformed.is in
     outer c.with_core-in-Malformed.ensures outside.inside
     (took_ran (λ g. below g 4) outside.ready.within
-    (λ R. took_malformed _ _ _ _ read.0 _ _ _ _ _ case (within_malformed _ _ read.1 case) c.report-after.ensures 4 R c.args.i c.args.cells.now _))
+    (λ R. took_malformed _ _ _ _ read.0 _ _ _ _ _ c.in-Malformed.is (within_malformed _ _ read.1 c.in-Malformed.is) c.report-after.ensures 4 R c.args.i c.args.cells.now _))
 
 pub returns-in-Defines : goal.returns-in-Defines
 unfolding commanded

@@ -7,5 +7,5 @@ use Rattle.decode_runs.proofs.with_settings.Goals as goal
 
 pub returns : goal.returns
 returns c =
-    let seven : length c.args.t2 ≡ 7 = search rules in
-    core_of_lem c.args.t2 c.args.len c.args.private_use c.args.s seven
+    let seven : length c.args.settings ≡ 7 = search rules in
+    core_of_lem c.args.settings c.args.len c.args.private_use c.args.s seven

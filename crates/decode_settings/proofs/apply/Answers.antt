@@ -25,25 +25,22 @@ pub returns-in-Gl : goal.returns-in-Gl
 unfolding step_of
 returns-in-Gl c =
     let p = c.requires in
-    let is = c.in-Gl.is in
-    let four = subst (λ (e : Effect). element_of e < 4) is p.0 in
-    λ f b i r place at. turns_read r is place at (turns_gl p.1 r.some r.within _ four c.put.ensures)
+    let four = subst (λ (e : Effect). element_of e < 4) c.in-Gl.is p.0 in
+    λ f b i r place at. turns_read r c.in-Gl.is place at (turns_gl p.1 r.some r.within _ four c.put.ensures)
 
 pub returns-in-Gr : goal.returns-in-Gr
 unfolding step_of
 returns-in-Gr c =
     let p = c.requires in
-    let is = c.in-Gr.is in
-    let four = subst (λ (e : Effect). element_of e < 4) is p.0 in
-    λ f b i r place at. turns_read r is place at (turns_gr p.1 r.some r.within _ four c.put-in-Gr.ensures)
+    let four = subst (λ (e : Effect). element_of e < 4) c.in-Gr.is p.0 in
+    λ f b i r place at. turns_read r c.in-Gr.is place at (turns_gr p.1 r.some r.within _ four c.put-in-Gr.ensures)
 
 pub returns-in-Designates : goal.returns-in-Designates
 unfolding step_of
 returns-in-Designates c =
     let p = c.requires in
-    let is = c.in-Designates.is in
-    let four = subst (λ (e : Effect). element_of e < 4) is p.0 in
-    λ f b i r place at. turns_read r is place at (turns_set p.1 r.some r.within _ _ four c.put-in-Designates.ensures)
+    let four = subst (λ (e : Effect). element_of e < 4) c.in-Designates.is p.0 in
+    λ f b i r place at. turns_read r c.in-Designates.is place at (turns_set p.1 r.some r.within _ _ four c.put-in-Designates.ensures)
 
 pub returns-in-Narrow : goal.returns-in-Narrow
 unfolding step_of

@@ -41,89 +41,79 @@ pub returns-in-15 : goal.returns-in-15
 unfolding step control0 is_gl is_gr
 returns-in-15 c =
     let a = c.args in
-    let is = c.in-15.is in
     let done = c.apply.ensures in
     let read = c.invoke.ensures a.b.now a.i c.requires.0 in
-    λ g left R place at. turns_as (λ s. ap (λ (x : ℕ). step g left R x (drop (a.i + 1) a.b.now) place at s) is) (done _ _ _ read place at)
+    λ g left R place at. turns_as (λ s. ap (λ (x : ℕ). step g left R x (drop (a.i + 1) a.b.now) place at s) c.in-15.is) (done _ _ _ read place at)
 
 pub returns-in-14 : goal.returns-in-14
 unfolding step control0 is_gl is_gr
 returns-in-14 c =
     let a = c.args in
-    let is = c.in-14.is in
     let done = c.apply-in-14.ensures in
     let read = c.invoke-in-14.ensures a.b.now a.i c.requires.0 in
-    λ g left R place at. turns_as (λ s. ap (λ (x : ℕ). step g left R x (drop (a.i + 1) a.b.now) place at s) is) (done _ _ _ read place at)
+    λ g left R place at. turns_as (λ s. ap (λ (x : ℕ). step g left R x (drop (a.i + 1) a.b.now) place at s) c.in-14.is) (done _ _ _ read place at)
 
 pub returns-in-27 : goal.returns-in-27
 unfolding step control0 is_gl is_gr
 returns-in-27 c =
     let a = c.args in
-    let is = c.in-27.is in
     let done = c.apply-in-27.ensures in
     let read = c.escape.ensures in
-    λ g left R place at. turns_as (λ s. ap (λ (x : ℕ). step g left R x (drop (a.i + 1) a.b.now) place at s) is) (done _ _ _ read place at)
+    λ g left R place at. turns_as (λ s. ap (λ (x : ℕ). step g left R x (drop (a.i + 1) a.b.now) place at s) c.in-27.is) (done _ _ _ read place at)
 
 pub returns-in-136 : goal.returns-in-136
 unfolding step control1 is_gl is_gr
 returns-in-136 c =
     let a = c.args in
-    let is = c.in-136.is in
     let done = c.apply-in-136.ensures in
     let read = c.size.ensures a.b.now a.i c.requires.0 in
-    λ g left R place at. turns_as (λ s. ap (λ (x : ℕ). step g left R x (drop (a.i + 1) a.b.now) place at s) is) (done _ _ _ read place at)
+    λ g left R place at. turns_as (λ s. ap (λ (x : ℕ). step g left R x (drop (a.i + 1) a.b.now) place at s) c.in-136.is) (done _ _ _ read place at)
 
 pub returns-in-137 : goal.returns-in-137
 unfolding step control1 is_gl is_gr
 returns-in-137 c =
     let a = c.args in
-    let is = c.in-137.is in
     let done = c.apply-in-137.ensures in
     let read = c.size-in-137.ensures a.b.now a.i c.requires.0 in
-    λ g left R place at. turns_as (λ s. ap (λ (x : ℕ). step g left R x (drop (a.i + 1) a.b.now) place at s) is) (done _ _ _ read place at)
+    λ g left R place at. turns_as (λ s. ap (λ (x : ℕ). step g left R x (drop (a.i + 1) a.b.now) place at s) c.in-137.is) (done _ _ _ read place at)
 
 pub returns-in-138 : goal.returns-in-138
 unfolding step control1 is_gl is_gr
 returns-in-138 c =
     let a = c.args in
-    let is = c.in-138.is in
     let done = c.apply-in-138.ensures in
     let read = c.size-in-138.ensures a.b.now a.i c.requires.0 in
-    λ g left R place at. turns_as (λ s. ap (λ (x : ℕ). step g left R x (drop (a.i + 1) a.b.now) place at s) is) (done _ _ _ read place at)
+    λ g left R place at. turns_as (λ s. ap (λ (x : ℕ). step g left R x (drop (a.i + 1) a.b.now) place at s) c.in-138.is) (done _ _ _ read place at)
 
 pub returns-in-139 : goal.returns-in-139
 unfolding step control1 is_gl is_gr
 returns-in-139 c =
     let a = c.args in
-    let is = c.in-139.is in
     let done = c.apply-in-139.ensures in
     let read = c.szx.ensures in
-    λ g left R place at. turns_as (λ s. ap (λ (x : ℕ). step g left R x (drop (a.i + 1) a.b.now) place at s) is) (done _ _ _ read place at)
+    λ g left R place at. turns_as (λ s. ap (λ (x : ℕ). step g left R x (drop (a.i + 1) a.b.now) place at s) c.in-139.is) (done _ _ _ read place at)
 
 pub returns-in-144 : goal.returns-in-144
 returns-in-144 c =
     let a = c.args in
-    let is = c.in-144.is in
     λ g left R place at.
-    turns_as (λ s. step_colour g left R _ (drop (a.i + 1) a.b.now) place at s is) (c.apply-in-144.ensures _ _ _ c.colour.ensures place at)
+    turns_as (λ s. step_colour g left R _ (drop (a.i + 1) a.b.now) place at s c.in-144.is) (c.apply-in-144.ensures _ _ _ c.colour.ensures place at)
 
 pub returns-in-155 : goal.returns-in-155
 unfolding step control1 is_gl is_gr
 returns-in-155 c =
     let a = c.args in
-    let is = c.in-155.is in
     let done = c.apply-in-155.ensures in
     let read = c.csi.ensures in
-    λ g left R place at. turns_as (λ s. ap (λ (x : ℕ). step g left R x (drop (a.i + 1) a.b.now) place at s) is) (done _ _ _ read place at)
+    λ g left R place at. turns_as (λ s. ap (λ (x : ℕ). step g left R x (drop (a.i + 1) a.b.now) place at s) c.in-155.is) (done _ _ _ read place at)
 
 pub returns-in-157 : goal.returns-in-157
 unfolding step control1 is_gl is_gr
 returns-in-157 c =
     let a = c.args in
-    let is = c.in-157.is in
     let done = c.apply-in-157.ensures in
     let read = c.time.ensures in
-    λ g left R place at. turns_as (λ s. ap (λ (x : ℕ). step g left R x (drop (a.i + 1) a.b.now) place at s) is) (done _ _ _ read place at)
+    λ g left R place at. turns_as (λ s. ap (λ (x : ℕ). step g left R x (drop (a.i + 1) a.b.now) place at s) c.in-157.is) (done _ _ _ read place at)
 
 pub returns-in-32 : goal.returns-in-32
 returns-in-32 c =
@@ -170,8 +160,8 @@ pub returns-in_default : goal.returns-in_default
 returns-in_default c =
     let a = c.args in
     let x = get_or a.b.now a.i 0 in
-    let m = c.in-15.rest in
-    let came = c.if-this-lt32.branch in
+    let m = c.in_default-1.rest in
+    let came = c.in_default.branch in
     let l : is_gl x ≡ false =
     ⊎_elim (λ w. gl_below x (omega (arith, w.taken)))
     (⊎_elim (λ w. gl_above x w.1.left) (⊎_elim (λ w. gl_above x w.1.left) (λ w. gl_above x w.1.left))) came in

@@ -48,8 +48,8 @@ control-requires c =
     let a = c.args in
     let p = c.requires in
     let x = get_or a.b.now a.p.i 0 in
-    let came = c.if-x-lt32.branch in
-    let other = c.in-32.rest in
+    let came = c.in_default.branch in
+    let other = c.in_default-1.rest in
     let l : is_gl x ≡ false = ⊎_elim (λ w. gl_below x (omega (arith, w.taken)))
     (⊎_elim (λ w. gl_above x w.1.left) (λ w. gl_above x w.1.left)) came in
     let r : is_gr x ≡ false = ⊎_elim (λ w. gr_below x (omega (arith, w.taken)))
@@ -59,28 +59,24 @@ control-requires c =
 pub returns-in-32 : goal.returns-in-32
 returns-in-32 c =
     let a = c.args in
-    let is = c.in-32.is in
     let inside = c.requires.i_in_bounds.0 in
     λ left R.
-    took_as (λ g starts lens t₀ i₀ s h. step_space g left R _ _ _ _ s is) (c.space.ensures a.cells.now a.b.now a.issues.now a.p.i inside)
+    took_as (λ g starts lens t₀ i₀ s h. step_space g left R _ _ _ _ s c.in-32.is) (c.space.ensures a.cells.now a.b.now a.issues.now a.p.i inside)
 
 pub returns-in-13 : goal.returns-in-13
 returns-in-13 c =
     let a = c.args in
-    let is = c.in-13.is in
     let inside = c.requires.i_in_bounds.0 in
     λ left R.
-    took_as (λ g starts lens t₀ i₀ s h. step_newline g left R _ _ _ _ s is) (c.newline.ensures a.cells.now a.b.now a.p.i inside)
+    took_as (λ g starts lens t₀ i₀ s h. step_newline g left R _ _ _ _ s c.in-13.is) (c.newline.ensures a.cells.now a.b.now a.p.i inside)
 
 pub returns-in-25 : goal.returns-in-25
 returns-in-25 c =
-    let is = c.in-25.is in
-    λ left R. took_as (λ g starts lens t₀ i₀ s h. sym (step_shift g left R _ _ _ _ s 2 (inl (is, refl)))) (c.single_shift.ensures left R)
+    λ left R. took_as (λ g starts lens t₀ i₀ s h. sym (step_shift g left R _ _ _ _ s 2 (inl (c.in-25.is, refl)))) (c.single_shift.ensures left R)
 
 pub returns-in-29 : goal.returns-in-29
 returns-in-29 c =
-    let is = c.in-29.is in
-    λ left R. took_as (λ g starts lens t₀ i₀ s h. sym (step_shift g left R _ _ _ _ s 3 (inr (is, refl)))) (c.single_shift-in-29.ensures left R)
+    λ left R. took_as (λ g starts lens t₀ i₀ s h. sym (step_shift g left R _ _ _ _ s 3 (inr (c.in-29.is, refl)))) (c.single_shift-in-29.ensures left R)
 
 pub returns-in-33-to-126 : goal.returns-in-33-to-126
 returns-in-33-to-126 c =

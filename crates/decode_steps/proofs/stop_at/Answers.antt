@@ -31,17 +31,14 @@ returns-in-161-to-254 c =
 pub returns-in_default : goal.returns-in_default
 returns-in_default c =
     let a = c.args in
-    let rest = c.in_default.in_default-own.rest in
-    passes_other a.b.now a.i a.s (gl_below _ (omega arith)) (gr_below _ (omega arith)) rest.0.0.1 rest.0.1 rest.1
+    passes_other a.b.now a.i a.s (gl_below _ (omega arith)) (gr_below _ (omega arith)) c.in_default.in_default-own.rest.0.0.1 c.in_default.in_default-own.rest.0.1 c.in_default.in_default-own.rest.1
 
 pub returns-in_default-2 : goal.returns-in_default-2
 returns-in_default-2 c =
     let a = c.args in
-    let rest = c.in_default.in_default-own.rest in
-    passes_other a.b.now a.i a.s (gl_above _ (omega arith)) (gr_below _ (omega arith)) rest.0.0.1 rest.0.1 rest.1
+    passes_other a.b.now a.i a.s (gl_above _ (omega arith)) (gr_below _ (omega arith)) c.in_default.in_default-own.rest.0.0.1 c.in_default.in_default-own.rest.0.1 c.in_default.in_default-own.rest.1
 
 pub returns-in_default-3 : goal.returns-in_default-3
 returns-in_default-3 c =
     let a = c.args in
-    let rest = c.in_default.in_default-own.rest in
-    passes_other a.b.now a.i a.s (gl_above _ (omega arith)) (gr_above _ (omega arith)) rest.0.0.1 rest.0.1 rest.1
+    passes_other a.b.now a.i a.s (gl_above _ (omega arith)) (gr_above _ (omega arith)) c.in_default.in_default-own.rest.0.0.1 c.in_default.in_default-own.rest.0.1 c.in_default.in_default-own.rest.1
