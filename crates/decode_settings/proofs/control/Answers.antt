@@ -161,13 +161,11 @@ returns-in_default c =
     let a = c.args in
     let x = get_or a.b.now a.i 0 in
     let m = c.in_default-1.rest in
-    let came = c.in_default.branch in
+    let came = c.in_default.branch-raw in
     let l : is_gl x ≡ false =
-    ⊎_elim (λ w. gl_below x (omega (arith, w.taken)))
-    (⊎_elim (λ w. gl_above x w.1.left) (⊎_elim (λ w. gl_above x w.1.left) (λ w. gl_above x w.1.left))) came in
+    ⊎_elim (λ w. gl_below x (omega arith)) (⊎_elim (λ w. gl_above x (omega arith)) (⊎_elim (λ w. gl_above x (omega arith)) (λ w. gl_above x (omega arith)))) came in
     let r : is_gr x ≡ false =
-    ⊎_elim (λ w. gr_below x (omega (arith, w.taken)))
-    (⊎_elim (λ w. gr_below x (omega (arith, w.2.taken))) (⊎_elim (λ w. gr_below x w.4.taken) (λ w. gr_above x w.5.left))) came in
+    ⊎_elim (λ w. gr_below x (omega arith)) (⊎_elim (λ w. gr_below x (omega arith)) (⊎_elim (λ w. gr_below x (omega arith)) (λ w. gr_above x (omega arith)))) came in
     λ g left R place at.
     turns_as
     (λ s.
