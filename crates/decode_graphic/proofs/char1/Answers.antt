@@ -34,8 +34,8 @@ returns-in_default c =
     let pre = c.requires in
     let emit_or_lem = c.emit_or in
     let z = a.set in
-    let far : 4 ≤ z → 7 < z = λ h. ⊎_elim (λ w. omega arith) (λ w. omega arith) if1.branch in
-    let small : z < 17 = ⊎_elim (λ w. omega arith) (λ w. omega arith) if1.branch in
+    let far : 4 ≤ z → 7 < z = λ h. ⊎_elim (λ w. omega arith) (λ w. omega arith) if1.branch-raw in
+    let small : z < 17 = ⊎_elim (λ w. omega arith) (λ w. omega arith) if1.branch-raw in
     λ cells left R.
     did_as
     (λ g q starts lens t₀ i₀ x k. letter_narrows g x _ _ _ _ letter_at.ensures is_narrow_lem.ensures k ∙ char1_letter g left R _ _ _ x pre.c_bound.1 far small)

@@ -27,7 +27,7 @@ returns-then-is_second c =
     let a = c.args in
     let pre = c.requires in
     pair_of a.cells.now a.b.now a.i a.to a.set c.if-i-to.false pre.1 pre.2
-    (sym c.is_second.ensures ∙ c.if-is_second.true) c.spacing.result (c.spacing.ensures _ c.?Cell-at.ensures)
+    (sym c.is_second.ensures ∙ c.if-is_second.true) c.spacing.result (c.spacing.ensures _ c.cell_at.ensures)
 
 pub returns : goal.returns
 returns c = tt

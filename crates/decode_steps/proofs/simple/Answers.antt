@@ -48,12 +48,10 @@ control-requires c =
     let a = c.args in
     let p = c.requires in
     let x = get_or a.b.now a.p.i 0 in
-    let came = c.in_default.branch in
+    let came = c.in_default.branch-raw in
     let other = c.in_default-1.rest in
-    let l : is_gl x ≡ false = ⊎_elim (λ w. gl_below x (omega (arith, w.taken)))
-    (⊎_elim (λ w. gl_above x w.1.left) (λ w. gl_above x w.1.left)) came in
-    let r : is_gr x ≡ false = ⊎_elim (λ w. gr_below x (omega (arith, w.taken)))
-    (⊎_elim (λ w. gr_below x w.2.taken) (λ w. gr_above x w.3.left)) came in
+    let l : is_gl x ≡ false = ⊎_elim (λ w. gl_below x (omega arith)) (⊎_elim (λ w. gl_above x (omega arith)) (λ w. gl_above x (omega arith))) came in
+    let r : is_gr x ≡ false = ⊎_elim (λ w. gr_below x (omega arith)) (⊎_elim (λ w. gr_below x (omega arith)) (λ w. gr_above x (omega arith))) came in
     record { i_in_bounds = (p.i_in_bounds.0, p.i_in_bounds.1, record { gl = l; gr = r; space = other.0.0.0.1; newline = other.0.0.1; ss2 = other.0.1; ss3 = other.1; macro = p.passes.command }); may_take = p.may_take }
 
 pub returns-in-32 : goal.returns-in-32
