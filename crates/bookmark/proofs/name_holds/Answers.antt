@@ -12,4 +12,4 @@ returns-then-name-gt15 c =
 pub returns : goal.returns
 unfolding name_holds
 returns c =
-    rw (le-leb c.args.name 15 c.if-name-gt15.false) c.?is_IsStore.ensures
+    rw (le-leb c.args.name 15 c.if-name-gt15.false) c.is_store.ensures

@@ -27,27 +27,27 @@ steps-f-requires c =
 
 pub returns-then-i-to : goal.returns-then-i-to
 returns-then-i-to c =
-    let w = along_stretch c.loop-i.invariant.along c.steps-f.ensures.stretch c.steps-f.auto.issues.1.1.1.1.0 c.steps-f.auto.issues.1.1.1.1.1.0 in
+    let w = along_stretch c.loop-i.invariant.along c.steps-f.ensures.stretch c.steps-f.auto.text c.steps-f.auto.issues in
     top_ran (along_end w c.if-i-to.true) c.loop-i.invariant.inside
 
 pub step-r-requires : goal.step-r-requires
 step-r-requires c =
-    let w = along_stretch c.loop-i.invariant.along c.steps-f.ensures.stretch c.steps-f.auto.issues.1.1.1.1.0 c.steps-f.auto.issues.1.1.1.1.1.0 in
+    let w = along_stretch c.loop-i.invariant.along c.steps-f.ensures.stretch c.steps-f.auto.text c.steps-f.auto.issues in
     let ready = ready_less {e = 1} (ready_after c.requires.outside.ready w.past w.within w.grown) (omega (arith, c.if-i-to.false, c.requires.from_in_bounds.1)) in
     let stop = stop_before c.steps-f.result.stop _ _ _ _ _ c.if-i-to.false c.steps-f.ensures.stop in
     (record { short = c.requires.outside.short; inside = c.loop-i.invariant.inside; ready = ready }, (omega (arith, c.if-i-to.false, c.requires.from_in_bounds.1), stop))
 
 pub shape_of-text-then-ended : goal.shape_of-text-then-ended
 shape_of-text-then-ended c =
-    c.step-r.auto.issues.1.1.1.1.0 ∙ c.steps-f.auto.issues.1.1.1.1.0 ∙ c.loop-i.invariant.along.as_long
+    c.step-r.auto.text ∙ c.steps-f.auto.text ∙ c.loop-i.invariant.along.as_long
 
 pub shape_of-issues-then-ended : goal.shape_of-issues-then-ended
 shape_of-issues-then-ended c =
-    c.step-r.auto.issues.1.1.1.1.1.0 ∙ c.steps-f.auto.issues.1.1.1.1.1.0 ∙ c.loop-i.invariant.along.as_many
+    c.step-r.auto.issues ∙ c.steps-f.auto.issues ∙ c.loop-i.invariant.along.as_many
 
 pub returns-then-ended : goal.returns-then-ended
 returns-then-ended c =
-    let w = along_stretch c.loop-i.invariant.along c.steps-f.ensures.stretch c.steps-f.auto.issues.1.1.1.1.0 c.steps-f.auto.issues.1.1.1.1.1.0 in
+    let w = along_stretch c.loop-i.invariant.along c.steps-f.ensures.stretch c.steps-f.auto.text c.steps-f.auto.issues in
     let cut =
     along_cut w c.if-i-to.false (omega (arith, c.if-i-to.false, c.requires.from_in_bounds.1)) (outside_step 4 c.steps-f.result.at c.step-r.ensures.ran) c.steps-f.result.at
     (c.ended.ensures.0 c.if-ended.true) in
@@ -63,12 +63,12 @@ loop-i-smaller c =
 
 pub loop-i-preserved : goal.loop-i-preserved
 loop-i-preserved c =
-    let w = along_stretch c.loop-i.invariant.along c.steps-f.ensures.stretch c.steps-f.auto.issues.1.1.1.1.0 c.steps-f.auto.issues.1.1.1.1.1.0 in
+    let w = along_stretch c.loop-i.invariant.along c.steps-f.ensures.stretch c.steps-f.auto.text c.steps-f.auto.issues in
     let step = c.step-r.ensures in
     record {
       along =
           along_step w c.if-i-to.false (omega (arith, c.if-i-to.false, c.requires.from_in_bounds.1)) (outside_step 4 c.steps-f.result.at step.ran)
           (c.ended.ensures.1 c.if-ended.false)
-          c.step-r.auto.issues.1.1.1.1.0 c.step-r.auto.issues.1.1.1.1.1.0;
+          c.step-r.auto.text c.step-r.auto.issues;
       inside = step.inside;
     }

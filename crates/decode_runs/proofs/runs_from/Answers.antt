@@ -32,7 +32,7 @@ shape_of-settings-then-i-stop c =
 pub returns-then-i-stop : goal.returns-then-i-stop
 returns-then-i-stop c =
     (running_more c.limit_of-limit.ensures.1 c.loop-i.invariant refl refl c.is_narrow-narrow.ensures c.run_from-w.ensures.run c.other-o.ensures.run
-    c.controls-i.ensures c.run_from-w.auto.1.1.1.1.1.0 c.other-o.auto.1.1.1.1.1.0 c.other-o.ensures.room).runs
+    c.controls-i.ensures c.run_from-w.auto.text c.other-o.auto.text c.other-o.ensures.room).runs
 
 pub loop-i-smaller : goal.loop-i-smaller
 loop-i-smaller c =
@@ -42,4 +42,4 @@ loop-i-smaller c =
 pub loop-i-preserved : goal.loop-i-preserved
 loop-i-preserved c =
     running_more c.limit_of-limit.ensures.1 c.loop-i.invariant refl refl c.is_narrow-narrow.ensures c.run_from-w.ensures.run c.other-o.ensures.run
-    c.controls-i.ensures c.run_from-w.auto.1.1.1.1.1.0 c.other-o.auto.1.1.1.1.1.0 c.other-o.ensures.room
+    c.controls-i.ensures c.run_from-w.auto.text c.other-o.auto.text c.other-o.ensures.room

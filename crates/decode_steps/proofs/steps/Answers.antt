@@ -19,7 +19,7 @@ letters-f-requires c =
 
 pub returns-then-i-o : goal.returns-then-i-o
 returns-then-i-o c =
-    let w = way_on c.loop-i.invariant (c.letters-f.ensures c.args.o.base c.args.o.origin c.loop-i.issues) c.letters-f.auto.1.1.1.1.1.0 in
+    let w = way_on c.loop-i.invariant (c.letters-f.ensures c.args.o.base c.args.o.origin c.loop-i.issues) c.letters-f.auto.text in
     record { stretch = w.stretch; stop = c.if-i-o.true }
 
 pub stop_at-stop-requires : goal.stop_at-stop-requires
@@ -29,7 +29,7 @@ stop_at-stop-requires c =
 
 pub returns-in_default : goal.returns-in_default
 returns-in_default c =
-    let w = way_on c.loop-i.invariant (c.letters-f.ensures c.args.o.base c.args.o.origin c.loop-i.issues) c.letters-f.auto.1.1.1.1.1.0 in
+    let w = way_on c.loop-i.invariant (c.letters-f.ensures c.args.o.base c.args.o.origin c.loop-i.issues) c.letters-f.auto.text in
     let n : c.stop_at-stop.result ≡ End → ⊥ =
     λ e. ⊎_elim (λ z. omega (arith, z)) (⊎_elim (λ z. omega (arith, z)) (⊎_elim (λ z. omega (arith, z)) (λ z. omega (arith, z)))) (rw e at c.in_default.in_default-own.keys2) in
     let stop = stop_at c.stop_at-stop.result c.args.b.now c.args.o.to c.letters-f.result.at c.letters-f.result.core n
@@ -50,7 +50,7 @@ overflow_add-o c =
 
 pub simple-r-requires : goal.simple-r-requires
 simple-r-requires c =
-    let w = way_on c.loop-i.invariant (c.letters-f.ensures c.args.o.base c.args.o.origin c.loop-i.issues) c.letters-f.auto.1.1.1.1.1.0 in
+    let w = way_on c.loop-i.invariant (c.letters-f.ensures c.args.o.base c.args.o.origin c.loop-i.issues) c.letters-f.auto.text in
     let far = c.letters-f.result in
     let v =
     subst (λ (r : Stop). Verdict r c.args.b.now far.at far.core) c.in-End.is c.stop_at-stop.ensures in
@@ -62,19 +62,19 @@ overflow_add-i c =
 
 pub shape_of-text-then-ended : goal.shape_of-text-then-ended
 shape_of-text-then-ended c =
-    c.simple-r.auto.issues.1.1.1.1.0 ∙ c.letters-f.auto.1.1.1.1.1.0 ∙ c.loop-i.invariant.text
+    c.simple-r.auto.text ∙ c.letters-f.auto.text ∙ c.loop-i.invariant.text
 
 pub shape_of-issues-then-ended : goal.shape_of-issues-then-ended
 shape_of-issues-then-ended c =
-    c.simple-r.auto.issues.1.1.1.1.1.0 ∙ c.loop-i.invariant.issues
+    c.simple-r.auto.issues ∙ c.loop-i.invariant.issues
 
 pub returns-then-ended : goal.returns-then-ended
 returns-then-ended c =
-    let w = way_on c.loop-i.invariant (c.letters-f.ensures c.args.o.base c.args.o.origin c.loop-i.issues) c.letters-f.auto.1.1.1.1.1.0 in
+    let w = way_on c.loop-i.invariant (c.letters-f.ensures c.args.o.base c.args.o.origin c.loop-i.issues) c.letters-f.auto.text in
     let on =
     way_step c.simple-r.result c.offset-at.result c.offset-at.ensures c.if-i-o.false (omega (arith, c.if-i-o.false, c.requires.from_in_bounds.3)) w
     c.simple-r.ensures
-    c.simple-r.auto.issues.1.1.1.1.0 c.simple-r.auto.issues.1.1.1.1.1.0 in
+    c.simple-r.auto.text c.simple-r.auto.issues in
     record { stretch = on.stretch; stop = c.ended.ensures.0 c.if-ended.true }
 
 pub loop-i-smaller : goal.loop-i-smaller
@@ -84,7 +84,7 @@ loop-i-smaller c =
 
 pub loop-i-preserved : goal.loop-i-preserved
 loop-i-preserved c =
-    let w = way_on c.loop-i.invariant (c.letters-f.ensures c.args.o.base c.args.o.origin c.loop-i.issues) c.letters-f.auto.1.1.1.1.1.0 in
+    let w = way_on c.loop-i.invariant (c.letters-f.ensures c.args.o.base c.args.o.origin c.loop-i.issues) c.letters-f.auto.text in
     way_step c.simple-r.result c.offset-at.result c.offset-at.ensures c.if-i-o.false (omega (arith, c.if-i-o.false, c.requires.from_in_bounds.3)) w
     c.simple-r.ensures
-    c.simple-r.auto.issues.1.1.1.1.0 c.simple-r.auto.issues.1.1.1.1.1.0
+    c.simple-r.auto.text c.simple-r.auto.issues

@@ -11,11 +11,11 @@ finish-requires c =
     let a = c.args in
     let numbers : (k : ℕ) → get_or a.cells.now k 0 < 0x10000 = λ k. omega (arith, c.type_inv.cells k) in
     text_inside (lent a.cells.now a.initial a.width a.input.now a.buffer.now) _ _
-    (decodes a.cells.now a.initial a.width a.input.now a.buffer.now numbers _ _ _ c.decode_checked-r.auto.issues.1.1.1.0 c.decode_checked-r.ensures)
+    (decodes a.cells.now a.initial a.width a.input.now a.buffer.now numbers _ _ _ c.decode_checked-r.auto.text c.decode_checked-r.ensures)
 
 pub returns : goal.returns
 returns c =
     let a = c.args in
     let numbers : (k : ℕ) → get_or a.cells.now k 0 < 0x10000 = λ k. omega (arith, c.type_inv.cells k) in
     c.finish.ensures (lent a.cells.now a.initial a.width a.input.now a.buffer.now)
-    (decodes a.cells.now a.initial a.width a.input.now a.buffer.now numbers _ _ _ c.decode_checked-r.auto.issues.1.1.1.0 c.decode_checked-r.ensures)
+    (decodes a.cells.now a.initial a.width a.input.now a.buffer.now numbers _ _ _ c.decode_checked-r.auto.text c.decode_checked-r.ensures)
