@@ -1,10 +1,30 @@
 // Standard input and the file `jis.tab`.
 #![tactic(auto)]
 
-ghost use Rattle.std.specs.Prelude.{◌≤◌, length};
-ghost use Rattle.io.specs.Counts.{IsPrefixLen};
+ghost use Rattle.std.specs.Prelude.{◌≡◌, ◌≤◌, length, take};
 
-use libc::STDERR_FILENO;
+use std::fs::File;
+use std::io::{Error, ErrorKind, Read};
+use std::rt::Files;
+
+/// The words of an error's text, without the number that ends it.
+fn words(text: &str) -> &str {
+    match text.split_once(" (os error ") {
+        Some((words, _)) => words,
+        None => text,
+    }
+}
+
+/// Says on standard error what failed and why.
+pub fn fail(rt: &(impl Eprint + AllocGlobal), what: &str, why: Error) {
+    let _ = match why.to_string(rt.alloc()) {
+        Ok(text) => {
+            let words = words(text.as_str());
+            eprintln!(rt; "{what}: {words}")
+        }
+        Err(_) => eprintln!(rt; "{what}: {why}"),
+    };
+}
 
 /// How many bytes stand at the start of a buffer, and whether a read failed.
 #[derive(Drop)]
@@ -14,31 +34,40 @@ pub struct Input {
 }
 
 /// One read, of at most a buffer. Where it fails, what and why goes to standard error.
-fn read_once(fd: i32, what: &[u8], buffer: &mut [u8]) -> Input
+fn read_once(
+    rt: &(impl Eprint + AllocGlobal),
+    reader: &mut impl Read,
+    what: &str,
+    buffer: &mut [u8],
+) -> Input
     ensures { result.len ≤ length buffer.new }
 {
-    let got = libc::read(fd, buffer);
-    if got < 0 {
-        os::fail(what);
-        return Input {
-            len: 0,
-            failed: true,
-        };
-    }
-    Input {
-        len: io::count(got, buffer),
-        failed: false,
+    match reader.read(buffer) {
+        Ok(len) => Input { len, failed: false },
+        Err(why) => {
+            fail(rt, what, why);
+            Input {
+                len: 0,
+                failed: true,
+            }
+        }
     }
 }
 
 /// Reads until the buffer is full or the input ends, in however many pieces it comes.
-pub fn read(fd: i32, what: &[u8], buffer: &mut [u8]) -> Input
-    ensures { IsPrefixLen result.len buffer.new }
+pub fn read(
+    rt: &(impl Eprint + AllocGlobal),
+    reader: &mut impl Read,
+    what: &str,
+    buffer: &mut [u8],
+) -> Input
+    ensures within { result.len ≤ length buffer.new }
+    ensures prefix { result.len ≡ length (take result.len buffer.new) }
 {
     let mut done = 0;
     let mut failed = false;
     while done < buffer.len() {
-        let piece = read_once(fd, what, &mut buffer[done..]);
+        let piece = read_once(rt, reader, what, &mut buffer[done..]);
         failed = piece.failed;
         if piece.len == 0 {
             break;
@@ -57,29 +86,28 @@ pub struct Table {
 
 /// Reads `jis.tab`. One that cannot be opened or read counts as one of no bytes, which is refused, and
 /// not as one that is absent. That there is none, or why it could not be read, goes to standard error.
-pub fn read_table(buffer: &mut [u8]) -> Table
-    ensures { IsPrefixLen result.len buffer.new }
+pub fn read_table(rt: &(impl Files + Eprint + AllocGlobal), buffer: &mut [u8]) -> Table
+    ensures within { result.len ≤ length buffer.new }
+    ensures prefix { result.len ≡ length (take result.len buffer.new) }
 {
-    let fd = os::open_read(b"jis.tab");
-    if fd < 0 {
-        if os::errno() == libc::ENOENT {
-            io::write_all(
-                STDERR_FILENO,
-                b"jis.tab: absent, so every kanji is undefined\n",
-            );
+    let mut opened = match File::open(rt, "jis.tab") {
+        Ok(opened) => opened,
+        Err(why) => {
+            if why.kind() == ErrorKind::NotFound {
+                let _ = eprintln!(rt; "jis.tab: absent, so every kanji is undefined");
+                return Table {
+                    present: false,
+                    len: 0,
+                };
+            }
+            fail(rt, "jis.tab", why);
             return Table {
-                present: false,
+                present: true,
                 len: 0,
             };
         }
-        os::fail(b"jis.tab");
-        return Table {
-            present: true,
-            len: 0,
-        };
-    }
-    let file = read(fd, b"jis.tab", buffer);
-    libc::close(fd);
+    };
+    let file = read(rt, &mut opened, "jis.tab", buffer);
     if file.failed {
         return Table {
             present: true,

@@ -8,31 +8,35 @@ mod codes;
 mod numbers;
 mod part;
 
-use libc::STDOUT_FILENO;
 use part::{Part, compare};
 use replay_vectors::files::{cells, read};
 use replay_vectors::tally::{Tally, line};
 
 /// The code tables of the graphic sets.
-fn code_tables(answers: &[u8], t: &[u16]) -> Tally {
-    let kanji = line(b"kanji", compare(Part::Kanji, answers, t, 0, 0, 8836));
+fn code_tables(rt: &impl Print, answers: &[u8], t: &[u16]) -> Tally {
+    let kanji = line(rt, b"kanji", compare(Part::Kanji, answers, t, 0, 0, 8836));
     let additional = line(
+        rt,
         b"additional_symbols",
         compare(Part::AdditionalSymbols, answers, t, 8836, 0, 8836),
     );
     let alphanumeric = line(
+        rt,
         b"alphanumeric",
         compare(Part::Alphanumeric, answers, t, 17672, 0, 256),
     );
     let hiragana = line(
+        rt,
         b"hiragana",
         compare(Part::Hiragana, answers, t, 17928, 0, 256),
     );
     let katakana = line(
+        rt,
         b"katakana",
         compare(Part::Katakana, answers, t, 18184, 0, 256),
     );
     let x0201 = line(
+        rt,
         b"jis_x0201_katakana",
         compare(Part::JisX0201Katakana, answers, t, 18440, 0, 256),
     );
@@ -45,26 +49,35 @@ fn code_tables(answers: &[u8], t: &[u16]) -> Tally {
 }
 
 /// The control codes, the graphic sets, the shifts, the sizes and the initial states.
-fn codes_and_sets(answers: &[u8], t: &[u16]) -> Tally {
+fn codes_and_sets(rt: &impl Print, answers: &[u8], t: &[u16]) -> Tally {
     let params = line(
+        rt,
         b"fixed_params",
         compare(Part::FixedParams, answers, t, 18696, 0, 256),
     );
-    let names = line(b"name", compare(Part::Name, answers, t, 18952, 0, 1536));
+    let names = line(rt, b"name", compare(Part::Name, answers, t, 18952, 0, 1536));
     let sets = line(
+        rt,
         b"graphic_sets",
         compare(Part::GraphicSets, answers, t, 20488, 0, 864),
     );
     let designated = line(
+        rt,
         b"from_designation",
         compare(Part::FromDesignation, answers, t, 21352, 0, 1024),
     );
-    let shifts = line(b"shifts", compare(Part::Shifts, answers, t, 22376, 0, 36));
+    let shifts = line(
+        rt,
+        b"shifts",
+        compare(Part::Shifts, answers, t, 22376, 0, 36),
+    );
     let sizes = line(
+        rt,
         b"is_narrow",
         compare(Part::IsNarrow, answers, t, 22412, 0, 259),
     );
     let initial = line(
+        rt,
         b"initial_states",
         compare(Part::InitialStates, answers, t, 22671, 0, 12),
     );
@@ -78,11 +91,12 @@ fn codes_and_sets(answers: &[u8], t: &[u16]) -> Tally {
 }
 
 /// What is asked of Unicode characters. Of surrogates, D800 to DFFF, the Rust has no answer.
-fn unicode(answers: &[u8], t: &[u16]) -> Tally {
+fn unicode(rt: &impl Print, answers: &[u8], t: &[u16]) -> Tally {
     let low = compare(Part::Fullwidth, answers, t, 22683, 0, 0xD800);
     let high = compare(Part::Fullwidth, answers, t, 22683, 0xE000, 0x10000);
-    let fullwidth = line(b"fullwidth", low.plus(high));
+    let fullwidth = line(rt, b"fullwidth", low.plus(high));
     let marks = line(
+        rt,
         b"is_non_spacing",
         compare(Part::IsNonSpacing, answers, t, 88219, 0, 12288),
     );
@@ -90,24 +104,24 @@ fn unicode(answers: &[u8], t: &[u16]) -> Tally {
 }
 
 /// All parts, and the sums.
-fn replay(answers: &[u8], t: &[u16]) {
-    let sum = code_tables(answers, t)
-        .plus(codes_and_sets(answers, t))
-        .plus(unicode(answers, t));
-    line(b"leaves", sum);
+fn replay(rt: &impl Print, answers: &[u8], t: &[u16]) {
+    let sum = code_tables(rt, answers, t)
+        .plus(codes_and_sets(rt, answers, t))
+        .plus(unicode(rt, answers, t));
+    line(rt, b"leaves", sum);
 }
 
 /// The buffer has room for one byte more than the file, so that a longer file shows.
-fn main() {
+fn main(rt: HostRuntime) {
     let mut t = [0u16; 8836];
-    if !cells(&mut t) {
+    if !cells(&rt, &mut t) {
         return;
     }
     let mut answers = [0u8; 301522];
-    let n = read(b"leaves.bin", &mut answers);
+    let n = read(&rt, "leaves.bin", &mut answers);
     if n != 301521 {
-        io::write_all(STDOUT_FILENO, b"leaves.bin does not have 301521 bytes\n");
+        let _ = println!(rt; "leaves.bin does not have 301521 bytes");
         return;
     }
-    replay(&answers[..n], &t);
+    replay(&rt, &answers[..n], &t);
 }

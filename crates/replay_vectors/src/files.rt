@@ -1,21 +1,43 @@
 // Files and their numbers, which are big-endian.
-ghost use Rattle.std.specs.Prelude.{◌≡◌, ◌<◌, length};
-ghost use Rattle.io.specs.Counts.{IsPrefixLen};
+ghost use Rattle.std.specs.Prelude.{◌≡◌, ◌<◌, ◌≤◌, length, take};
 
-use libc::STDOUT_FILENO;
+use std::fs::File;
+use std::io::Read;
+use std::rt::Files;
+
+/// One read, of at most a buffer: 0 where it fails.
+fn read_once(reader: &mut impl Read, buffer: &mut [u8]) -> usize
+    ensures { result ≤ length buffer.new }
+{
+    reader.read(buffer).unwrap_or(0)
+}
+
+/// Reads until the buffer is full, the input ends or a read fails, and answers how many bytes it read.
+fn read_full(reader: &mut impl Read, buffer: &mut [u8]) -> usize
+    ensures within { result ≤ length buffer.new }
+    ensures prefix { result ≡ length (take result buffer.new) }
+{
+    let mut done = 0;
+    while done < buffer.len() {
+        let n = read_once(reader, &mut buffer[done..]);
+        if n == 0 {
+            break;
+        }
+        done += n;
+    }
+    done
+}
 
 /// Reads a file up to its end, or until the buffer is full, and answers how many bytes it read: 0
 /// where it cannot be opened.
-pub fn read(path: &[u8], buffer: &mut [u8]) -> usize
-    ensures { IsPrefixLen result buffer.new }
+pub fn read(rt: &impl Files, path: &str, buffer: &mut [u8]) -> usize
+    ensures within { result ≤ length buffer.new }
+    ensures prefix { result ≡ length (take result buffer.new) }
 {
-    let fd = os::open_read(path);
-    if fd < 0 {
-        return 0;
+    match File::open(rt, path) {
+        Ok(mut file) => read_full(&mut file, buffer),
+        Err(_) => 0,
     }
-    let n = io::read_full(fd, buffer);
-    libc::close(fd);
-    n
 }
 
 /// A byte as a number.
@@ -34,13 +56,13 @@ pub fn byte(bytes: &[u8], i: usize) -> usize
 
 /// Fills the cell table from `jis.tab`, and answers whether the file has the bytes of one, no more and no fewer; where
 /// it has not, a line says so. The buffer has room for one byte more, so that a longer file shows.
-pub fn cells(t: &mut [u16]) -> bool
+pub fn cells(rt: &(impl Files + Print), t: &mut [u16]) -> bool
     ensures { length t.new ≡ length t.old }
 {
     let mut table = [0u8; 17673];
-    let n = read(b"jis.tab", &mut table);
+    let n = read(rt, "jis.tab", &mut table);
     if n != 17672 {
-        io::write_all(STDOUT_FILENO, b"jis.tab does not have 17672 bytes\n");
+        let _ = println!(rt; "jis.tab does not have 17672 bytes");
         return false;
     }
     jis_tab::numbers(&table[..n], t);

@@ -1,6 +1,4 @@
 // How many answers were compared, and how many of them differ.
-use libc::STDOUT_FILENO;
-
 #[derive(Clone, Copy)]
 pub struct Tally {
     pub compared: usize,
@@ -50,12 +48,12 @@ impl Tally {
 }
 
 /// Writes the line of a name, and answers its counts.
-pub fn line(name: &[u8], tally: Tally) -> Tally {
-    io::write_all(STDOUT_FILENO, name);
-    io::write_all(STDOUT_FILENO, b" ");
-    io::print_decimal(STDOUT_FILENO, tally.compared as u64);
-    io::write_all(STDOUT_FILENO, b" compared, ");
-    io::print_decimal(STDOUT_FILENO, tally.differing as u64);
-    io::write_all(STDOUT_FILENO, b" differ\n");
+pub fn line(rt: &impl Print, name: &[u8], tally: Tally) -> Tally {
+    let Tally {
+        compared,
+        differing,
+    } = tally;
+    let _ = rt.write_all(name);
+    let _ = println!(rt; " {compared} compared, {differing} differ");
     tally
 }
