@@ -23,7 +23,7 @@ overflow_cast-l c =
 
 pub body_holds-requires : goal.body_holds-requires
 body_holds-requires c = (
-  omega (arith, c.start_of.ensures, c.shared_slice_known-in-loop-code-1.given (28 + c.loop-code.code)),
+  omega (arith, c.start_of.ensures, c.type_inv.l (28 + c.loop-code.code)),
   omega (arith, c.type_inv.l (156 + c.loop-code.code)),
 )
 

@@ -1,6 +1,7 @@
 -- `bookmark_marks::mark_of` meets its contract. Assumes nothing.
-use mathlib.Core.Path.{refl, sym, ap}
-use borrow.Author.Tests.{ne_eqb}
+use mathlib.Core.Path.{sym, ap}
+use native.Mathlib.Omega.{arith}
+use Rattle.std.proofs.lemmas.Grind.{common_steps}
 use Rattle.decode_output.specs.Waiting.{mark_of}
 use Rattle.bookmark_marks.proofs.mark_of.Goals as goal
 
@@ -30,12 +31,4 @@ returns-in-6 c = sym (ap mark_of c.in-6.is)
 
 pub returns-in_default : goal.returns-in_default
 unfolding mark_of
-returns-in_default c =
-    let six = c.in_default.in_default-own.rest in
-    let five = six.0 in
-    let four = five.0 in
-    let three = four.0 in
-    let two = three.0 in
-    let one = two.0 in
-    let d = c.args.digit in
-    rw (ne_eqb d 1 one.1, ne_eqb d 2 two.1, ne_eqb d 3 three.1, ne_eqb d 4 four.1, ne_eqb d 5 five.1, ne_eqb d 6 six.1) refl
+returns-in_default c = grind (arith, common_steps)

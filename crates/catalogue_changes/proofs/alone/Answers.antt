@@ -13,15 +13,15 @@ use Rattle.catalogue_changes.proofs.alone.Goals as goal
 
 pub overflow_cast-len : goal.overflow_cast-len
 overflow_cast-len c =
-    omega (arith, c.shared_slice_known-1.given (c.args.at * 260 + 4))
+    omega (arith, c.type_inv.places (c.args.at * 260 + 4))
 
 pub overflow_add-key-2 : goal.overflow_add-key-2
 overflow_add-key-2 c =
-    omega (arith, c.requires.n_bound, c.requires.at_lt_n, c.shared_slice_known-1.given (c.args.at * 260 + 4))
+    omega (arith, c.requires.n_bound, c.requires.at_lt_n, c.type_inv.places (c.args.at * 260 + 4))
 
 pub slice_bounds-having-end : goal.slice_bounds-having-end
 slice_bounds-having-end c =
-    omega (arith, c.requires.at_lt_n, c.requires.n_in_bounds, c.shared_slice_known-1.given (c.args.at * 260 + 4))
+    omega (arith, c.requires.at_lt_n, c.requires.n_in_bounds, c.type_inv.places (c.args.at * 260 + 4))
 
 pub returns-then-held-eq1 : goal.returns-then-held-eq1
 returns-then-held-eq1 c =

@@ -26,7 +26,11 @@ pub alone-requires : goal.alone-requires
 alone-requires c =
     let a = c.args in
     let h = c.requires.holds in
-    (few a.store.now a.n h, (c.requires.at_lt_n, omega (arith, rest_long a.store.now a.n h, few a.store.now a.n h)))
+    record {
+      n_bound = few a.store.now a.n h;
+      at_lt_n = c.requires.at_lt_n;
+      n_in_bounds = omega (arith, rest_long a.store.now a.n h, few a.store.now a.n h);
+    }
 
 pub overflow_sub-distinct : goal.overflow_sub-distinct
 overflow_sub-distinct c =
@@ -46,7 +50,11 @@ pub close_up-requires : goal.close_up-requires
 close_up-requires c =
     let a = c.args in
     let h = c.requires.holds in
-    (few a.store.now a.n h, (c.requires.at_lt_n, omega (arith, rest_long a.store.now a.n h, few a.store.now a.n h)))
+    record {
+      n_bound = few a.store.now a.n h;
+      at_lt_n = c.requires.at_lt_n;
+      n_in_bounds = omega (arith, rest_long a.store.now a.n h, few a.store.now a.n h);
+    }
 
 pub slice_bounds-counts-end : goal.slice_bounds-counts-end
 slice_bounds-counts-end c =

@@ -1,12 +1,12 @@
 -- `alike` meets its contract: what was looked at is the same so far. Assumes nothing.
 use Prim.Native.Nat.{ℕ}
 use mathlib.Core.Path.{◌≡◌, refl, ap, ◌∙◌}
-use mathlib.Core.Logic.{⊎_elim}
 use native.Mathlib.Omega.{arith}
 use lib.ListN.{take, drop}
 use Rattle.catalogue_distinct.specs.Distinct.{same}
 use Rattle.catalogue_distinct.proofs.Bytes.{same_next, differ_next}
 use Rattle.catalogue_distinct.proofs.alike.Goals as goal
+use Rattle.catalogue_distinct.proofs.alike.Goals.{then-places-a, else-places-a}
 
 pub loop-i-init : goal.loop-i-init
 loop-i-init c = (omega arith, refl)
@@ -34,10 +34,12 @@ loop-i-preserved c =
     let a = c.args in
     let inside = c.loop-i-test.true in (
       omega arith,
-      ⊎_elim (λ w. w.1 ∙ differ_next a.places.now a.a a.b c.loop-i.i c.requires.0 c.requires.1 inside w.0.taken)
-          (λ w. w.1 ∙
-          same_next a.places.now a.a a.b c.loop-i.i c.requires.0 c.requires.1 inside c.loop-i.all w.0.left c.loop-i.invariant.1)
-          c.if-places-a.branch,
+      elim c.if-places-a.branch [
+        | then-places-a w ↦ w.all-is ∙ differ_next a.places.now a.a a.b c.loop-i.i c.requires.0 c.requires.1 inside w.if-places-a.true
+        | else-places-a w ↦
+            w.all-is ∙
+            same_next a.places.now a.a a.b c.loop-i.i c.requires.0 c.requires.1 inside c.loop-i.all w.if-places-a.false c.loop-i.invariant.1
+      ],
     )
 
 pub returns : goal.returns

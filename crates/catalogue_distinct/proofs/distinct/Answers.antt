@@ -15,5 +15,5 @@ sort-requires c =
 pub returns : goal.returns
 returns c =
     let s = c.sort in
-    count_is (replicate 1024 0) c.args.places.now c.args.n refl c.requires.n_bound s.new.1.1.0 s.result s.ensures.holds s.ensures.few
-    s.auto.1.1.0
+    count_is (replicate 1024 0) c.args.places.now c.args.n refl c.requires.n_bound s.new.runs s.result s.ensures.holds s.ensures.few
+    s.auto.runs

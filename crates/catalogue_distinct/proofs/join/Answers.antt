@@ -9,6 +9,6 @@ returns c =
     let m = c.merge-put in
     let few = m.ensures.few in
     let back =
-    copied_back _ _ _ m.new.1.1.1.1.1.0 m.new.1.0 _ m.result c.copy.result m.ensures.merged (omega arith) (omega arith)
+    copied_back _ _ _ m.new.spare m.new.runs _ m.result c.copy.result m.ensures.merged (omega arith) (omega arith)
     c.copy.ensures in
     record { merged = back.0; few = omega (arith, back.1, few) }

@@ -7,7 +7,7 @@ use Rattle.catalogue_distinct.proofs.merge.Goals as goal
 pub copy-requires : goal.copy-requires
 copy-requires c =
     let s = c.turns-h.ensures.stands in
-    let long = length-slice c.turns-h.result.left c.args.a c.turns-h.new.spare.0 (omega arith) in
+    let long = length-slice c.turns-h.result.left c.args.a c.turns-h.new.runs (omega arith) in
     (s.right_end, omega arith, omega (arith, c.copy-put.ensures.next, long, s.few))
 
 pub returns : goal.returns

@@ -17,41 +17,41 @@ overflow_mul-result c =
 pub overflow_cast-result-2 : goal.overflow_cast-result-2
 overflow_cast-result-2 c =
     let a = c.args in
-    omega (arith, c.shared_slice_known-1.given a.at, c.type_inv.s (a.at + 1))
+    omega (arith, c.type_inv.s a.at, c.type_inv.s (a.at + 1))
 
 pub overflow_add-result-2 : goal.overflow_add-result-2
 overflow_add-result-2 c =
     let a = c.args in
-    omega (arith, c.shared_slice_known-1.given a.at, c.type_inv.s (a.at + 1))
+    omega (arith, c.type_inv.s a.at, c.type_inv.s (a.at + 1))
 
 pub overflow_mul-result-2 : goal.overflow_mul-result-2
 overflow_mul-result-2 c =
     let a = c.args in
-    omega (arith, c.shared_slice_known-1.given a.at, c.type_inv.s (a.at + 1))
+    omega (arith, c.type_inv.s a.at, c.type_inv.s (a.at + 1))
 
 pub overflow_cast-result-3 : goal.overflow_cast-result-3
 overflow_cast-result-3 c =
     let a = c.args in
-    omega (arith, c.shared_slice_known-1.given a.at, c.shared_slice_known-2-1.given (a.at + 1), c.type_inv.s (a.at + 2))
+    omega (arith, c.type_inv.s a.at, c.type_inv.s (a.at + 1), c.type_inv.s (a.at + 2))
 
 pub overflow_add-result-4 : goal.overflow_add-result-4
 overflow_add-result-4 c =
     let a = c.args in
-    omega (arith, c.shared_slice_known-1.given a.at, c.shared_slice_known-2-1.given (a.at + 1), c.type_inv.s (a.at + 2))
+    omega (arith, c.type_inv.s a.at, c.type_inv.s (a.at + 1), c.type_inv.s (a.at + 2))
 
 pub overflow_mul-result-3 : goal.overflow_mul-result-3
 overflow_mul-result-3 c =
     let a = c.args in
-    omega (arith, c.shared_slice_known-1.given a.at, c.shared_slice_known-2-1.given (a.at + 1), c.type_inv.s (a.at + 2))
+    omega (arith, c.type_inv.s a.at, c.type_inv.s (a.at + 1), c.type_inv.s (a.at + 2))
 
 pub overflow_cast-result-4 : goal.overflow_cast-result-4
 overflow_cast-result-4 c =
     let a = c.args in
     omega (
       arith,
-      c.shared_slice_known-1.given a.at,
-      c.shared_slice_known-2-1.given (a.at + 1),
-      c.shared_slice_known-3-1.given (a.at + 2),
+      c.type_inv.s a.at,
+      c.type_inv.s (a.at + 1),
+      c.type_inv.s (a.at + 2),
       c.type_inv.s (a.at + 3),
     )
 
@@ -60,9 +60,9 @@ overflow_add-result-6 c =
     let a = c.args in
     omega (
       arith,
-      c.shared_slice_known-1.given a.at,
-      c.shared_slice_known-2-1.given (a.at + 1),
-      c.shared_slice_known-3-1.given (a.at + 2),
+      c.type_inv.s a.at,
+      c.type_inv.s (a.at + 1),
+      c.type_inv.s (a.at + 2),
       c.type_inv.s (a.at + 3),
     )
 
