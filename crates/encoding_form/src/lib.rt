@@ -9,7 +9,7 @@ ghost use Rattle.encoding_form.specs.Promises.{greatest};
 
 use ascii::{decimal, hexadecimal, word};
 
-/// The most bytes that are printed: specs/Contracts.antt counts them.
+/// The most bytes that are printed: specs/Promises.antt counts them.
 pub const GREATEST: usize = 131082;
 
 /// The coding's length and its gap.

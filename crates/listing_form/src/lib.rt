@@ -16,7 +16,7 @@ pub const ISSUES: usize = 256;
 
 pub const ISSUE_ROOM: usize = ISSUES * NUMBERS;
 
-/// The most bytes that are printed: specs/Contracts.antt counts them.
+/// The most bytes that are printed: specs/Promises.antt counts them.
 pub const GREATEST: usize = 131110 + ISSUE_ROOM * 11;
 
 /// Bytes of text, issues and charge.

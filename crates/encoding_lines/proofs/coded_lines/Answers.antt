@@ -11,7 +11,7 @@ pub lines_in-requires : goal.lines_in-requires
 lines_in-requires c = length-replicate {A = ℕ} 1048576 0
 
 pub shape_of-out : goal.shape_of-out
-shape_of-out c = c.lines_in.auto.out.1.1.0
+shape_of-out c = c.lines_in.auto.out
 
 pub returns : goal.returns
 returns c = c.lines_in.ensures

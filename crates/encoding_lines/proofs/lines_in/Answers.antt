@@ -15,9 +15,9 @@ few c =
     few_counts _ _ answered c.number-number.ensures c.if-number-gt0.false c.length-n.ensures c.gap.ensures
 
 long : (c : goal.After-gap) →
-    length c.encode_with-answer.new.coding.1.1.1.1.0 ≡ 65529
+    length c.encode_with-answer.new.coding ≡ 65529
 long c =
-    c.encode_with-answer.auto.coding.1.1.1.1.0 ∙ length-replicate {A = ℕ} 65529 0
+    c.encode_with-answer.auto.coding ∙ length-replicate {A = ℕ} 65529 0
 
 pub returns-then-number-gt0 : goal.returns-then-number-gt0
 returns-then-number-gt0 c =
@@ -34,7 +34,7 @@ slice_bounds-coded-end c = sym (length-take-le _ _ (omega (arith, (few c.before)
 pub coded-requires : goal.coded-requires
 coded-requires c =
     let w = few c.before in
-    let t = length-take-le c.length-n.result c.encode_with-answer.new.coding.1.1.1.1.0 (omega (arith, w.length, long c.before)) in
+    let t = length-take-le c.length-n.result c.encode_with-answer.new.coding (omega (arith, w.length, long c.before)) in
     (w.length, w.gap, omega (arith, w.length, t))
 
 pub returns : goal.returns

@@ -1,22 +1,18 @@
 -- `remove` meets its contract: what was read and what was kept, turn by turn. Assumes nothing.
 use mathlib.Core.Path.{◌≡◌, refl, sym, ◌∙◌}
 use mathlib.Core.Logic.{◌⊎◌, inl, inr, ⊎_elim}
-use mathlib.Core.List.{[], ◌∷◌}
-use denote.Enum.Declared.{tag_of}
-use types.Run.{OneOf}
+use Prim.Native.Nat.{ℕ}
 use native.Mathlib.Omega.{arith}
-use Rattle.utf8.specs.contracts.Sequence.{the_type}
 use Rattle.utf8.specs.declared.Sequence.{Sequence}
 use Rattle.utf8.specs.declared.Sequence.TheVariants.{Scalar, Fault, End}
 use Rattle.key_text.proofs.Moving.{moved_none, Turn, turned, moved_all}
 use Rattle.key_text.proofs.remove.Goals as goal
 
 -- where no scalar was read
-none_read : (s : Sequence) → OneOf (1 ∷ 2 ∷ []) (tag_of the_type s) → (s ≡ Fault) ⊎ (s ≡ End)
-none_read (Scalar c n) (inl e) = absurd (omega arith)
-none_read (Scalar c n) (inr e) = absurd (omega arith)
-none_read Fault e = inl refl
-none_read End e = inr refl
+none_read : (s : Sequence) → ((c n : ℕ) → s ≡ Scalar c n → ⊥) → (s ≡ Fault) ⊎ (s ≡ End)
+none_read (Scalar c n) f = absurd (f c n refl)
+none_read Fault f = inl refl
+none_read End f = inr refl
 
 -- the turn
 read : (c : goal.After-slice_known-in-loop-c-1) →
@@ -44,4 +40,4 @@ loop-c-preserved c = (read c).moved
 pub returns : goal.returns
 returns c =
     let e = c.read-s.ensures in
-    rw c.clear.ensures (moved_all _ _ _ _ c.loop-c.invariant (⊎_elim (λ q. inl (sym e ∙ q)) (λ q. inr (sym e ∙ q)) (none_read _ c.in_default.in_default-own.keys2)))
+    rw c.clear.ensures (moved_all _ _ _ _ c.loop-c.invariant (⊎_elim (λ q. inl (sym e ∙ q)) (λ q. inr (sym e ∙ q)) (none_read _ c.in_default.not-Scalar)))

@@ -10,19 +10,19 @@ use Rattle.keys_lines.proofs.print_line.Goals as goal
 
 -- the room is that of the title's bytes, and so much is lent
 size : (c : goal.After-room_for) →
-    c.room_for.result ≡ room_for (length (take c.put_title-n.result c.put_title-n.new.1.1.0))
+    c.room_for.result ≡ room_for (length (take c.put_title-n.result c.put_title-n.new.title))
 size c =
     c.room_for.ensures ∙ ap room_for (sym (length-take-le _ _ c.put_title-n.ensures.inside))
 
 lent-size : (c : goal.After-room_for) →
     c.put_number-at.result + c.room_for.result - c.put_number-at.result ≡
-    room_for (length (take c.put_title-n.result c.put_title-n.new.1.1.0))
+    room_for (length (take c.put_title-n.result c.put_title-n.new.title))
 lent-size c = omega (arith, size c)
 
 pub overflow_add-end : goal.overflow_add-end
 overflow_add-end c =
     let t = c.put_title-n in
-    omega (arith, size c, room_bound (length (take t.result t.new.1.1.0)), c.put_number-at.ensures.upper_bound)
+    omega (arith, size c, room_bound (length (take t.result t.new.title)), c.put_number-at.ensures.upper_bound)
 
 pub slice_bounds-title_key-end-2 : goal.slice_bounds-title_key-end-2
 slice_bounds-title_key-end-2 c =
@@ -33,26 +33,26 @@ slice_bounds-title_key-end-3 c =
     let number = c.put_number-at.ensures in
     omega (
       arith,
-      room_inside c.args.cells.now c.args.line.now _ c.put_title-n.ensures.bytes _ _ _ number.0 number.1
+      room_inside c.args.cells.now c.args.line.now _ c.put_title-n.ensures.bytes _ _ _ number.put number.upper_bound
           c.requires.print_room.out_room _ (size c.before),
     )
 
 pub title_key-r-requires : goal.title_key-r-requires
 title_key-r-requires c =
     let t = c.put_title-n in
-    (c.requires.print_room.table, omega (arith, t.ensures.few, length-take-le t.result t.new.1.1.0 t.ensures.inside))
+    (c.requires.print_room.table, omega (arith, t.ensures.few, length-take-le t.result t.new.title t.ensures.inside))
 
 pub put_answer-requires : goal.put_answer-requires
 put_answer-requires c =
     let number = c.put_number-at.ensures in
-    answer_fits c.args.cells.now c.args.line.now _ c.put_title-n.ensures.bytes _ _ _ number.0 number.1 c.requires.print_room.out_room _
+    answer_fits c.args.cells.now c.args.line.now _ c.put_title-n.ensures.bytes _ _ _ number.put number.upper_bound c.requires.print_room.out_room _
     (lent-size c.before.before.before.before.before.before.before.before)
-    _ _ c.title_key-r.ensures c.title_key-r.auto.1.1.1.0 _ c.len.ensures
+    _ _ c.title_key-r.ensures c.title_key-r.auto.out _ c.len.ensures
 
 pub returns : goal.returns
 returns c =
     let number = c.put_number-at.ensures in
-    line_printed c.args.cells.now c.args.line.now _ c.put_title-n.ensures.bytes _ _ _ number.0 number.1 c.requires.print_room.out_room _
+    line_printed c.args.cells.now c.args.line.now _ c.put_title-n.ensures.bytes _ _ _ number.put number.upper_bound c.requires.print_room.out_room _
     (lent-size c.before.before.before.before.before.before.before.before.before.before.before)
-    _ _ c.title_key-r.ensures c.title_key-r.auto.1.1.1.0 _ _ c.number.ensures c.len.ensures
+    _ _ c.title_key-r.ensures c.title_key-r.auto.out _ _ c.number.ensures c.len.ensures
     c.put_answer.ensures.put c.put_answer.ensures.upper_bound

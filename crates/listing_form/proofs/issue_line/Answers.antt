@@ -43,4 +43,8 @@ word-requires c =
 pub returns : goal.returns
 returns c =
     let inv = c.loop-i.invariant in
-    let rest = line_end _ _ inv.3 c.loop-i-test.false c.word.ensures in record { put = put_as (line_as _ c.requires.1) (put_then c.decimal-next.ensures.put rest); upper_bound = omega (arith, c.word.ensures.next, inv.1, inv.2) }
+    let rest = line_end _ _ inv.3 c.loop-i-test.false c.word.ensures in
+    record {
+      put = put_as (line_as _ c.requires.1) (put_then c.decimal-next.ensures.put rest);
+      upper_bound = omega (arith, c.word.ensures.next, inv.1, inv.2);
+    }

@@ -9,7 +9,8 @@ use Rattle.listing_form.proofs.issue_lines.Given as goal
 
 abbrev pub invariant-loop-left : goal.invariant-loop-left
 invariant-loop-left l =
-    (length l.out ≡ length l.initial.out) × (l.i + l.left * numbers ≡ l.k * numbers) × (l.next ≤ l.at + 21 * l.i) × Rest l.initial.out l.at (issue_lines l.k l.issues) l.out l.next (issue_lines l.left (drop l.i l.issues))
+    (length l.out ≡ length l.initial.out) × (l.i + l.left * numbers ≡ l.k * numbers) × (l.next ≤ l.at + 21 * l.i) ×
+    Rest l.initial.out l.at (issue_lines l.k l.issues) l.out l.next (issue_lines l.left (drop l.i l.issues))
 
 abbrev pub decreases-loop-left : goal.decreases-loop-left
 decreases-loop-left l = l.left

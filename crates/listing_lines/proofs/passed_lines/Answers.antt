@@ -15,14 +15,14 @@ few c =
     within _ _ c.requires (answered_as _ _ c.decode_checked-answer.ensures) c.text-n.ensures c.issues-k.ensures c.charged.ensures
 
 text-long : (c : goal.After-charged) →
-    length c.decode_checked-answer.new.issues.1.1.1.0 ≡ 65536
+    length c.decode_checked-answer.new.text ≡ 65536
 text-long c =
-    c.decode_checked-answer.auto.issues.1.1.1.0 ∙ length-replicate {A = ℕ} 65536 0
+    c.decode_checked-answer.auto.text ∙ length-replicate {A = ℕ} 65536 0
 
 issues-long : (c : goal.After-charged) →
-    length c.decode_checked-answer.new.issues.1.1.1.1.0 ≡ 256 * numbers
+    length c.decode_checked-answer.new.issues ≡ 256 * numbers
 issues-long c =
-    c.decode_checked-answer.auto.issues.1.1.1.1.0 ∙ length-replicate {A = ℕ} (256 * numbers) 0
+    c.decode_checked-answer.auto.issues ∙ length-replicate {A = ℕ} (256 * numbers) 0
 
 pub decode_checked-answer-requires : goal.decode_checked-answer-requires
 decode_checked-answer-requires c =
@@ -42,7 +42,7 @@ slice_bounds-decoded-end c = sym (length-take-le _ _ (omega (arith, (few c.befor
 pub decoded-requires : goal.decoded-requires
 decoded-requires c =
     let w = few c.before.before in
-    let t = length-take-le c.text-n.result c.decode_checked-answer.new.issues.1.1.1.0 (omega (arith, w.text, text-long c.before.before)) in
+    let t = length-take-le c.text-n.result c.decode_checked-answer.new.text (omega (arith, w.text, text-long c.before.before)) in
     (w.text, w.issues, w.charge, omega (arith, w.text, t), omega (arith, w.issues, issues-long c.before.before))
 
 pub returns : goal.returns

@@ -38,5 +38,5 @@ pub returns : goal.returns
 returns c =
     let f = formed c.args.line.now c.args.tab c.requires.1 c.requires.0 in
     let n = length (take (length c.args.line.now - (c.args.tab + 1)) (drop (c.args.tab + 1) c.args.line.now)) / 2 in
-    let e : length c.put_bytes.new.1.0 ≡ n = c.put_bytes.auto.1.0 ∙ length-take-le n c.args.title.now (omega (arith, f.few, c.requires.2)) in
-    titled c.args.line.now c.args.tab n c.requires.1 c.put_bytes.new.1.0 c.args.title.now e f.few c.put_bytes.ensures
+    let e : length c.put_bytes.new.bytes ≡ n = c.put_bytes.auto.bytes ∙ length-take-le n c.args.title.now (omega (arith, f.few, c.requires.2)) in
+    titled c.args.line.now c.args.tab n c.requires.1 c.put_bytes.new.bytes c.args.title.now e f.few c.put_bytes.ensures
