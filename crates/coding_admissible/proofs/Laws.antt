@@ -33,7 +33,7 @@ not_shown {s = s} (right code size h) n w = not_sized s size w n h
 not_shown {s = s} (shifted code size e b half h l m) n w = not_sized s size w n h
 not_shown {s = s} (direct b size h) n w = not_sized s size w n h
 
-none_shown : {s : State} {ks : List Cand} {bs : List ℕ} → Some (λ k. Shows s k bs) ks → s.narrow ≡ 1 → All WideCand ks → ⊥
+none_shown : {s : State} {bs : List ℕ} {ks : List Cand} → Some (λ k. Shows s k bs) ks → s.narrow ≡ 1 → All WideCand ks → ⊥
 none_shown (here p) n w = not_shown p n w.0
 none_shown (there q) n w = none_shown q n w.1
 

@@ -33,12 +33,14 @@ least_some n (m ∷ l) = go (leb n.cost (least (m ∷ l))) refl (least_some m l)
     go false e r = there (some_map r (λ k h. omega (arith, leb-false n.cost (least (m ∷ l)) e)))
 
 filled_least : (l : List Node) → Filled l → Some (λ k. k.cost ≡ least l) l
+filled_least [] f = elim f [ ]
 filled_least (n ∷ l) f = least_some n l
 
 pub least_most : (c : ℕ) {l : List Node} → Some (λ n. n.cost ≤ c) l → least l ≤ c
 unfolding least
 least_most c (here {xs = []} h) = h
 least_most c (here {xs = m ∷ l} h) = omega arith
+least_most c (there {xs = []} r) = elim r [ ]
 least_most c (there {xs = m ∷ l} r) = omega (arith, least_most c r)
 
 -- the first node of that cost
@@ -64,6 +66,8 @@ cand_filled n i (plain b size) = here tt
 
 reached_filled : (ks : List Cand) → Filled ks → (ns : List Node) → Filled ns → Filled (reached ks ns 0)
 unfolding reached by_each
+reached_filled [] f ns g = elim f [ ]
+reached_filled (k ∷ ks) f [] g = elim g [ ]
 reached_filled (k ∷ ks) f (n ∷ ns) g = some_left _ (some_left _ (cand_filled n 0 k))
 
 keep_filled : (top : ℕ) {l : List Node} → Some (λ n. n.cost ≤ top) l → Filled (keep top l)

@@ -87,6 +87,7 @@ shortest_most : {a : State} (bs : List ℕ) {ks : List Cand} → Some (λ k. Sho
 unfolding shortest
 shortest_most bs (here {xs = []} s) = shown s
 shortest_most bs (here {xs = k ∷ ks} s) = omega (arith, shown s)
+shortest_most bs (there {xs = []} r) = elim r [ ]
 shortest_most bs (there {xs = k ∷ ks} r) = omega (arith, shortest_most bs r)
 
 rest_most : {a : State} {css : List (List Cand)} {bs : List ℕ} → Admissible a css bs → rest_of css ≤ length bs

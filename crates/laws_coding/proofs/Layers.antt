@@ -65,6 +65,7 @@ module _ (P : Node → Type 0) where
 module _ (P : Node → Type 0) (cheaper : (m n : Node) → same_state m.state n.state ≡ true → P m ⊎ P n → P (cond (leb m.cost n.cost) m n)) where
   push_some : (l : List Node) (n : Node) → Some P l ⊎ P n → Some P (push l n)
   unfolding push
+  push_some [] n (inl r) = elim r [ ]
   push_some [] n (inr p) = here p
   push_some (m ∷ ms) n q = go (same_state m.state n.state) refl (push_some ms n) q
     where
@@ -78,6 +79,7 @@ module _ (P : Node → Type 0) (cheaper : (m n : Node) → same_state m.state n.
 
   pub all_some : (l ns : List Node) → Some P l ⊎ Some P ns → Some P (push_all l ns)
   unfolding push_all
+  all_some l [] (inr r) = elim r [ ]
   all_some l [] (inl r) = r
   all_some l (n ∷ ns) (inl r) = all_some (push l n) ns (inl (push_some l n (inl r)))
   all_some l (n ∷ ns) (inr (here p)) = all_some (push l n) ns (inl (push_some l n (inr p)))

@@ -62,6 +62,7 @@ module _ (css : List (List Cand)) (initial : ℕ) where
 -- the gap by the sums of what was dropped
 gap_floor : (len f : ℕ) (l : List ℕ) → Some (λ x. x ≡ f) l → All (λ x. f ≤ x) l → gap_of len (lowered 0 l) ≡ len - f
 unfolding gap_of
+gap_floor len f [] t a = elim t [ ]
 gap_floor len f (x ∷ l) t a =
     let q = floor_least x l in
     let m = q.value in
@@ -83,6 +84,7 @@ gap_by css initial =
 
 gap_most : (len c : ℕ) (l : List ℕ) → Some (λ x. x ≤ c) l → len ≤ c + gap_of len (lowered 0 l)
 unfolding gap_of
+gap_most len c [] t = elim t [ ]
 gap_most len c (x ∷ l) t =
     let q = floor_least x l in
     let m = q.value in

@@ -7,13 +7,14 @@ use Rattle.encode_candidates.specs.Packed.{packed, cand_of}
 use Rattle.encode_candidates.proofs.Adding.{cell_more, empty, alone}
 use Rattle.encode_candidates.proofs.Cases.{mark_grid, is_mark, no_mark, at_newline, at_mark, at_letter}
 use Rattle.encode_candidates.proofs.candidates.Goals as goal
+use Rattle.encode_candidates.proofs.candidates.Goals.{After-pack-mark}
 
 -- the number of the mark's cell
-own : (c : goal.After-pack-mark) → c.pack-mark.result ≡ packed (cell_with non_spacing c.args.c)
+own : (c : After-pack-mark) → c.pack-mark.result ≡ packed (cell_with non_spacing c.args.c)
 own c = c.pack-mark.ensures ∙ ap packed c.mark_cell.ensures
 
 pub with-requires : goal.with-requires
-with-requires c = (omega arith, (empty, record { set = omega arith; six = λ n. absurd (n refl); plain = λ e. omega arith; row = omega arith; last = omega arith; size = omega arith }))
+with-requires c = record { count_bound = omega arith; under_construction = empty; fits = record { set = omega arith; six = λ n. absurd (n refl); plain = λ e. omega arith; row = omega arith; last = omega arith; size = omega arith } }
 
 pub returns-then-c-eq10 : goal.returns-then-c-eq10
 unfolding cand_of
@@ -27,7 +28,7 @@ returns-then-c-eq10 c =
     }
 
 pub with_cell-requires : goal.with_cell-requires
-with_cell-requires c = (omega arith, (empty, (omega arith, omega arith)))
+with_cell-requires c = record { count_bound = omega arith; under_construction = empty; set_bound = omega arith; size_bound = omega arith }
 
 pub returns-then-mark-ne0 : goal.returns-then-mark-ne0
 unfolding set_of size_of

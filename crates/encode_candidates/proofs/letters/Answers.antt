@@ -33,25 +33,25 @@ count8 : (c : goal.After-with_space) → c.with_space.result.count ≤ 8
 count8 c = omega (arith, count7 c.before, c.with_space.ensures.count)
 
 pub with_code-k-requires : goal.with_code-k-requires
-with_code-k-requires c = (omega arith, (empty, (omega arith, omega arith)))
+with_code-k-requires c = record { count_bound = omega arith; under_construction = empty; set_bound = omega arith; size_bound = omega arith }
 
 pub with_code-k-requires-2 : goal.with_code-k-requires-2
-with_code-k-requires-2 c = (omega (arith, count1 c), (c.with_code-k.ensures.good, (omega arith, omega arith)))
+with_code-k-requires-2 c = record { count_bound = omega (arith, count1 c); under_construction = c.with_code-k.ensures.good; set_bound = omega arith; size_bound = omega arith }
 
 pub with_code-k-requires-3 : goal.with_code-k-requires-3
-with_code-k-requires-3 c = (omega (arith, count2 c), (c.with_code-k-2.ensures.good, (omega arith, omega arith)))
+with_code-k-requires-3 c = record { count_bound = omega (arith, count2 c); under_construction = c.with_code-k-2.ensures.good; set_bound = omega arith; size_bound = omega arith }
 
 pub with_half-k-requires : goal.with_half-k-requires
 with_half-k-requires c = record { count_bound = omega (arith, count3 c); under_construction = c.with_code-k-3.ensures.good }
 
 pub with_cell-k-requires : goal.with_cell-k-requires
-with_cell-k-requires c = (omega (arith, count4 c), (c.with_half-k.ensures.good, (omega arith, omega arith)))
+with_cell-k-requires c = record { count_bound = omega (arith, count4 c); under_construction = c.with_half-k.ensures.good; set_bound = omega arith; size_bound = omega arith }
 
 pub with_cell-k-requires-2 : goal.with_cell-k-requires-2
-with_cell-k-requires-2 c = (omega (arith, count5 c), (c.with_cell-k.ensures.good, (omega arith, omega arith)))
+with_cell-k-requires-2 c = record { count_bound = omega (arith, count5 c); under_construction = c.with_cell-k.ensures.good; set_bound = omega arith; size_bound = omega arith }
 
 pub with_code-k-requires-4 : goal.with_code-k-requires-4
-with_code-k-requires-4 c = (omega (arith, count6 c), (c.with_cell-k-2.ensures.good, (omega arith, omega arith)))
+with_code-k-requires-4 c = record { count_bound = omega (arith, count6 c); under_construction = c.with_cell-k-2.ensures.good; set_bound = omega arith; size_bound = omega arith }
 
 pub with_space-requires : goal.with_space-requires
 with_space-requires c = record { count_bound = omega (arith, count7 c); under_construction = c.with_code-k-4.ensures.good }

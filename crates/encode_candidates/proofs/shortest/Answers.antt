@@ -11,11 +11,8 @@ use Rattle.coding.specs.Candidates.{code_length, shortest}
 use Rattle.encode_candidates.specs.declared.Cands.{Cands}
 use Rattle.encode_candidates.specs.Packed.{cand_at, cands_from, cands_of}
 use Rattle.encode_candidates.proofs.Lengths.{without_set, of_byte, of_bytes, is_one, is_two, is_zero_lem}
+use Rattle.encode_candidates.proofs.shortest.Invariants.{Twos}
 use Rattle.encode_candidates.proofs.shortest.Goals as goal
-
--- the first i have two bytes each
-abbrev Twos : Cands → ℕ → Type 0
-Twos k i = (j : ℕ) → j < i → code_length (cand_at k j) ≡ 2
 
 one : (k : Cands) (i : ℕ) → i < k.count → code_length (cand_at k i) ≡ 1 → 1 ≡ shortest (cands_of k)
 unfolding cands_of
@@ -55,7 +52,7 @@ bounds-k-i c = omega (arith, c.requires)
 
 pub returns-then-k-i-eq7 : goal.returns-then-k-i-eq7
 returns-then-k-i-eq7 c =
-    one c.args.t1 c.loop-i.i c.loop-i-test.true (no-set c.args.t1 c.loop-i.i c.if-k-i-eq7.true)
+    one c.args.k c.loop-i.i c.loop-i-test.true (no-set c.args.k c.loop-i.i c.if-k-i-eq7.true)
 
 pub offset_bounds-k-i : goal.offset_bounds-k-i
 offset_bounds-k-i c = record { fits = omega (arith, c.requires) }
@@ -65,7 +62,7 @@ bounds-k-i-in-loop-i c = omega (arith, c.requires)
 
 pub returns-then-k-i-lt256 : goal.returns-then-k-i-lt256
 returns-then-k-i-lt256 c =
-    one c.args.t1 c.loop-i.i c.loop-i-test.true (byte c.args.t1 c.loop-i.i c.if-k-i-lt256.true)
+    one c.args.k c.loop-i.i c.loop-i-test.true (byte c.args.k c.loop-i.i c.if-k-i-lt256.true)
 
 pub overflow_add-i : goal.overflow_add-i
 overflow_add-i c =
@@ -76,14 +73,14 @@ loop-i-smaller c = omega arith
 
 pub loop-i-preserved : goal.loop-i-preserved
 loop-i-preserved c =
-    let k = c.args.t1 in
+    let k = c.args.k in
     (omega arith, more k c.loop-i.i c.loop-i.invariant.1 (bytes k c.loop-i.i c.if-k-i-eq7.false c.if-k-i-lt256.false))
 
 pub returns-then-i-eq0 : goal.returns-then-i-eq0
 unfolding cands_of
 returns-then-i-eq0 c =
-    sym (is_zero_lem c.args.t1 c.args.t1.count (omega (arith, c.loop-i.invariant.0, c.loop-i-test.false, c.if-i-eq0.true)))
+    sym (is_zero_lem c.args.k c.args.k.count (omega (arith, c.loop-i.invariant.0, c.loop-i-test.false, c.if-i-eq0.true)))
 
 pub returns : goal.returns
 returns c =
-    two c.args.t1 c.loop-i.i (omega (arith, c.loop-i.invariant.0, c.loop-i-test.false)) c.if-i-eq0.false c.loop-i.invariant.1
+    two c.args.k c.loop-i.i (omega (arith, c.loop-i.invariant.0, c.loop-i-test.false)) c.if-i-eq0.false c.loop-i.invariant.1

@@ -7,7 +7,7 @@ returns-then-cell-eq0 c = no_cell_adds c.args.k c.args.set c.args.size c.args.ce
 
 pub with-requires : goal.with-requires
 with-requires c =
-    (c.requires.count_bound, (c.requires.under_construction, cell_fits c.args.set c.args.cell c.args.size c.requires.set_bound c.requires.size_bound))
+    record { count_bound = c.requires.count_bound; under_construction = c.requires.under_construction; fits = cell_fits c.args.set c.args.cell c.args.size c.requires.set_bound c.requires.size_bound }
 
 pub returns : goal.returns
 returns c =

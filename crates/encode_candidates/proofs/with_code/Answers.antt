@@ -11,7 +11,7 @@ use Rattle.encode_candidates.proofs.with_code.Goals as goal
 pub with-requires : goal.with-requires
 with-requires c =
     let f = one_byte_found c.args.table c.args.c _ (sym c.one_byte_reverse.ensures ∙ ap code_value c.in-Gl.is) in
-    (c.requires.count_bound, (c.requires.under_construction, byte_fits c.args.set _ c.args.size c.requires.set_bound f.to c.requires.size_bound))
+    record { count_bound = c.requires.count_bound; under_construction = c.requires.under_construction; fits = byte_fits c.args.set _ c.args.size c.requires.set_bound f.to c.requires.size_bound }
 
 pub returns-in-Gl : goal.returns-in-Gl
 unfolding of_code

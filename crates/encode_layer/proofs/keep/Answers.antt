@@ -1,6 +1,5 @@
 -- `encode_layer::keep` meets its contract: drops the nodes of the layer that cost over most, which lower the floor, the others moved down.
 use mathlib.Core.Path.{refl, ap, ◌∙◌}
-use mathlib.Core.Logic.{⊎_elim}
 use Prim.Native.Nat.{ℕ, ◌+◌, ◌*◌, ◌≤◌}
 use native.Mathlib.Omega.{arith}
 use lib.ListN.{get_or}
@@ -8,6 +7,7 @@ use Rattle.coding.specs.Search.{lower}
 use Rattle.encode_layer.proofs.Costs.{floored_kept, floored_dropped, floored_end, cost_bound}
 use Rattle.encode_layer.proofs.Keeping.{going_start, same_cost, going_drop, going_keep, going_end}
 use Rattle.encode_layer.proofs.keep.Goals as goal
+use Rattle.encode_layer.proofs.keep.Goals.{then-cost-most, else-cost-most}
 
 -- the cost of a dropped node is small
 cost_small : (c : goal.Else-cost-most) →
@@ -18,7 +18,7 @@ cost_small c =
     let at = c.loop-i in
     omega (
       arith,
-      same_cost a.store.now a.from a.count a.most c.requires.0 at.store at.i at.auto at.invariant.0 (omega arith),
+      same_cost a.store.now a.from a.count a.most c.requires.0 at.store at.i at.kept at.invariant.0 (omega arith),
       cost_bound a.store.now a.from a.count c.requires.0 c.requires.2 at.i (omega arith),
     )
 
@@ -85,16 +85,21 @@ pub loop-i-preserved : goal.loop-i-preserved
 loop-i-preserved c =
     let a = c.args in
     let at = c.loop-i in
-    let cost = same_cost a.store.now a.from a.count a.most c.requires.0 at.store at.i at.auto at.invariant.0 (omega arith) in
-    ⊎_elim (λ w. (
-      rw (w.7, w.9) (going_keep a.store.now a.from a.count a.most c.requires.0 at.store at.i at.auto at.invariant.0 _ (omega arith) w.0.taken w.4.ensures),
-      rw w.8 (floored_kept a.store.now a.from a.count c.requires.0 a.most a.rest a.low at.f at.i at.invariant.1 (omega arith) (omega (arith, w.0.taken))),
-    ))
-    (λ w. (
-      rw (w.2, w.4) (going_drop a.store.now a.from a.count a.most c.requires.0 at.store at.i at.auto at.invariant.0 (omega arith) w.0.left),
-      rw (w.3 ∙ (w.1.ensures ∙ ap (λ (x : ℕ). lower at.f (x + a.rest)) cost))
-          (floored_dropped a.store.now a.from a.count c.requires.0 a.most a.rest a.low at.f at.i at.invariant.1 (omega arith) (omega (arith, w.0.left))),
-    )) c.if-cost-most.branch
+    let cost = same_cost a.store.now a.from a.count a.most c.requires.0 at.store at.i at.kept at.invariant.0 (omega arith) in
+    elim c.if-cost-most.branch [
+      | then-cost-most w ↦ (
+        rw (w.store-is, w.kept-is)
+            (going_keep a.store.now a.from a.count a.most c.requires.0 at.store at.i at.kept at.invariant.0 _ (omega arith) w.if-cost-most.true w.put_node.ensures),
+        rw w.f-is
+            (floored_kept a.store.now a.from a.count c.requires.0 a.most a.rest a.low at.f at.i at.invariant.1 (omega arith) (omega (arith, w.if-cost-most.true))),
+      )
+      | else-cost-most w ↦ (
+        rw (w.store-is, w.kept-is)
+            (going_drop a.store.now a.from a.count a.most c.requires.0 at.store at.i at.kept at.invariant.0 (omega arith) w.if-cost-most.false),
+        rw (w.f-is ∙ (w.lower-f.ensures ∙ ap (λ (x : ℕ). lower at.f (x + a.rest)) cost))
+            (floored_dropped a.store.now a.from a.count c.requires.0 a.most a.rest a.low at.f at.i at.invariant.1 (omega arith) (omega (arith, w.if-cost-most.false))),
+      )
+    ]
 
 pub shape_of-store : goal.shape_of-store
 shape_of-store c = c.loop-i.invariant.0.same
@@ -102,4 +107,4 @@ shape_of-store c = c.loop-i.invariant.0.same
 pub returns : goal.returns
 returns c =
     let a = c.args in
-    let at = c.loop-i in record { kept = going_end a.store.now a.from a.count a.most c.requires.0 at.store at.i at.auto at.invariant.0 c.loop-i-test.false; lowered = floored_end a.store.now a.from a.count c.requires.0 a.most a.rest a.low at.f at.i at.invariant.1 c.loop-i-test.false }
+    let at = c.loop-i in record { kept = going_end a.store.now a.from a.count a.most c.requires.0 at.store at.i at.kept at.invariant.0 c.loop-i-test.false; lowered = floored_end a.store.now a.from a.count c.requires.0 a.most a.rest a.low at.f at.i at.invariant.1 c.loop-i-test.false }

@@ -14,7 +14,7 @@ abbrev pub invariant-loop-k : goal.invariant-loop-k
 invariant-loop-k l =
     (l.k ≤ l.m) × (length l.store ≡ length l.initial.store) × (entries_of l.store 0 l.from ≡ entries_of l.initial.store 0 l.from) ×
     ((cs : List Cand) (most : ℕ) (n : Node) → MatchAll cs l.m l.sets l.codes l.sizes → Is n l.a l.cost → l.cost + 9 ≤ most →
-    Changes cs (bounds l.from l.cap l.buckets most) l.initial.store l.count l.store l.c (λ l. by_cands n l.i l (take l.k cs)))
+    Changes cs (bounds l.from l.cap l.buckets most) l.initial.store l.count l.store l.c (λ p. by_cands n l.i p (take l.k cs)))
 
 abbrev pub decreases-loop-k : goal.decreases-loop-k
 decreases-loop-k l = l.m - l.k

@@ -1,6 +1,5 @@
 -- `encode_ways::by_element` meets its contract: pushes the ways through the code element n, to which the set of code x is designated unless it stands there.
 use mathlib.Core.Path.{sym, ap, ◌∙◌}
-use mathlib.Core.Logic.{⊎_elim}
 use mathlib.Core.List.{[]}
 use native.Mathlib.Omega.{arith}
 use Rattle.sets.specs.Sets.{designation}
@@ -10,6 +9,7 @@ use Rattle.encode_states.proofs.Elements.{designation_most}
 use Rattle.encode_ways.specs.Turn.{Sized}
 use Rattle.encode_ways.proofs.Reaching.{same_gl, same_gr, through_standing, through_designated, element_standing, element_designated}
 use Rattle.encode_ways.proofs.by_element.Goals as goal
+use Rattle.encode_ways.proofs.by_element.Goals.{then-set_in-x, else-set_in-x}
 
 pub overflow_add-more : goal.overflow_add-more
 overflow_add-more c =
@@ -20,10 +20,10 @@ through-requires c =
     let a = c.args in
     let q = c.designate-b.ensures.is in
     let g : Sized c.if-set_in-x.more c.if-set_in-x.k =
-    ⊎_elim
-    (λ z. record { cost_small = omega (arith, z.1.ensures, designation_most a.x a.n c.requires.5); link_small = omega arith })
-    (λ z. record { cost_small = omega arith; link_small = omega arith })
-    c.if-set_in-x.branch in (
+    elim c.if-set_in-x.branch [
+      | then-set_in-x z ↦ record { cost_small = omega (arith, z.designation_length.ensures, designation_most a.x a.n c.requires.5); link_small = omega arith }
+      | else-set_in-x z ↦ record { cost_small = omega arith; link_small = omega arith }
+    ] in (
       record { store = omega arith; few = c.requires.0.few; some = c.requires.0.some; heads = c.requires.0.heads; small = c.requires.0.small },
       c.designate-b.ensures.proper,
       record {
@@ -39,12 +39,13 @@ pub returns : goal.returns
 returns c =
     let a = c.args in
     λ cs most t w h.
-    ⊎_elim
-    (λ z. element_designated t (unpack a.a) a.n c.set_in.result a.x c.designate-b.result c.set_in.ensures
-    c.designate-b.ensures.is z.0.taken (c.through.ensures cs most t (designation (set_of a.x) a.n)
-    (rw (z.2, z.3) (through_designated cs t a.x a.cost a.link w a.n z.1.result c.requires.4 z.1.ensures))
-    (omega (arith, z.2, z.1.ensures, designation_most a.x a.n c.requires.5))))
-    (λ z. element_standing t (unpack a.a) a.n c.set_in.result a.x c.designate-b.result c.set_in.ensures
-    c.designate-b.ensures.is z.0.left (c.through.ensures cs most t []
-    (rw (z.1, z.2) (through_standing cs t a.x a.cost a.link w a.n c.requires.4)) (omega (arith, z.1))))
-    c.if-set_in-x.branch
+    elim c.if-set_in-x.branch [
+      | then-set_in-x z ↦
+          element_designated t (unpack a.a) a.n c.set_in.result a.x c.designate-b.result c.set_in.ensures c.designate-b.ensures.is z.if-set_in-x.true
+          (c.through.ensures cs most t (designation (set_of a.x) a.n)
+          (rw (z.more-is, z.k-is) (through_designated cs t a.x a.cost a.link w a.n z.designation_length.result c.requires.4 z.designation_length.ensures))
+          (omega (arith, z.more-is, z.designation_length.ensures, designation_most a.x a.n c.requires.5)))
+      | else-set_in-x z ↦
+          element_standing t (unpack a.a) a.n c.set_in.result a.x c.designate-b.result c.set_in.ensures c.designate-b.ensures.is z.if-set_in-x.false
+          (c.through.ensures cs most t [] (rw (z.more-is, z.k-is) (through_standing cs t a.x a.cost a.link w a.n c.requires.4)) (omega (arith, z.more-is)))
+    ]

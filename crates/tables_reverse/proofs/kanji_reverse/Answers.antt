@@ -7,15 +7,11 @@ use lib.ListN.{drop}
 use Rattle.tables.specs.Kanji.{place}
 use Rattle.base.specs.First.{first_from}
 use Rattle.tables_reverse.specs.Reverse.{kanji_place, kanji_reverse, place_of}
-use Rattle.tables.specs.declared.Place.TheVariants.{Nowhere}
 use Rattle.base.proofs.FirstLaws.{on_from, first_char, first_zero}
 use Rattle.tables_reverse.proofs.PlaceLaws.{kanji_place_lem}
-use Rattle.tables_reverse.proofs.PassedLaws.{Passed, next_cell, next_row, past_row, found_here}
+use Rattle.tables_reverse.proofs.PassedLaws.{next_cell, next_row, past_row, found_here}
+use Rattle.tables_reverse.proofs.kanji_reverse.Invariants.{On}
 use Rattle.tables_reverse.proofs.kanji_reverse.Goals as goal
-
--- the search of the whole table may go on from a cell
-abbrev On : List ℕ → ℕ → ℕ → ℕ → Type 0
-On t c row cell = Passed kanji_place c t (first_from kanji_place c 8836 0 t) row cell Nowhere
 
 -- at row 90 what is left is the search of rows 90 to 94
 at-90 : (t : List ℕ) (c row : ℕ) → row ≡ 90 → On t c row 1 → first_from kanji_place c 470 8366 (drop 8366 t) ≡ first_from kanji_place c 8836 0 t

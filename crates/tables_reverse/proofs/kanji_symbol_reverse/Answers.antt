@@ -4,20 +4,15 @@ use mathlib.Core.Bool.{Bool, true, false}
 use mathlib.Core.List.{List}
 use Prim.Native.Nat.{ℕ, ◌≤◌}
 use native.Mathlib.Omega.{arith}
-use lib.ListN.{get_or, drop}
+use lib.ListN.{get_or}
 use Rattle.addsym.specs.Symbols.{symbol}
 use Rattle.tables.specs.Kanji.{place, gap}
-use Rattle.base.specs.First.{first_from}
 use Rattle.tables_reverse.specs.Reverse.{kanji_place}
-use Rattle.tables.specs.declared.Place.{Place}
 use Rattle.tables.specs.declared.Place.TheVariants.{Nowhere}
 use Rattle.tables_reverse.proofs.PlaceLaws.{symbol_cell, in_gap, off_gap}
-use Rattle.tables_reverse.proofs.PassedLaws.{Passed, next_cell, next_row, past_rows, found_here, found_nowhere}
+use Rattle.tables_reverse.proofs.PassedLaws.{next_cell, next_row, past_rows, found_here, found_nowhere}
+use Rattle.tables_reverse.proofs.kanji_symbol_reverse.Invariants.{Over}
 use Rattle.tables_reverse.proofs.kanji_symbol_reverse.Goals as goal
-
--- over every table the search from row 90 on may go on from a cell
-abbrev Over : ℕ → ℕ → ℕ → Place → Type 0
-Over c row cell found = (t : List ℕ) → Passed kanji_place c t (first_from kanji_place c 470 8366 (drop 8366 t)) row cell found
 
 from-90 : (c : ℕ) → Over c 90 1 Nowhere
 from-90 c t = record { row_from = omega arith; row_to = omega arith; cell_from = omega arith; cell_to = omega arith; nowhere = refl; same = refl }
