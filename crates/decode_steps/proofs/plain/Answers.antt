@@ -14,8 +14,7 @@ returns-then-from-o c =
 pub returns-in_default : goal.returns-in_default
 returns-in_default c =
     let a = c.args in
-    let n : c.stop_at-stop.result ≡ End → ⊥ =
-    λ e. ⊎_elim (λ z. omega (arith, z)) (⊎_elim (λ z. omega (arith, z)) (⊎_elim (λ z. omega (arith, z)) (λ z. omega (arith, z)))) (rw e at c.in_default.in_default-own.keys2) in
+    let n : c.stop_at-stop.result ≡ End → ⊥ = c.in_default.not-End in
     record {
       stretch = stretch_start _ _ _ _ _ _ _ _ _ c.requires.from_in_bounds.0 c.requires.may_take;
       stop = stop_at c.stop_at-stop.result a.b.now a.o.to a.from a.core n c.stop_at-stop.ensures;

@@ -11,11 +11,6 @@ use Rattle.decode_steps.proofs.Branches.{graphic_left, graphic_right, set_left, 
 use Rattle.decode_steps.proofs.Dispatch.{step_shift}
 use Rattle.decode_steps.proofs.simple.Goals as goal
 
--- the entry, from where the byte is in GL
-abbrev entry-gl : goal.In-33-to-126 → goal.Start
-entry-gl c =
-    c.before.before.before.before.before.before.before.before
-
 pub single_shift-requires : goal.single_shift-requires
 single_shift-requires c =
     let p = c.requires in
@@ -28,12 +23,11 @@ single_shift-requires-in-29 c =
 
 pub graphic-requires : goal.graphic-requires
 graphic-requires c =
-    let at_start = entry-gl c.before.before.before in
-    let a = at_start.args in
-    let p = at_start.pre in
+    let a = c.args in
+    let p = c.requires in
     let x = get_or a.b.now a.p.i 0 in
     let k = gl_in x (omega arith) (omega arith) in
-    record { i_in_bounds = (p.0.0, p.1.0.gl, graphic_left x k, p.1.1.left k); may_take = p.1.0 }
+    record { i_in_bounds = (p.i_in_bounds.0, p.may_take.gl, graphic_left x k, p.passes.left k); may_take = p.may_take }
 
 pub graphic-requires-in-161-to-254 : goal.graphic-requires-in-161-to-254
 graphic-requires-in-161-to-254 c =

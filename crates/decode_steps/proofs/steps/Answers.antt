@@ -30,8 +30,7 @@ stop_at-stop-requires c =
 pub returns-in_default : goal.returns-in_default
 returns-in_default c =
     let w = way_on c.loop-i.invariant (c.letters-f.ensures c.args.o.base c.args.o.origin c.loop-i.issues) c.letters-f.auto.text in
-    let n : c.stop_at-stop.result ≡ End → ⊥ =
-    λ e. ⊎_elim (λ z. omega (arith, z)) (⊎_elim (λ z. omega (arith, z)) (⊎_elim (λ z. omega (arith, z)) (λ z. omega (arith, z)))) (rw e at c.in_default.in_default-own.keys2) in
+    let n : c.stop_at-stop.result ≡ End → ⊥ = c.in_default.not-End in
     let stop = stop_at c.stop_at-stop.result c.args.b.now c.args.o.to c.letters-f.result.at c.letters-f.result.core n
     c.stop_at-stop.ensures in
     record { stretch = w.stretch; stop = stop }
@@ -54,7 +53,7 @@ simple-r-requires c =
     let far = c.letters-f.result in
     let v =
     subst (λ (r : Stop). Verdict r c.args.b.now far.at far.core) c.in-End.is c.stop_at-stop.ensures in
-    ((omega (arith, c.if-i-o.false, c.requires.from_in_bounds.3), c.requires.from_in_bounds.1), (good_next (way_good w c.requires.may_take) (omega (arith, c.if-i-o.false, c.requires.from_in_bounds.3)), v))
+    record { i_in_bounds = (omega (arith, c.if-i-o.false, c.requires.from_in_bounds.3), c.requires.from_in_bounds.1); may_take = good_next (way_good w c.requires.may_take) (omega (arith, c.if-i-o.false, c.requires.from_in_bounds.3)); passes = v }
 
 pub overflow_add-i : goal.overflow_add-i
 overflow_add-i c =
