@@ -10,7 +10,7 @@ returns-in-Cut c =
 pub returns-in-Malformed : goal.returns-in-Malformed
 returns-in-Malformed c =
     let read = c.read_command.ensures in
-    took_malformed _ _ _ _ read.0 _ _ _ _ _ c.in-Malformed.is (within_malformed _ _ read.1 c.in-Malformed.is) c.report-r.ensures
+    took_malformed _ _ _ _ read.means _ _ _ _ _ c.in-Malformed.is (within_malformed _ _ read.within c.in-Malformed.is) c.report-r.ensures
 
 pub returns-in-Ends : goal.returns-in-Ends
 returns-in-Ends c =
