@@ -3,24 +3,23 @@
 // that is printed is `encoding_lines::encoding` of what was read.
 #![tactic(auto)]
 
-use files::{read, read_table};
-use libc::{STDIN_FILENO, STDOUT_FILENO};
+use files::{fail, read, read_table};
 
 /// Each buffer has room for one byte more than is taken, so that what is longer shows, and no more of
 /// it is read.
-fn main() {
+fn main(rt: HostRuntime) {
     let mut bytes = [0u8; 7282];
-    let input = read(STDIN_FILENO, b"standard input", &mut bytes);
+    let input = read(&rt, &mut rt.stdin(), "standard input", &mut bytes);
     if input.failed {
         return;
     }
     let mut cells = [0u8; 17673];
-    let table = read_table(&mut cells);
+    let table = read_table(&rt, &mut cells);
     let mut out = [0u8; encoding_lines::GREATEST];
     let k = input.len;
     let m = table.len;
     let n = encoding_lines::encoding(table.present, &cells[..m], &bytes[..k], &mut out);
-    if !io::write_all(STDOUT_FILENO, &out[..n]) {
-        os::fail(b"standard output");
+    if let Err(why) = rt.write_all(&out[..n]) {
+        fail(&rt, "standard output", why);
     }
 }

@@ -3,8 +3,9 @@ ghost use Rattle.std.specs.Prelude.{◌≡◌, ◌≤◌, true, length};
 ghost use Rattle.keys_lines.specs.Promises.{PrintRoom};
 ghost use Rattle.keys.specs.Promises.{Buffers, Within};
 
+use files::fail;
 use keys_lines::Printed;
-use libc::{STDIN_FILENO, STDOUT_FILENO};
+use std::io::Read;
 
 /// How many printed bytes may wait before they are written.
 const WAITING: usize = 65536;
@@ -21,33 +22,46 @@ pub struct Progress {
 }
 
 /// Writes the bytes that wait, unless something failed before.
-fn write_waiting(out: &[u8], used: usize, good: bool) -> bool
+fn write_waiting(
+    rt: &(impl Print + Eprint + AllocGlobal),
+    out: &[u8],
+    used: usize,
+    good: bool,
+) -> bool
     requires { used ≤ length out.now }
 {
     if !good {
         return false;
     }
-    if io::write_all(STDOUT_FILENO, &out[..used]) {
-        return true;
+    match rt.write_all(&out[..used]) {
+        Ok(()) => true,
+        Err(why) => {
+            fail(rt, "standard output", why);
+            false
+        }
     }
-    os::fail(b"standard output");
-    false
 }
 
 /// Says that a line is malformed, behind what waits.
-fn write_malformed(out: &[u8], used: usize, good: bool, number: u64) -> bool
+fn write_malformed(
+    rt: &(impl Print + Eprint + AllocGlobal),
+    out: &[u8],
+    used: usize,
+    good: bool,
+    number: u64,
+) -> bool
     requires { used ≤ length out.now }
 {
-    if !write_waiting(out, used, good) {
+    if !write_waiting(rt, out, used, good) {
         return false;
     }
-    io::write_all(STDOUT_FILENO, b"line ");
-    io::print_decimal(STDOUT_FILENO, number);
-    if io::write_all(STDOUT_FILENO, b": malformed\n") {
-        return true;
+    match println!(rt; "line {number}: malformed") {
+        Ok(()) => true,
+        Err(why) => {
+            fail(rt, "standard output", why);
+            false
+        }
     }
-    os::fail(b"standard output");
-    false
 }
 
 /// Prints the line for the line of `len` bytes, and answers how many bytes that is: 0 where the line is malformed, as is
@@ -75,6 +89,7 @@ fn print(
 
 /// A line ends.
 fn end_line(
+    rt: &(impl Print + Eprint + AllocGlobal),
     cells: &[u16],
     admitted: bool,
     line: &[u8],
@@ -89,7 +104,7 @@ fn end_line(
     let at = p.used;
     let n = print(cells, admitted, line, p.len, title, &mut out[at..]);
     if n == 0 {
-        let good = write_malformed(out, at, p.good, lines);
+        let good = write_malformed(rt, out, at, p.good, lines);
         let malformed = std::num::wrapping_add_u64(p.malformed, 1);
         return Progress {
             lines,
@@ -109,7 +124,7 @@ fn end_line(
             good: p.good,
         };
     }
-    let good = write_waiting(out, used, p.good);
+    let good = write_waiting(rt, out, used, p.good);
     Progress {
         lines,
         malformed: p.malformed,
@@ -167,6 +182,7 @@ fn count_bytes(p: Progress, n: usize) -> Progress
 
 /// The bytes of a piece.
 fn take_piece(
+    rt: &(impl Print + Eprint + AllocGlobal),
     cells: &[u16],
     admitted: bool,
     piece: &[u8],
@@ -186,7 +202,7 @@ fn take_piece(
         if end == piece.len() {
             return q;
         }
-        q = end_line(cells, admitted, line, title, out, q);
+        q = end_line(rt, cells, admitted, line, title, out, q);
         i = end + 1;
     }
 }
@@ -200,6 +216,8 @@ pub struct Reading {
 
 /// Reads a piece, takes its bytes, and writes what was printed.
 fn read_piece(
+    rt: &(impl Print + Eprint + AllocGlobal),
+    reader: &mut impl Read,
     cells: &[u16],
     admitted: bool,
     line: &mut [u8],
@@ -210,31 +228,32 @@ fn read_piece(
     requires { (Buffers cells.now admitted line.old title.old out.old) × (Within p) }
     ensures { Within result.progress }
 {
-    let mut piece = io::large_buffer();
-    let got = libc::read(STDIN_FILENO, &mut piece);
-    if got < 0 {
-        os::fail(b"standard input");
-        let failed = Progress {
-            lines: p.lines,
-            malformed: p.malformed,
-            len: p.len,
-            used: p.used,
-            good: false,
-        };
-        return Reading {
-            progress: failed,
-            more: false,
-        };
-    }
-    let n = io::count(got, &piece);
+    let mut piece = piece_buffer();
+    let n = match reader.read(&mut piece) {
+        Ok(n) => n,
+        Err(why) => {
+            fail(rt, "standard input", why);
+            let failed = Progress {
+                lines: p.lines,
+                malformed: p.malformed,
+                len: p.len,
+                used: p.used,
+                good: false,
+            };
+            return Reading {
+                progress: failed,
+                more: false,
+            };
+        }
+    };
     if n == 0 {
         return Reading {
             progress: p,
             more: false,
         };
     }
-    let q = take_piece(cells, admitted, &piece[..n], line, title, out, p);
-    let good = write_waiting(out, q.used, q.good);
+    let q = take_piece(rt, cells, admitted, &piece[..n], line, title, out, p);
+    let good = write_waiting(rt, out, q.used, q.good);
     let progress = Progress {
         lines: q.lines,
         malformed: q.malformed,
@@ -251,6 +270,8 @@ fn read_piece(
 /// Reads to the end. A proved loop has to end, and nothing says that the input does: the turns are counted down from a
 /// number that no run uses up.
 fn read_all(
+    rt: &(impl Print + Eprint + AllocGlobal),
+    reader: &mut impl Read,
     cells: &[u16],
     admitted: bool,
     line: &mut [u8],
@@ -269,7 +290,7 @@ fn read_all(
     };
     let mut turns = u64::MAX;
     while turns > 0 {
-        let r = read_piece(cells, admitted, line, title, out, p);
+        let r = read_piece(rt, reader, cells, admitted, line, title, out, p);
         p = r.progress;
         if !r.more {
             return p;
@@ -281,6 +302,7 @@ fn read_all(
 
 /// A last line that no newline ends.
 fn last_line(
+    rt: &(impl Print + Eprint + AllocGlobal),
     cells: &[u16],
     admitted: bool,
     line: &[u8],
@@ -296,13 +318,19 @@ fn last_line(
     if p.len == 0 {
         return p.malformed;
     }
-    let q = end_line(cells, admitted, line, title, out, p);
-    write_waiting(out, q.used, q.good);
+    let q = end_line(rt, cells, admitted, line, title, out, p);
+    write_waiting(rt, out, q.used, q.good);
     q.malformed
 }
 
-/// Zeros, for a line, for a title, and for what waits to be written and one line more. Each `ensures` gives the length,
-/// which is all that is asked of them.
+/// Zeros, for a piece, for a line, for a title, and for what waits to be written and one line more. Each `ensures` gives
+/// the length, which is all that is asked of them.
+fn piece_buffer() -> [u8; 65536]
+    ensures { 65536 ≡ length result }
+{
+    [0; 65536]
+}
+
 fn line_buffer() -> [u8; 131082]
     ensures { 131082 ≡ length result }
 {
@@ -322,11 +350,20 @@ fn out_buffer() -> [u8; 262156]
 }
 
 /// All lines; answers how many were malformed.
-pub fn all_lines(cells: &[u16]) -> u64 {
+pub fn all_lines(rt: &(impl Print + Eprint + Input + AllocGlobal), cells: &[u16]) -> u64 {
     let admitted = questions::cells(cells);
     let mut line = line_buffer();
     let mut title = title_buffer();
     let mut out = out_buffer();
-    let p = read_all(cells, admitted, &mut line, &mut title, &mut out);
-    last_line(cells, admitted, &line, &mut title, &mut out, p)
+    let mut reader = rt.reader();
+    let p = read_all(
+        rt,
+        &mut reader,
+        cells,
+        admitted,
+        &mut line,
+        &mut title,
+        &mut out,
+    );
+    last_line(rt, cells, admitted, &line, &mut title, &mut out, p)
 }

@@ -6,23 +6,21 @@
 
 mod lines;
 
-use libc::STDERR_FILENO;
 use lines::all_lines;
 
 /// Says how many lines were malformed, if any.
-fn summary(malformed: u64) {
+fn summary(rt: &impl Eprint, malformed: u64) {
     if malformed > 0 {
-        io::print_decimal(STDERR_FILENO, malformed);
-        io::write_all(STDERR_FILENO, b" malformed\n");
+        let _ = eprintln!(rt; "{malformed} malformed");
     }
 }
 
 /// The file's buffer has room for one byte more than a cell table has, so that a longer one shows.
-fn main() {
+fn main(rt: HostRuntime) {
     let mut bytes = [0u8; 17673];
-    let file = files::read_table(&mut bytes);
+    let file = files::read_table(&rt, &mut bytes);
     let mut t = [0u16; 8836];
     let n = file.len;
     let m = jis_tab::fill(file.present, &bytes[..n], &mut t);
-    summary(all_lines(&t[..m]));
+    summary(&rt, all_lines(&rt, &t[..m]));
 }

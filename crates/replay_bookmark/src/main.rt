@@ -9,17 +9,18 @@ mod replaying;
 
 use replay_vectors::files::{cells, read};
 use replay_vectors::tally::line;
+use std::rt::Files;
 
 /// The cases of the file against the calls. The buffer is longer than the file, whose end is looked at.
-fn replay(cells: &[u16]) {
+fn replay(rt: &(impl Files + Print), cells: &[u16]) {
     let mut file = [0u8; 0x40000];
-    let n = read(b"bookmark.bin", &mut file);
-    line(b"bookmarks", replaying::replay(&file[..n], cells));
+    let n = read(rt, "bookmark.bin", &mut file);
+    line(rt, b"bookmarks", replaying::replay(&file[..n], cells));
 }
 
-fn main() {
+fn main(rt: HostRuntime) {
     let mut t = [0u16; 8836];
-    if cells(&mut t) {
-        replay(&t);
+    if cells(&rt, &mut t) {
+        replay(&rt, &t);
     }
 }

@@ -11,13 +11,17 @@ use replay_vectors::files::{cells, read};
 use replay_vectors::tally::line;
 
 /// The file's buffer is longer than the file, whose end is looked at; the store has a byte more than a catalogue.
-fn main() {
+fn main(rt: HostRuntime) {
     let mut t = [0u16; 8836];
-    if !cells(&mut t) {
+    if !cells(&rt, &mut t) {
         return;
     }
     let mut file = [0u8; 0x20000];
-    let n = read(b"catalogue.bin", &mut file);
+    let n = read(&rt, "catalogue.bin", &mut file);
     let mut store = [0u8; 266249];
-    line(b"catalogue", replaying::replay(&file[..n], &t, &mut store));
+    line(
+        &rt,
+        b"catalogue",
+        replaying::replay(&file[..n], &t, &mut store),
+    );
 }

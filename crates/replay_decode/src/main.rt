@@ -8,14 +8,15 @@ use replay_vectors::files::{cells, read};
 use replay_vectors::tally::line;
 
 /// The buffer is longer than the file, whose end is looked at.
-fn main() {
+fn main(rt: HostRuntime) {
     let mut t = [0u16; 8836];
-    if !cells(&mut t) {
+    if !cells(&rt, &mut t) {
         return;
     }
     let mut file = [0u8; 0x80000];
-    let n = read(b"decode.bin", &mut file);
+    let n = read(&rt, "decode.bin", &mut file);
     line(
+        &rt,
         b"decode, measure and clean",
         decoding::replay(&file[..n], &t),
     );

@@ -9,12 +9,12 @@ use replay_vectors::files::{cells, read};
 use replay_vectors::tally::line;
 
 /// The buffer is longer than the file, whose end is looked at.
-fn main() {
+fn main(rt: HostRuntime) {
     let mut t = [0u16; 8836];
-    if !cells(&mut t) {
+    if !cells(&rt, &mut t) {
         return;
     }
     let mut file = [0u8; 0x80000];
-    let n = read(b"encode.bin", &mut file);
-    line(b"encode", coding::replay(&file[..n], &t));
+    let n = read(&rt, "encode.bin", &mut file);
+    line(&rt, b"encode", coding::replay(&file[..n], &t));
 }
