@@ -6,13 +6,10 @@ use mathlib.Core.List.{List, [], ◌∷◌}
 use mathlib.Core.Option.{some}
 use Prim.Native.Nat.{ℕ, ◌+◌, ◌≤◌}
 use native.Mathlib.Omega.{arith}
-use denote.Enum.Declared.{tag_of}
-use types.Run.{OneOf}
 use lib.Dec.{eqb}
 use lib.ListN.{length, drop, length-drop}
 use lib.Seq.{drop-drop}
 use Rattle.tables.specs.Kanji.{non_spacing, has_character}
-use Rattle.utf8.specs.contracts.Sequence.{the_type}
 use Rattle.utf8.specs.declared.Sequence.{Sequence}
 use Rattle.utf8.specs.declared.Sequence.TheVariants.{Scalar, Fault, End}
 use Rattle.utf8.specs.Utf8.{sequence, scalars_from, scalars}
@@ -47,11 +44,10 @@ read_as text at c n h e =
     }
 
 -- where no scalar was read
-pub none_read : (s : Sequence) → OneOf (1 ∷ 2 ∷ []) (tag_of the_type s) → (s ≡ Fault) ⊎ (s ≡ End)
-none_read (Scalar c n) (inl e) = absurd (omega arith)
-none_read (Scalar c n) (inr e) = absurd (omega arith)
-none_read Fault e = inl refl
-none_read End e = inr refl
+pub none_read : (s : Sequence) → ((c n : ℕ) → s ≡ Scalar c n → ⊥) → (s ≡ Fault) ⊎ (s ≡ End)
+none_read (Scalar c n) h = absurd (h c n refl)
+none_read Fault h = inl refl
+none_read End h = inr refl
 
 scalars_none : (l : List ℕ) → (sequence l ≡ Fault) ⊎ (sequence l ≡ End) → scalars l ≡ []
 unfolding scalars scalars_from
@@ -59,7 +55,7 @@ scalars_none [] e = refl
 scalars_none (x ∷ xs) (inl e) = rw (e, scalars_from)
 scalars_none (x ∷ xs) (inr e) = absurd (sequence_not_end x xs e)
 
-pub from_end : (text : List ℕ) (at : ℕ) {s : Sequence} → s ≡ sequence (drop at text) → OneOf (1 ∷ 2 ∷ []) (tag_of the_type s) → from text at ≡ []
+pub from_end : (text : List ℕ) (at : ℕ) {s : Sequence} → s ≡ sequence (drop at text) → ((c n : ℕ) → s ≡ Scalar c n → ⊥) → from text at ≡ []
 unfolding placed
 from_end text at {s} e h = ap (placed at) (scalars_none (drop at text) (go (none_read s h)))
   where

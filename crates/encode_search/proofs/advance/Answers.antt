@@ -13,14 +13,14 @@ reach-n-requires c =
 
 pub returns-then-cap-n : goal.returns-then-cap-n
 returns-then-cap-n c =
-    let k = c.args.t3 in
+    let k = c.args.k in
     too_large c.args.store.now _ c.args.prev.count c.room-cap.result c.buckets.result k.count c.reach-n.result
     k.sets k.codes k.sizes c.reach-n.ensures c.room-cap.ensures (omega arith) c.requires.5
     c.if-cap-n.true c.args.prev.before c.args.rest c.args.floor c.requires.0
 
 pub overflow_add-most : goal.overflow_add-most
 overflow_add-most c =
-    let k = c.args.t3 in
+    let k = c.args.k in
     omega (
       arith,
       least_small c.args.store.now _ c.args.prev.count c.room-cap.result c.buckets.result k.count c.reach-n.result
@@ -30,7 +30,7 @@ overflow_add-most c =
 
 pub keep-left-requires : goal.keep-left-requires
 keep-left-requires c =
-    let k = c.args.t3 in (
+    let k = c.args.k in (
       omega (arith, c.room-cap.ensures.inside),
       c.requires.4,
       still_cheap c.args.store.now _ c.args.prev.count c.room-cap.result c.buckets.result k.count c.reach-n.result
@@ -40,7 +40,7 @@ keep-left-requires c =
 
 pub returns : goal.returns
 returns c =
-    let k = c.args.t3 in
+    let k = c.args.k in
     advanced c.args.store.now _ c.args.prev.count c.room-cap.result c.buckets.result k.count c.reach-n.result
     k.sets k.codes k.sizes c.reach-n.ensures c.room-cap.ensures (omega arith) c.requires.5
     c.if-cap-n.false _ _ c.args.prev.before c.least-most.result c.args.rest c.args.floor c.keep-left.result.floor

@@ -66,13 +66,13 @@ loop-i-preserved c =
     let q = c.by_candidates-count.ensures in (
       omega arith,
       omega arith,
-      q.0 ∙ c.loop-i.invariant.2,
+      q.kept ∙ c.loop-i.invariant.2,
       λ cs cs₀ b most m x h.
           let l = length_layer cs₀ a.store.now 0 a.pcount (omega arith) in
           let s = sound_at c.args.store.now c.loop-i.store c.args.pcount c.loop-i.i (omega arith) c.loop-i.invariant.1 c.loop-i.invariant.2
           (omega arith) b x in
           subst (Represents cs (bounds a.pcount a.cap a.buckets most) _ _) (reach_more cs (layer_of cs₀ a.store.now 0 a.pcount) i (node_of cs₀ blank) (omega arith))
-          ((q.1 cs most (node_at c.args.store.now c.loop-i.store c.args.pcount c.loop-i.i (omega arith) c.loop-i.invariant.1
+          ((q.reached cs most (node_at c.args.store.now c.loop-i.store c.args.pcount c.loop-i.i (omega arith) c.loop-i.invariant.1
           c.loop-i.invariant.2 (omega arith) cs₀) m
           (is_node c.args.store.now c.loop-i.store c.args.pcount c.loop-i.i (omega arith) c.loop-i.invariant.1 c.loop-i.invariant.2 (omega arith) cs₀)
           (omega (arith, s.cheap))).stands _ (c.loop-i.invariant.3 cs cs₀ b most m x h)),

@@ -13,7 +13,7 @@ bounds-q-k c = omega arith
 
 pub put-to-requires : goal.put-to-requires
 put-to-requires c =
-    omega (arith, c.loop-k.invariant.2.next, taken_length c.loop-k.k c.args.t3.bytes)
+    omega (arith, c.loop-k.invariant.2.next, taken_length c.loop-k.k c.args.q.bytes)
 
 pub overflow_add-k : goal.overflow_add-k
 overflow_add-k c = omega arith
@@ -26,8 +26,8 @@ loop-k-preserved c =
     let p = c.put-to.ensures in (
       omega arith,
       put_long p ∙ c.loop-k.invariant.1,
-      further c.args.t3 (omega (arith, c.requires.2)) c.loop-k.invariant.2 p,
+      further c.args.q (omega (arith, c.requires.2)) c.loop-k.invariant.2 p,
     )
 
 pub returns : goal.returns
-returns c = λ xs h. ended c.args.t3 {k = c.loop-k.k} xs (omega arith) h c.loop-k.invariant.2
+returns c = λ xs h. ended c.args.q {k = c.loop-k.k} xs (omega arith) h c.loop-k.invariant.2
