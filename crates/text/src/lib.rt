@@ -1,5 +1,5 @@
-// The calls that other programs link: lib.rs. Each is a function of the crates below, with plain C
-// names; a slice passes as a pointer and a length.
+// The calls that other programs link: lib.rs. Each is a function of the crates below, with plain C names; a slice
+// passes as a pointer and a length. `text_c` exports them.
 #![tactic(auto)]
 
 ghost use Rattle.decode.specs.Answers.{lent};
