@@ -12,7 +12,7 @@ use Rattle.decode_outer.proofs.macro_cmd.Goals as goal
 
 pub definition-requires : goal.definition-requires
 definition-requires c =
-    (c.requires.outside, (c.requires.i_in_bounds, within_defines _ _ c.read_command.ensures.within c.in-Defines.is))
+    record { outside = c.requires.outside; i_in_bounds = c.requires.i_in_bounds; defined = within_defines _ _ c.read_command.ensures.within c.in-Defines.is }
 
 pub returns-in-Cut : goal.returns-in-Cut
 returns-in-Cut c =
@@ -24,7 +24,7 @@ returns-in-Cut c =
 pub returns-in-Ends : goal.returns-in-Ends
 returns-in-Ends c =
     let read = c.read_command.ensures in
-    outer_ends _ _ _ _ _ _ _ _ read.0 c.in-Ends.is (within_ends _ _ read.1 c.in-Ends.is) c.requires.outside
+    outer_ends _ _ _ _ _ _ _ _ read.means c.in-Ends.is (within_ends _ _ read.within c.in-Ends.is) c.requires.outside
 
 pub returns-in-Malformed : goal.returns-in-Malformed
 returns-in-Malformed c =
@@ -32,7 +32,7 @@ returns-in-Malformed c =
     let read = c.read_command.ensures in
     outer c.with_core-in-Malformed.ensures outside.inside
     (took_ran (λ g. below g 4) outside.ready.within
-    (λ R. took_malformed _ _ _ _ read.0 _ _ _ _ _ c.in-Malformed.is (within_malformed _ _ read.1 c.in-Malformed.is) c.report-after.ensures 4 R c.args.i c.args.cells.now _))
+    (λ R. took_malformed _ _ _ _ read.means _ _ _ _ _ c.in-Malformed.is (within_malformed _ _ read.within c.in-Malformed.is) c.report-after.ensures 4 R c.args.i c.args.cells.now _))
 
 pub returns-in-Defines : goal.returns-in-Defines
 unfolding commanded

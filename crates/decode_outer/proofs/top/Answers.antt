@@ -11,11 +11,6 @@ use Rattle.decode_bodies.proofs.Along.{Along, along_start, along_stretch, along_
 use Rattle.decode_outer.proofs.Start.{top_ran}
 use Rattle.decode_outer.proofs.top.Goals as goal
 
--- from the byte j of the input to its byte i, where the macros lie in the input
-record Above (cells input : List ℕ) (to j : ℕ) (d₀ : Decoder) (t₀ i₀ : List ℕ) (i : ℕ) (d : Decoder) (t i₁ : List ℕ) : Type 0 where
-  along : Along cells input 4 0 0 input to j d₀ t₀ i₀ i d t i₁
-  inside : Inside input d.starts d.lens
-
 pub loop-i-init : goal.loop-i-init
 loop-i-init c =
     record { along = along_start c.requires.from_in_bounds.0 c.requires.outside.ready; inside = c.requires.outside.inside }
@@ -35,7 +30,11 @@ step-r-requires c =
     let w = along_stretch c.loop-i.invariant.along c.steps-f.ensures.stretch c.steps-f.auto.text c.steps-f.auto.issues in
     let ready = ready_less {e = 1} (ready_after c.requires.outside.ready w.past w.within w.grown) (omega (arith, c.if-i-to.false, c.requires.from_in_bounds.1)) in
     let stop = stop_before c.steps-f.result.stop _ _ _ _ _ c.if-i-to.false c.steps-f.ensures.stop in
-    (record { short = c.requires.outside.short; inside = c.loop-i.invariant.inside; ready = ready }, (omega (arith, c.if-i-to.false, c.requires.from_in_bounds.1), stop))
+    record {
+      outside = record { short = c.requires.outside.short; inside = c.loop-i.invariant.inside; ready = ready };
+      i_in_bounds = omega (arith, c.if-i-to.false, c.requires.from_in_bounds.1);
+      stop_at = stop;
+    }
 
 pub shape_of-text-then-ended : goal.shape_of-text-then-ended
 shape_of-text-then-ended c =
