@@ -13,7 +13,7 @@ use Rattle.encode_candidates.specs.Packed.{cands_of, StandsForCandidates}
 use Rattle.encode_candidates.specs.declared.Cands.{Cands}
 use Rattle.encode_states.specs.Written.{written}
 use Rattle.encode_search.specs.Layers.{last_of, Older}
-use Rattle.laws_coding.proofs.Chains.{begins, run_chain, at}
+use Rattle.laws_coding.proofs.Chains.{begins, run_chain}
 use Rattle.base.proofs.Every.{all_at}
 use Rattle.encode_backtrack.specs.Promises.{Chosen, Searched}
 use Rattle.encode_backtrack.proofs.Stores.{sets_before}

@@ -21,7 +21,7 @@ use Rattle.encode_tokens.specs.declared.Tokens.TheVariants as tokens-variants
 use Rattle.encode_layer.specs.Entries.{layer_of}
 use Rattle.encode_search.specs.Layers.{last_of, Older, Found, Inside, Arrays}
 use Rattle.encode_search.specs.Layers as search
-use Rattle.encode_backtrack.specs.Promises.{Chosen, Searched, Held}
+use Rattle.encode_backtrack.specs.Promises.{Chosen, Held}
 use Rattle.encode_layer.specs.Kept.{Squeezed}
 use Rattle.encode_search.proofs.Squeezing.{newest_older}
 use Rattle.encode_search.proofs.Parts.{lent_part, given_back, lent_part_lem, given_back_lem, joined_long, joined_front, joined_part}

@@ -10,10 +10,6 @@ use Rattle.encode_candidates.specs.Packed.{cands_of}
 use Rattle.encode_backtrack.proofs.Trail.{how_of, going_start, going_fits, going_before, going_most, going_on, going_end}
 use Rattle.encode_backtrack.proofs.write_back.Goals as goal
 
--- the start, from the loop's head
-abbrev start_of : goal.At-loop-k → goal.Start
-start_of c = c.before.before.before.before.before.before
-
 pub loop-k-init : goal.loop-k-init
 loop-k-init c =
     (omega arith, c.requires.1.bytes_few, refl, λ f. going_start f c.args.coding.now)
@@ -23,43 +19,35 @@ overflow_sub-k c = omega arith
 
 pub offset_bounds-store-p : goal.offset_bounds-store-p
 offset_bounds-store-p c =
-    let at_start = start_of c.before in
-    omega (arith, at_start.good, going_fits (c.loop-k.invariant.3 at_start.pre.1))
+    omega (arith, c.well_formed, going_fits (c.loop-k.invariant.3 c.requires.1))
 
 pub bounds-store-p : goal.bounds-store-p
 bounds-store-p c =
-    let at_start = start_of c.before.before in
-    omega (arith, at_start.good, going_fits (c.loop-k.invariant.3 at_start.pre.1))
+    omega (arith, c.well_formed, going_fits (c.loop-k.invariant.3 c.requires.1))
 
 pub offset_bounds-chars-k : goal.offset_bounds-chars-k
 offset_bounds-chars-k c =
-    let at_start = start_of c.before.before in
-    omega (arith, at_start.good, at_start.pre.0.chars, at_start.pre.0.kanji, at_start.pre.0.symbols)
+    omega (arith, c.well_formed, c.requires.0.chars, c.requires.0.kanji, c.requires.0.symbols)
 
 pub bounds-chars-k : goal.bounds-chars-k
 bounds-chars-k c =
-    let at_start = start_of c.before.before.before in
-    omega (arith, at_start.good, at_start.pre.0.chars, at_start.pre.0.kanji, at_start.pre.0.symbols)
+    omega (arith, c.well_formed, c.requires.0.chars, c.requires.0.kanji, c.requires.0.symbols)
 
 pub offset_bounds-kanji-k : goal.offset_bounds-kanji-k
 offset_bounds-kanji-k c =
-    let at_start = start_of c.before.before.before in
-    omega (arith, at_start.good, at_start.pre.0.chars, at_start.pre.0.kanji, at_start.pre.0.symbols)
+    omega (arith, c.well_formed, c.requires.0.chars, c.requires.0.kanji, c.requires.0.symbols)
 
 pub bounds-kanji-k : goal.bounds-kanji-k
 bounds-kanji-k c =
-    let at_start = start_of c.before.before.before.before in
-    omega (arith, at_start.good, at_start.pre.0.chars, at_start.pre.0.kanji, at_start.pre.0.symbols)
+    omega (arith, c.well_formed, c.requires.0.chars, c.requires.0.kanji, c.requires.0.symbols)
 
 pub offset_bounds-symbols-k : goal.offset_bounds-symbols-k
 offset_bounds-symbols-k c =
-    let at_start = start_of c.before.before.before.before in
-    omega (arith, at_start.good, at_start.pre.0.chars, at_start.pre.0.kanji, at_start.pre.0.symbols)
+    omega (arith, c.well_formed, c.requires.0.chars, c.requires.0.kanji, c.requires.0.symbols)
 
 pub bounds-symbols-k : goal.bounds-symbols-k
 bounds-symbols-k c =
-    let at_start = start_of c.before.before.before.before.before in
-    omega (arith, at_start.good, at_start.pre.0.chars, at_start.pre.0.kanji, at_start.pre.0.symbols)
+    omega (arith, c.well_formed, c.requires.0.chars, c.requires.0.kanji, c.requires.0.symbols)
 
 pub character_length-to-requires : goal.character_length-to-requires
 character_length-to-requires c =
@@ -67,8 +55,7 @@ character_length-to-requires c =
 
 pub overflow_sub-to : goal.overflow_sub-to
 overflow_sub-to c =
-    let at_start = start_of c.before.before.before.before.before.before.before in
-    let f = at_start.pre.1 in
+    let f = c.requires.1 in
     let j = c.loop-k.k - 1 in
     omega (
       arith,
@@ -86,17 +73,15 @@ overflow_cast-p c = omega arith
 
 pub overflow_sub-p : goal.overflow_sub-p
 overflow_sub-p c =
-    let at_start = start_of c.before.before.before.before.before.before.before.before.before.before.before in
-    omega (arith, going_before (c.loop-k.k - 1) (omega (arith, c.loop-k-test.true)) (c.loop-k.invariant.3 at_start.pre.1))
+    omega (arith, going_before (c.loop-k.k - 1) (omega (arith, c.loop-k-test.true)) (c.loop-k.invariant.3 c.requires.1))
 
 pub loop-k-smaller : goal.loop-k-smaller
 loop-k-smaller c = omega arith
 
 pub loop-k-preserved : goal.loop-k-preserved
 loop-k-preserved c =
-    let at_start = start_of c.before.before.before.before.before.before.before.before.before.before.before in
     let j = c.loop-k.k - 1 in
-    let bs = written (cands_of c.candidates-cands.result) (how_of at_start.args.store.now c.loop-k.p) in
+    let bs = written (cands_of c.candidates-cands.result) (how_of c.args.store.now c.loop-k.p) in
     let w = c.put_character-p.ensures.written in (
       omega arith,
       omega (arith, c.loop-k.invariant.1),
