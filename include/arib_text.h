@@ -1,4 +1,4 @@
-/* ARIB eight-unit text: the calls of libtext.a, made by `rt staticlib text`.
+/* ARIB eight-unit text: the calls of libtext.a, made by `./build text_c`.
  *
  * A slice goes as a pointer and a length, in elements. Lengths may be 0; pointers may not be null.
  * No two slices of a call may overlap. The calls keep nothing, allocate nothing, and may run at the

@@ -1,5 +1,5 @@
 //! Links the proved library: `libtext.a`, from the folder that `ARIB_TEXT_LIB` names, else from
-//! `target/staticlib` of the repository, where `rt staticlib text` leaves it.
+//! `target/staticlib` of the repository, where `./build text_c` leaves it.
 
 use std::env::var;
 use std::path::Path;
@@ -11,7 +11,7 @@ fn main() {
     println!("cargo::rerun-if-changed={folder}/libtext.a");
     if !Path::new(&folder).join("libtext.a").exists() {
         println!(
-            "cargo::error=no libtext.a in {folder}: run `rt staticlib text` in the repository"
+            "cargo::error=no libtext.a in {folder}: run `./build text_c` in the repository"
         );
     }
     println!("cargo::rustc-link-search=native={folder}");

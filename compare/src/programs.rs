@@ -65,7 +65,7 @@ pub fn all(runs: &Runs) -> Result<bool, String> {
         let path = runs.subject.join(program.name());
         if !path.exists() {
             let (path, name) = (path.display(), program.name());
-            return Err(format!("{path} is missing: `rt check {name}` makes it"));
+            return Err(format!("{path} is missing: `./build {name}` makes it"));
         }
     }
     let Amount { random, lines } = runs.amount;
