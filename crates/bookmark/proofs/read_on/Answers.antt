@@ -23,7 +23,7 @@ pub rest-counts-requires : goal.rest-counts-requires
 rest-counts-requires c =
     let w = c.decoder-d.ensures in
     let n = counts_known c.args.input.now c.args.l.now (resumable_known c.args.input.now c.args.l.now c.requires.l_value).1 in
-    (n.0, (w.outside, (w.unbounded, w.none, w.short)))
+    record { from_in_bounds = n.0; outside = w.outside; enough_value = (w.unbounded, w.none, w.short) }
 
 pub returns-then-counts-issues : goal.returns-then-counts-issues
 unfolding resumed

@@ -9,17 +9,16 @@ rest-requires c =
     let a = c.args in
     let n = a.input.now in
     let begun = c.start-start.ensures in
-    let none = c.undefined-none.ensures in (
-      omega arith,
-      (
-        outside_start n a.initial a.width 0xFFFFFFFF c.requires begun none,
-        (
-          enough_start n a.initial a.width 0xFFFFFFFF c.requires begun none,
-          issues_start n a.initial a.width 0xFFFFFFFF c.requires begun none,
-          end_start n a.initial a.width 0xFFFFFFFF c.requires begun none,
-        ),
-      ),
-    )
+    let none = c.undefined-none.ensures in
+    record {
+      from_in_bounds = omega arith;
+      outside = outside_start n a.initial a.width 0xFFFFFFFF c.requires begun none;
+      enough_value = (
+        enough_start n a.initial a.width 0xFFFFFFFF c.requires begun none,
+        issues_start n a.initial a.width 0xFFFFFFFF c.requires begun none,
+        end_start n a.initial a.width 0xFFFFFFFF c.requires begun none,
+      );
+    }
 
 pub returns : goal.returns
 returns c =
