@@ -12,30 +12,30 @@ find-plan-requires c =
 pub write-requires : goal.write-requires
 write-requires c =
     let l = leading c.args.cells.now c.args.initial c.args.width c.args.text.now c.args.store.now
-    c.args.coding.now c.find-plan.new.chars.1.1.0 c.find-plan.new.chars.1.1.1.0 c.find-plan.new.chars.1.1.1.1.0
-    c.find-plan.new.chars.1.1.1.1.1.0 c.find-plan.result (c.find-plan.ensures (length c.args.coding.now)) c.in-Leads.is in
+    c.args.coding.now c.find-plan.new.store c.find-plan.new.chars c.find-plan.new.kanji
+    c.find-plan.new.symbols c.find-plan.result (c.find-plan.ensures (length c.args.coding.now)) c.in-Leads.is in
     (l.held, l.searched)
 
 pub returns-in-Nothing : goal.returns-in-Nothing
 returns-in-Nothing c =
     answered_nothing c.args.cells.now c.args.initial c.args.width c.args.text.now c.args.store.now
-    c.args.coding.now c.find-plan.new.chars.1.1.0 c.find-plan.new.chars.1.1.1.0 c.find-plan.new.chars.1.1.1.1.0
-    c.find-plan.new.chars.1.1.1.1.1.0 c.find-plan.result (c.find-plan.ensures (length c.args.coding.now)) c.requires
-    c.in-Nothing.is c.store-1.given c.nothing.ensures
+    c.args.coding.now c.find-plan.new.store c.find-plan.new.chars c.find-plan.new.kanji
+    c.find-plan.new.symbols c.find-plan.result (c.find-plan.ensures (length c.args.coding.now)) c.requires
+    c.in-Nothing.is c.find-plan.auto.store c.nothing.ensures
 
 pub returns-in-Leads : goal.returns-in-Leads
 returns-in-Leads c =
     answered_written c.args.cells.now c.args.initial c.args.width c.args.text.now c.args.store.now
-    c.args.coding.now c.find-plan.new.chars.1.1.0 c.find-plan.new.chars.1.1.1.0 c.find-plan.new.chars.1.1.1.1.0
-    c.find-plan.new.chars.1.1.1.1.1.0 c.find-plan.result (c.find-plan.ensures (length c.args.coding.now)) c.requires
-    c.in-Leads.is c.store-1.given (c.write.ensures _
+    c.args.coding.now c.find-plan.new.store c.find-plan.new.chars c.find-plan.new.kanji
+    c.find-plan.new.symbols c.find-plan.result (c.find-plan.ensures (length c.args.coding.now)) c.requires
+    c.in-Leads.is c.find-plan.auto.store (c.write.ensures _
     (leading c.args.cells.now c.args.initial c.args.width c.args.text.now c.args.store.now
-    c.args.coding.now c.find-plan.new.chars.1.1.0 c.find-plan.new.chars.1.1.1.0 c.find-plan.new.chars.1.1.1.1.0
-    c.find-plan.new.chars.1.1.1.1.1.0 c.find-plan.result (c.find-plan.ensures (length c.args.coding.now)) c.in-Leads.is))
+    c.args.coding.now c.find-plan.new.store c.find-plan.new.chars c.find-plan.new.kanji
+    c.find-plan.new.symbols c.find-plan.result (c.find-plan.ensures (length c.args.coding.now)) c.in-Leads.is))
 
 pub returns-in-Refused : goal.returns-in-Refused
 returns-in-Refused c =
     answered_refused c.args.cells.now c.args.initial c.args.width c.args.text.now c.args.store.now
-    c.args.coding.now c.find-plan.new.chars.1.1.0 c.find-plan.new.chars.1.1.1.0 c.find-plan.new.chars.1.1.1.1.0
-    c.find-plan.new.chars.1.1.1.1.1.0 c.find-plan.result (c.find-plan.ensures (length c.args.coding.now)) c.requires
-    c.in-Refused.is c.store-1.given c.refuse.ensures
+    c.args.coding.now c.find-plan.new.store c.find-plan.new.chars c.find-plan.new.kanji
+    c.find-plan.new.symbols c.find-plan.result (c.find-plan.ensures (length c.args.coding.now)) c.requires
+    c.in-Refused.is c.find-plan.auto.store c.refuse.ensures
