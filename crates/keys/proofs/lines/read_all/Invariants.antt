@@ -4,7 +4,7 @@ use Rattle.keys.specs.Promises.{Within}
 use Rattle.keys.proofs.lines.read_all.Given as goal
 
 abbrev pub invariant-loop-turns : goal.invariant-loop-turns
-invariant-loop-turns l = (length l.line ≡ length l.initial.line) × (length l.title ≡ length l.initial.title) × (length l.out ≡ length l.initial.out) × Within l.p
+invariant-loop-turns g l = (length l.line ≡ length l.initial.line) × (length l.title ≡ length l.initial.title) × (length l.out ≡ length l.initial.out) × Within l.p
 
 abbrev pub decreases-loop-turns : goal.decreases-loop-turns
-decreases-loop-turns l = l.turns
+decreases-loop-turns g l = l.turns
