@@ -61,7 +61,8 @@ pub candidates_fine : (cells : List ℕ) (annex_e : Bool) (c : ℕ) → All OfTa
 unfolding candidates
 candidates_fine cells annex_e c = go (eqb c 10) (has_character non_spacing c)
   where
-    go : (newline mark : Bool) → All OfTables (elim newline [ true ↦ plain 0x0D either ∷ [] | false ↦ elim mark [ true ↦ of_place 0 either (cell_with non_spacing c) | false ↦ letters cells annex_e c ] ])
+    go : (newline mark : Bool) →
+        All OfTables (elim newline [ true ↦ plain 0x0D either ∷ [] | false ↦ elim mark [ true ↦ of_place 0 either (cell_with non_spacing c) | false ↦ letters cells annex_e c ] ])
     go true mark = (tt, tt)
     go false true = of_place_lem 0 either (omega arith) (cell_with non_spacing c)
     go false false = letters_fine cells annex_e c

@@ -14,7 +14,11 @@ own : (c : After-pack-mark) → c.pack-mark.result ≡ packed (cell_with non_spa
 own c = c.pack-mark.ensures ∙ ap packed c.mark_cell.ensures
 
 pub with-requires : goal.with-requires
-with-requires c = record { count_bound = omega arith; under_construction = empty; fits = record { set = omega arith; six = λ n. absurd (n refl); plain = λ e. omega arith; row = omega arith; last = omega arith; size = omega arith } }
+with-requires c = record {
+  count_bound = omega arith;
+  under_construction = empty;
+  fits = record { set = omega arith; six = λ n. absurd (n refl); plain = λ e. omega arith; row = omega arith; last = omega arith; size = omega arith };
+}
 
 pub returns-then-c-eq10 : goal.returns-then-c-eq10
 unfolding cand_of

@@ -107,4 +107,8 @@ shape_of-store c = c.loop-i.invariant.0.same
 pub returns : goal.returns
 returns c =
     let a = c.args in
-    let at = c.loop-i in record { kept = going_end a.store.now a.from a.count a.most c.requires.0 at.store at.i at.kept at.invariant.0 c.loop-i-test.false; lowered = floored_end a.store.now a.from a.count c.requires.0 a.most a.rest a.low at.f at.i at.invariant.1 c.loop-i-test.false }
+    let at = c.loop-i in
+    record {
+      kept = going_end a.store.now a.from a.count a.most c.requires.0 at.store at.i at.kept at.invariant.0 c.loop-i-test.false;
+      lowered = floored_end a.store.now a.from a.count c.requires.0 a.most a.rest a.low at.f at.i at.invariant.1 c.loop-i-test.false;
+    }

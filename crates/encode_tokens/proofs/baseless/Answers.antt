@@ -47,4 +47,8 @@ loop-c-smaller c = omega (arith, (read (goal.at.loop-c-smaller c).In-Scalar).lea
 
 pub loop-c-preserved : goal.loop-c-preserved
 loop-c-preserved c =
-    ((read (goal.at.loop-c-preserved c).In-Scalar).within, c.loop-c.invariant.1 ∙ (ap (baseless c.loop-c.base) (read (goal.at.loop-c-preserved c).In-Scalar).tokens ∙ no_mark _ _ _ c.loop-c.base (tested _ c.is_non_spacing.ensures c.if-is_non_spacing.false)))
+    let r = read (goal.at.loop-c-preserved c).In-Scalar in (
+      r.within,
+      c.loop-c.invariant.1 ∙ (ap (baseless c.loop-c.base) r.tokens ∙
+          no_mark _ _ _ c.loop-c.base (tested _ c.is_non_spacing.ensures c.if-is_non_spacing.false)),
+    )
