@@ -103,7 +103,7 @@ module _ (g : reading.Given) (depth : ℕ) (R : Run) (base origin : ℕ) (z : re
   shows c (direct b size w) r v i o = one_step g depth R base origin b [] i _ _ (λ rest. r _ w rest (base + i) (offset origin i) o)
 
   -- what was written is one of the candidates, each of which is read
-  among : {s : State} {ks : List Cand} {bs : List ℕ} (c : ℕ) → Some (λ k. Shows s k bs) ks → All (Reads g depth R z c) ks → Invokes s → (i : ℕ) (o : Output)
+  among : {s : State} {bs : List ℕ} {ks : List Cand} (c : ℕ) → Some (λ k. Shows s k bs) ks → All (Reads g depth R z c) ks → Invokes s → (i : ℕ) (o : Output)
       → Moves g depth R base origin bs i (read z s o) (read z s (puts c (offset origin i) o))
   among c (here w) r v i o = shows c w r.0 v i o
   among c (there w) r v i o = among c w r.1 v i o

@@ -41,10 +41,10 @@ module _ (cells : List ℕ) (annex_e : Bool) where
           rw p (with_mark t.char p (rw append_assoc at (later m (λ z. absurd (true≢false (sym z ∙ q))) (rw q f))))
       go false p y q later next = let f = rw (p, baseless) at e in rw p (with_base b.char m n (next p (λ z. refl) f))
 
-  in_order : (ts : List Token) → baseless false ts ≡ none → Coded cells annex_e [] (candidates_of cells annex_e (chars (in_order ts))) (chars ts)
+  in_order_lem : (ts : List Token) → baseless false ts ≡ none → Coded cells annex_e [] (candidates_of cells annex_e (chars (in_order ts))) (chars ts)
   unfolding in_order chars candidates_of baseless
-  in_order [] e = end
-  in_order (t ∷ ts) e = go (has_character non_spacing t.char) refl
+  in_order_lem [] e = end
+  in_order_lem (t ∷ ts) e = go (has_character non_spacing t.char) refl
     where
       go : (x : Bool) → has_character non_spacing t.char ≡ x → Coded cells annex_e [] (candidates_of cells annex_e (chars (ordered t ts))) (t.char ∷ chars ts)
       go true p = let f = rw (p, baseless) at e in absurd (let z : ◌≡◌ {A = ℕ} 0 1 = cc in omega arith)
@@ -58,4 +58,4 @@ module _ (cells : List ℕ) (annex_e : Bool) where
   -- a text, coded in order, is written as it is
   pub text_coded : (text : List ℕ) → baseless false (tokens text) ≡ none → Coded cells annex_e [] (candidates_of cells annex_e (chars (in_order (tokens text)))) (scalars text)
   unfolding tokens
-  text_coded text e = rw (chars_placed 0 (scalars text)) at (in_order (tokens text) e)
+  text_coded text e = rw (chars_placed 0 (scalars text)) at (in_order_lem (tokens text) e)

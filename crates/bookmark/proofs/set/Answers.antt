@@ -37,4 +37,8 @@ returns-then-place-input c =
 pub set_checked-requires : goal.set_checked-requires
 unfolding refusal
 set_checked-requires c =
-    (none_failed c.first-q.ensures c.if-q-gt0.false, (sym c.name_holds.ensures ∙ c.if-not-name_holds.false, c.if-place-input.false))
+    record {
+      input_value = none_failed c.first-q.ensures c.if-q-gt0.false;
+      name_value = sym c.name_holds.ensures ∙ c.if-not-name_holds.false;
+      place_in_bounds = c.if-place-input.false;
+    }
