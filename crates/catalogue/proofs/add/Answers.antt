@@ -13,7 +13,7 @@ returns-then-not-form c =
     let a = c.args in
     let call = lent (keys.lent a.cells.now a.initial a.width a.title.now a.key.now) a.number a.store.now in
     let no_form = sym c.form.ensures ∙ c.if-not-form.true in
-    subst (λ (r : KeyAnswer). Added call r a.store.now c.refuse.new.1.0) (sym c.refuse.ensures.value)
+    subst (λ (r : KeyAnswer). Added call r a.store.now c.refuse.new.key) (sym c.refuse.ensures.value)
     (added_refused call 11 (not_formed_add call no_form) c.refuse.ensures.key_after)
 
 pub enter-requires : goal.enter-requires
@@ -29,7 +29,7 @@ returns-in-Keyed c =
     let a = c.args in
     let call = lent (keys.lent a.cells.now a.initial a.width a.title.now a.key.now) a.number a.store.now in
     let form = sym c.form.ensures ∙ c.if-not-form.false in
-    let k = subst (λ (r : KeyAnswer). keys.Answered call.keyed r c.key-answer.new.1.1.1.1.0) c.in-Keyed.is c.key-answer.ensures in
+    let k = subst (λ (r : KeyAnswer). keys.Answered call.keyed r c.key-answer.new.buffer) c.in-Keyed.is c.key-answer.ensures in
     added_keyed call _ _ _ form k c.enter.ensures
 
 pub returns-in-Refused : goal.returns-in-Refused
@@ -37,5 +37,5 @@ returns-in-Refused c =
     let a = c.args in
     let call = lent (keys.lent a.cells.now a.initial a.width a.title.now a.key.now) a.number a.store.now in
     let form = sym c.form.ensures ∙ c.if-not-form.false in
-    let k = subst (λ (r : KeyAnswer). keys.Answered call.keyed r c.key-answer.new.1.1.1.1.0) c.in-Refused.is c.key-answer.ensures in
+    let k = subst (λ (r : KeyAnswer). keys.Answered call.keyed r c.key-answer.new.buffer) c.in-Refused.is c.key-answer.ensures in
     added_keyless call _ _ _ form k

@@ -78,17 +78,13 @@ insert-requires c =
     let n = c.number-n.result in
     let h = holds store n c.requires.store_value c.number-n.ensures in
     let none : c.entry_refusal-why.result ≡ 0 = omega (arith, c.if-why-gt0.false) in
-    let passed = passes c.stands-present.result a.len n (sym c.entry_refusal-why.ensures ∙ none) in (
-      h,
-      (
-        passed.1.1,
-        (
-          place_low store n h a.number c.position-at.result c.position-at.ensures,
-          omega
-              (arith, passed.1.0, length-take-le a.len a.key.now c.requires.len_in_bounds),
-        ),
-      ),
-    )
+    let passed = passes c.stands-present.result a.len n (sym c.entry_refusal-why.ensures ∙ none) in
+    record {
+      holds = h;
+      n_bound = passed.1.1;
+      at_le_n = place_low store n h a.number c.position-at.result c.position-at.ensures;
+      key_len_bound = omega (arith, passed.1.0, length-take-le a.len a.key.now c.requires.len_in_bounds);
+    }
 
 pub returns : goal.returns
 returns c =
