@@ -1,23 +1,20 @@
 -- `lines_in` meets its contract: each way out prints the lines of the definition at the test that led there. Assumes nothing.
-use Prim.Native.Nat.{ℕ}
+use Prim.Native.Nat.{ℕ, ◌≤◌}
 use mathlib.Core.Path.{◌≡◌, sym, ◌∙◌}
+use mathlib.Core.List.{List}
 use native.Mathlib.Omega.{arith}
-use lib.ListN.{length, length-replicate}
+use lib.ListN.{length, replicate, length-replicate}
 use lib.Seq.{length-take-le}
+use Rattle.encode.specs.declared.call.Answer.{Answer}
+use Rattle.encode.specs.Answers.{number_of, length_of, gap_of, lent, Answered}
 use Rattle.ascii.proofs.Writing.{printed_as, printed_refused}
 use Rattle.encoding_lines.proofs.Outcomes.{answered_as, lines_refused, lines_coded, Few, few_counts}
 use Rattle.encoding_lines.proofs.lines_in.Goals as goal
 
--- length and gap are within the buffer, which keeps its length
-few : (c : goal.After-gap) → Few c.length-n.result c.gap.result
-few c =
-    let answered = answered_as _ _ c.args.store.now c.requires c.encode_with-answer.ensures in
-    few_counts _ _ answered c.number-number.ensures c.if-number-gt0.false c.length-n.ensures c.gap.ensures
-
-long : (c : goal.After-gap) →
-    length c.encode_with-answer.new.coding ≡ 65529
-long c =
-    c.encode_with-answer.auto.coding ∙ length-replicate {A = ℕ} 65529 0
+-- length and gap are within the buffer
+few : (cells text store : List ℕ) {a : Answer} {s b : List ℕ} {z n g : ℕ} → length store ≡ 1048576 → Answered (lent cells 0 0 text store (replicate 65529 0)) a s b →
+    z ≡ number_of a → z ≤ 0 → n ≡ length_of a → g ≡ gap_of a → Few n g
+few cells text store h v = few_counts cells text (answered_as cells text store h v)
 
 pub returns-then-number-gt0 : goal.returns-then-number-gt0
 returns-then-number-gt0 c =
@@ -26,15 +23,19 @@ returns-then-number-gt0 c =
     printed_refused _ (omega arith) lines c.refused.ensures.put c.refused.ensures.upper_bound
 
 pub slice_bounds-coding-end : goal.slice_bounds-coding-end
-slice_bounds-coding-end c = omega (arith, (few c).length, long c)
+slice_bounds-coding-end c =
+    let w = few _ _ c.args.store.now c.requires c.encode_with-answer.ensures c.number-number.ensures c.if-number-gt0.false c.length-n.ensures c.gap.ensures in
+    omega (arith, w.length, c.encode_with-answer.auto.coding ∙ length-replicate {A = ℕ} 65529 0)
 
 pub slice_bounds-coded-end : goal.slice_bounds-coded-end
-slice_bounds-coded-end c = sym (length-take-le _ _ (omega (arith, (few c.before).length, long c.before)))
+slice_bounds-coded-end c =
+    let w = few _ _ c.args.store.now c.requires c.encode_with-answer.ensures c.number-number.ensures c.if-number-gt0.false c.length-n.ensures c.gap.ensures in
+    sym (length-take-le _ _ (omega (arith, w.length, c.encode_with-answer.auto.coding ∙ length-replicate {A = ℕ} 65529 0)))
 
 pub coded-requires : goal.coded-requires
 coded-requires c =
-    let w = few c.before in
-    let t = length-take-le c.length-n.result c.encode_with-answer.new.coding (omega (arith, w.length, long c.before)) in
+    let w = few _ _ c.args.store.now c.requires c.encode_with-answer.ensures c.number-number.ensures c.if-number-gt0.false c.length-n.ensures c.gap.ensures in
+    let t = length-take-le c.length-n.result c.encode_with-answer.new.coding (omega (arith, w.length, c.encode_with-answer.auto.coding ∙ length-replicate {A = ℕ} 65529 0)) in
     (w.length, w.gap, omega (arith, w.length, t))
 
 pub returns : goal.returns

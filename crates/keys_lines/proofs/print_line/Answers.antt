@@ -1,6 +1,7 @@
 -- `print_line` meets its contract: NUMBER and TAB, the key or a refusal behind them, and the newline. Assumes nothing.
-use Prim.Native.Nat.{◌+◌, ◌-◌}
+use Prim.Native.Nat.{ℕ, ◌+◌, ◌-◌, ◌≤◌}
 use mathlib.Core.Path.{◌≡◌, sym, ap, ◌∙◌}
+use mathlib.Core.List.{List}
 use native.Mathlib.Omega.{arith}
 use lib.ListN.{length, take}
 use lib.Seq.{length-take-le}
@@ -9,20 +10,16 @@ use Rattle.keys_lines.proofs.Writing.{room_bound, room_inside, answer_fits, line
 use Rattle.keys_lines.proofs.print_line.Goals as goal
 
 -- the room is that of the title's bytes, and so much is lent
-size : (c : goal.After-room_for) →
-    c.room_for.result ≡ room_for (length (take c.put_title-n.result c.put_title-n.new.title))
-size c =
-    c.room_for.ensures ∙ ap room_for (sym (length-take-le _ _ c.put_title-n.ensures.inside))
+size : {n room : ℕ} (title : List ℕ) → room ≡ room_for n → n ≤ length title → room ≡ room_for (length (take n title))
+size title e h = e ∙ ap room_for (sym (length-take-le _ _ h))
 
-lent-size : (c : goal.After-room_for) →
-    c.put_number-at.result + c.room_for.result - c.put_number-at.result ≡
-    room_for (length (take c.put_title-n.result c.put_title-n.new.title))
-lent-size c = omega (arith, size c)
+lent-size : {n room : ℕ} (at : ℕ) (title : List ℕ) → room ≡ room_for n → n ≤ length title → at + room - at ≡ room_for (length (take n title))
+lent-size at title e h = omega (arith, size title e h)
 
 pub overflow_add-end : goal.overflow_add-end
 overflow_add-end c =
     let t = c.put_title-n in
-    omega (arith, size c, room_bound (length (take t.result t.new.title)), c.put_number-at.ensures.upper_bound)
+    omega (arith, size t.new.title c.room_for.ensures t.ensures.inside, room_bound (length (take t.result t.new.title)), c.put_number-at.ensures.upper_bound)
 
 pub slice_bounds-title_key-end-2 : goal.slice_bounds-title_key-end-2
 slice_bounds-title_key-end-2 c =
@@ -34,7 +31,7 @@ slice_bounds-title_key-end-3 c =
     omega (
       arith,
       room_inside c.args.cells.now c.args.line.now _ c.put_title-n.ensures.bytes _ _ _ number.put number.upper_bound
-          c.requires.print_room.out_room _ (size c.before),
+          c.requires.print_room.out_room _ (size c.put_title-n.new.title c.room_for.ensures c.put_title-n.ensures.inside),
     )
 
 pub title_key-r-requires : goal.title_key-r-requires
@@ -46,13 +43,13 @@ pub put_answer-requires : goal.put_answer-requires
 put_answer-requires c =
     let number = c.put_number-at.ensures in
     answer_fits c.args.cells.now c.args.line.now _ c.put_title-n.ensures.bytes _ _ _ number.put number.upper_bound c.requires.print_room.out_room _
-    (lent-size c.before.before.before.before.before.before.before.before)
+    (lent-size c.put_number-at.result c.put_title-n.new.title c.room_for.ensures c.put_title-n.ensures.inside)
     _ _ c.title_key-r.ensures c.title_key-r.auto.out _ c.len.ensures
 
 pub returns : goal.returns
 returns c =
     let number = c.put_number-at.ensures in
     line_printed c.args.cells.now c.args.line.now _ c.put_title-n.ensures.bytes _ _ _ number.put number.upper_bound c.requires.print_room.out_room _
-    (lent-size c.before.before.before.before.before.before.before.before.before.before.before)
+    (lent-size c.put_number-at.result c.put_title-n.new.title c.room_for.ensures c.put_title-n.ensures.inside)
     _ _ c.title_key-r.ensures c.title_key-r.auto.out _ _ c.number.ensures c.len.ensures
     c.put_answer.ensures.put c.put_answer.ensures.upper_bound

@@ -1,28 +1,22 @@
 -- `passed_lines` meets its contract: each way out prints the lines of the definition at the test that led there. Assumes nothing.
 use Prim.Native.Nat.{ℕ, ◌*◌}
 use mathlib.Core.Path.{◌≡◌, sym, ◌∙◌}
+use mathlib.Core.List.{List}
 use native.Mathlib.Omega.{arith}
-use lib.ListN.{length, length-replicate}
+use lib.ListN.{length, replicate, length-replicate}
 use lib.Seq.{length-take-le}
 use Rattle.ascii.proofs.Writing.{printed_as, printed_refused}
+use Rattle.questions.specs.Questions.{first_refusal}
 use Rattle.issues.specs.Issue.{numbers}
+use Rattle.decode.specs.declared.call.Answer.{Answer}
+use Rattle.decode.specs.Answers.{text_of, issues_of, charged_of, lent, Answered}
 use Rattle.listing_lines.proofs.Outcomes.{passes_more, answered_as, lines_refused, lines_decoded, Within, within}
 use Rattle.listing_lines.proofs.passed_lines.Goals as goal
 
--- the counts are within their rooms, and the buffers keep their lengths
-few : (c : goal.After-charged) → Within c.text-n.result c.issues-k.result c.charged.result
-few c =
-    within _ _ c.requires (answered_as _ _ c.decode_checked-answer.ensures) c.text-n.ensures c.issues-k.ensures c.charged.ensures
-
-text-long : (c : goal.After-charged) →
-    length c.decode_checked-answer.new.text ≡ 65536
-text-long c =
-    c.decode_checked-answer.auto.text ∙ length-replicate {A = ℕ} 65536 0
-
-issues-long : (c : goal.After-charged) →
-    length c.decode_checked-answer.new.issues ≡ 256 * numbers
-issues-long c =
-    c.decode_checked-answer.auto.issues ∙ length-replicate {A = ℕ} (256 * numbers) 0
+-- the counts are within their rooms
+few : (cells input : List ℕ) {a : Answer} {t i : List ℕ} {n k g : ℕ} → first_refusal cells 0 0 4096 (length input) ≡ 0 →
+    Answered (lent cells 0 0 input (replicate 65536 0) (replicate (256 * numbers) 0)) a t i → n ≡ text_of a → k ≡ issues_of a → g ≡ charged_of a → Within n k g
+few cells input e v = within cells input e (answered_as cells input v)
 
 pub decode_checked-answer-requires : goal.decode_checked-answer-requires
 decode_checked-answer-requires c =
@@ -34,16 +28,21 @@ returns-then-number-gt0 c =
     printed_refused _ (omega arith) lines c.refused.ensures.put c.refused.ensures.upper_bound
 
 pub slice_bounds-text-end : goal.slice_bounds-text-end
-slice_bounds-text-end c = omega (arith, (few c).text, text-long c)
+slice_bounds-text-end c =
+    let w = few _ _ c.requires c.decode_checked-answer.ensures c.text-n.ensures c.issues-k.ensures c.charged.ensures in
+    omega (arith, w.text, c.decode_checked-answer.auto.text ∙ length-replicate {A = ℕ} 65536 0)
 
 pub slice_bounds-decoded-end : goal.slice_bounds-decoded-end
-slice_bounds-decoded-end c = sym (length-take-le _ _ (omega (arith, (few c.before).text, text-long c.before)))
+slice_bounds-decoded-end c =
+    let w = few _ _ c.requires c.decode_checked-answer.ensures c.text-n.ensures c.issues-k.ensures c.charged.ensures in
+    sym (length-take-le _ _ (omega (arith, w.text, c.decode_checked-answer.auto.text ∙ length-replicate {A = ℕ} 65536 0)))
 
 pub decoded-requires : goal.decoded-requires
 decoded-requires c =
-    let w = few c.before.before in
-    let t = length-take-le c.text-n.result c.decode_checked-answer.new.text (omega (arith, w.text, text-long c.before.before)) in
-    (w.text, w.issues, w.charge, omega (arith, w.text, t), omega (arith, w.issues, issues-long c.before.before))
+    let a = c.decode_checked-answer in
+    let w = few _ _ c.requires c.decode_checked-answer.ensures c.text-n.ensures c.issues-k.ensures c.charged.ensures in
+    let t = length-take-le c.text-n.result a.new.text (omega (arith, w.text, a.auto.text ∙ length-replicate {A = ℕ} 65536 0)) in
+    (w.text, w.issues, w.charge, omega (arith, w.text, t), omega (arith, w.issues, a.auto.issues ∙ length-replicate {A = ℕ} (256 * numbers) 0))
 
 pub returns : goal.returns
 returns c =
