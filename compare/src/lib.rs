@@ -1,5 +1,5 @@
 //! Decoding, keys, clean titles, measuring, coding, the catalogue, bookmarks and arrangements by the
-//! static library of crates/text, and by the crate in rust/ over it, held against the Rust and
+//! static library of crates/text_c, and by the crate in rust/ over it, held against the Rust and
 //! against a model of docs/01-scope.md ("01"), and measured against the Rust.
 
 pub mod arrangement;

@@ -1,4 +1,4 @@
-//! What is under test: the static library of crates/text, or the model in its place.
+//! What is under test: the static library of crates/text_c, or the model in its place.
 
 mod standin;
 
