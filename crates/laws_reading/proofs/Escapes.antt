@@ -16,7 +16,6 @@ use Rattle.reading.specs.Controls.{leading, locking_shift, designated, applied, 
 use Rattle.reading.specs.Call.{escape_part}
 use Rattle.base.specs.Lists.{All}
 use Rattle.laws_reading.specs.Reading.{is_intermediate, is_final, Escape}
-use Rattle.laws_reading.proofs.Changes.{part}
 use Rattle.base.proofs.Tests.{either, by_test}
 use Rattle.laws_reading.proofs.Controls.{To, StepWithin, takes, invoked_left, invoked_right, designates, tells, cut}
 

@@ -8,10 +8,9 @@ use borrow.Author.Tests.{leb-true}
 use lib.Dec.{leb}
 use lib.ListN.{length, take, get_or}
 use Rattle.private_use.specs.PrivateUse.{private_use}
-use Rattle.utf8.specs.Utf8.{are_scalars, utf8s, scalars}
+use Rattle.utf8.specs.Utf8.{are_scalars, scalars}
 use Rattle.utf8.proofs.Texts.{well_formed, scalars_utf8s}
 use Rattle.questions.specs.Questions.{first_refusal, decode_limit}
-use Rattle.questions.specs.Buffer.{padded}
 use Rattle.questions.proofs.Buffers.{take_padded}
 use Rattle.questions.proofs.Refusals.{passed}
 use Rattle.decode_output.specs.Output.{nothing}
