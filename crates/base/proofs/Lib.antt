@@ -2,4 +2,3 @@ pub mod Table
 pub mod Every
 pub mod Tests
 pub mod FirstLaws
-pub mod Somewhere

@@ -6,11 +6,6 @@ abbrev pub All : {A : Type 0} → (A → Type 0) → List A → Type 0
 All P [] = Unit {0}
 All P (x ∷ xs) = P x × All P xs
 
--- P holds of some element
-pub data Some {X : Type 0} (P : X → Type 0) : List X → Type 0 where
-  here : {x : X} {xs : List X} → P x → Some P (x ∷ xs)
-  there : {x : X} {xs : List X} → Some P xs → Some P (x ∷ xs)
-
 -- the element, where the test holds
 abbrev pub when : {A : Type 0} → Bool → A → List A
 when true x = x ∷ []

@@ -4,5 +4,7 @@ pub mod Tokens
 pub mod Ways
 pub mod Search
 pub mod Store
+pub mod Admissible
 pub mod Call
+pub mod Arrangements
 pub mod Examples

@@ -3,14 +3,15 @@ use Prim.Native.Nat.{ℕ, zero, suc}
 use mathlib.Core.Path.{◌≡◌, refl, ◌∙◌}
 use mathlib.Core.List.{List, ◌∷◌}
 use native.Mathlib.Omega.{arith}
-use Rattle.base.specs.Lists.{All, Some, here, there}
-use Rattle.base.proofs.Somewhere.{some_right}
+use Rattle.base.specs.Lists.{All}
+use Rattle.coding.specs.Admissible.{Some, here, there}
+use Rattle.laws_coding.proofs.Somewhere.{some_right}
 use Rattle.control.specs.Codes.{NSZ}
 use Rattle.sets.specs.Sets.{designation}
 use Rattle.coding.specs.State.{State, designate, lock_gl, lock_gr}
 use Rattle.coding.specs.Candidates.{Size, either, narrow, wide, Cand}
-use Rattle.coding_admissible.specs.Admissible.{Sized, designates, locks_gl, locks_gr, msz, nsz}
-use Rattle.coding_admissible.specs.Admissible.{Shows, left, right, shifted, direct, Admissible, control, write}
+use Rattle.coding.specs.Admissible.{Sized, designates, locks_gl, locks_gr, msz, nsz}
+use Rattle.coding.specs.Admissible.{Shows, left, right, shifted, direct, Admissible, control, write}
 use Rattle.coding_admissible.specs.Laws.{lead, Wide, WideCand, MszUndone}
 
 -- a designation leaves the size

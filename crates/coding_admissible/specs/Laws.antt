@@ -1,10 +1,11 @@
 -- MSZ in an admissible coding, as a statement. proofs/Laws.antt proves it.
 use Rattle.std.specs.Prelude.{ℕ, ◌≡◌, List, [], ◌∷◌, ◌++◌}
-use Rattle.base.specs.Lists.{All, Some}
+use Rattle.base.specs.Lists.{All}
+use Rattle.coding.specs.Admissible.{Some}
 use Rattle.control.specs.Codes.{NSZ}
 use Rattle.coding.specs.State.{State}
 use Rattle.coding.specs.Candidates.{Size, either, narrow, wide, Cand, graphic, plain}
-use Rattle.coding_admissible.specs.Admissible.{Admissible, done, control, write}
+use Rattle.coding.specs.Admissible.{Admissible, done, control, write}
 
 -- the bytes of the controls before a coding's first character
 unfoldable pub lead : {s : State} {css : List (List Cand)} {bs : List ℕ} → Admissible s css bs → List ℕ

@@ -27,7 +27,8 @@ use Rattle.encode_search.proofs.Squeezing.{newest_older}
 use Rattle.encode_search.proofs.Parts.{lent_part, given_back, lent_part_lem, given_back_lem, joined_long, joined_front, joined_part}
 use Rattle.encode_backtrack.proofs.Nodes.{length_layer}
 use Rattle.laws_coding.proofs.Chains.{Chain, begins, run_chain, back_length}
-use Rattle.base.specs.Lists.{All, Some, here}
+use Rattle.base.specs.Lists.{All}
+use Rattle.coding.specs.Admissible.{Some, here}
 use Rattle.laws_coding.proofs.Choices.{choices_filled}
 use Rattle.laws_coding.proofs.Cheapest.{Filled, cheapest, run_filled}
 use Rattle.encode_find.specs.Plans.{asked, Characters, planned, leads, Planned, Led}

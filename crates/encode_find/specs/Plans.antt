@@ -1,6 +1,7 @@
 -- What the search for a coding promises, before any byte is written.
 use Rattle.std.specs.Prelude.{ℕ, ◌≤◌, ◌≡◌, Bool, cond, List, [], eqb, length}
-use Rattle.base.specs.Lists.{All, Some}
+use Rattle.base.specs.Lists.{All}
+use Rattle.coding.specs.Admissible.{Some}
 use Rattle.coding.specs.Candidates.{candidates_of, rest_of}
 use Rattle.encode_tokens.specs.Promises.{HoldCharacters}
 use Rattle.coding.specs.Search.{begin, run, back, Coded}

@@ -1,12 +1,12 @@
 -- A worked example: a title as two stations send it, under Si, CharacterSize and a zero cell table.
 use Rattle.std.specs.Prelude.{refl, [], ◌∷◌, replicate}
 use Rattle.std.proofs.Common.{arith}
-use Rattle.base.specs.Lists.{here}
+use Rattle.coding.specs.Admissible.{here}
 use Rattle.sets.specs.Sets.{designation}
 use Rattle.utf8.specs.Utf8.{utf8s}
 use Rattle.coding.specs.State.{start, set_in, designate, lock_gl, lock_gr, single}
 use Rattle.coding.specs.Candidates.{narrow, wide}
-use Rattle.coding_admissible.specs.Admissible.{left, right, shifted, high, control, write, done, designates, locks_gl, locks_gr, msz, nsz}
+use Rattle.coding.specs.Admissible.{left, right, shifted, high, control, write, done, designates, locks_gl, locks_gr, msz, nsz}
 use Rattle.coding.specs.Call as coding
 use Rattle.laws_readback.specs.ReadBack.{Codes}
 

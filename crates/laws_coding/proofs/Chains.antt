@@ -9,7 +9,7 @@ use lib.ListN.{length, get_or, length-append}
 use Rattle.coding.specs.State.{State, start}
 use Rattle.coding.specs.Candidates.{Cand}
 use Rattle.coding.specs.Search.{Node, node, reach, newest, least, keep, Run, layer, run, node_at, back}
-use Rattle.coding_admissible.specs.Admissible.{Admissible}
+use Rattle.coding.specs.Admissible.{Admissible}
 use Rattle.base.specs.Lists.{All}
 use Rattle.base.proofs.Every.{all_append, all_map, all_at}
 use Rattle.laws_coding.proofs.Layers.{by_each, reached, reach_flat, all_every, keep_every}

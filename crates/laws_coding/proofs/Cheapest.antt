@@ -11,8 +11,9 @@ use borrow.Author.Tests.{eq-eqb, eqb-true, le-leb, leb-true, leb-false}
 use Rattle.coding.specs.State.{set_in, designate}
 use Rattle.coding.specs.Candidates.{Cand, graphic, plain}
 use Rattle.coding.specs.Search.{Node, size_bytes, sized, by_cand, reach, newest, least, keep, Run, layer, run, first_of}
-use Rattle.base.specs.Lists.{All, Some, here, there}
-use Rattle.base.proofs.Somewhere.{some_map, some_left}
+use Rattle.base.specs.Lists.{All}
+use Rattle.coding.specs.Admissible.{Some, here, there}
+use Rattle.laws_coding.proofs.Somewhere.{some_map, some_left}
 use Rattle.laws_coding.proofs.WaysNear.{ways_single}
 use Rattle.laws_coding.proofs.Near.{ways_near}
 use Rattle.laws_coding.proofs.Layers.{by_each, reached, reach_flat, all_some}

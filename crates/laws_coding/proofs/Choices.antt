@@ -17,7 +17,8 @@ use Rattle.utf8.specs.declared.Sequence.TheVariants.{Scalar, Fault, End}
 use Rattle.coding.specs.Candidates.{Size, either, narrow, wide, Cand, plain, of_code, of_place, fullwidth, letters, candidates, candidates_of}
 use Rattle.coding.specs.Tokens.{Token, placed, tokens, ordered, in_order, chars}
 use Rattle.coding.specs.Call.{Lent, ordering, choices, without}
-use Rattle.base.specs.Lists.{All, when, here}
+use Rattle.base.specs.Lists.{All, when}
+use Rattle.coding.specs.Admissible.{here}
 use Rattle.base.proofs.Every.{all_append}
 use Rattle.laws_coding.proofs.Written.{OfTables}
 use Rattle.laws_coding.proofs.Cheapest.{Filled}

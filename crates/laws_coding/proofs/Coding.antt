@@ -10,7 +10,8 @@ use Rattle.coding.specs.Candidates.{Cand, candidates}
 use Rattle.coding.specs.Search.{Node, by_cand}
 use Rattle.coding.specs.Store.{counts}
 use Rattle.coding.specs.Call.{Lent, choices, coding, outcome_of}
-use Rattle.base.specs.Lists.{All, here}
+use Rattle.base.specs.Lists.{All}
+use Rattle.coding.specs.Admissible.{here}
 use Rattle.laws_coding.specs.Coding.{NoShorter, CodingAdmissible, GapExact, NineBytes, returned, Accepted, StoreFree, MoreStore, StillAccepted, LargerStore, NineSuffice, AcceptedMeans}
 use Rattle.base.proofs.Every.{all_map}
 use Rattle.laws_coding.proofs.Written.{OfTables, Step, cand_steps}

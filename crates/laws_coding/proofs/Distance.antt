@@ -9,7 +9,7 @@ use lib.ListN.{length}
 use borrow.Author.Tests.{eq-eqb, ne_eqb, eqb-true}
 use Rattle.sets.specs.Sets.{designation}
 use Rattle.coding.specs.State.{State, same_state, set_in, designate, invoke_gl, invoke_gr, resize, lock_gl, lock_gr}
-use Rattle.coding_admissible.specs.Admissible.{Control, designates, locks_gl, locks_gr, msz, nsz}
+use Rattle.coding.specs.Admissible.{Control, designates, locks_gl, locks_gr, msz, nsz}
 
 -- c where a and b differ, else 0
 unless : ℕ → ℕ → ℕ → ℕ

@@ -9,13 +9,13 @@ use native.Mathlib.Omega.{arith}
 use lib.Dec.{leb}
 use lib.ListN.{length, length-append, length-map}
 use borrow.Author.Tests.{leb-true, leb-false}
-use Rattle.base.specs.Lists.{Some, here, there}
+use Rattle.coding.specs.Admissible.{Some, here, there}
 use Rattle.coding.specs.State.{State, designate}
 use Rattle.coding.specs.Candidates.{Cand, code_length, shortest, rest_of}
 use Rattle.coding.specs.Search.{Node, reach, least, keep, lower, floor_of, Run, newest, layer, run}
-use Rattle.coding_admissible.specs.Admissible.{Shows, left, right, shifted, direct, Control, designates, locks_gl, locks_gr, msz, nsz, Admissible, done, control, write}
+use Rattle.coding.specs.Admissible.{Shows, left, right, shifted, direct, Control, designates, locks_gl, locks_gr, msz, nsz, Admissible, done, control, write}
 use Rattle.laws_coding.specs.Coding.{overs, dropped, Least}
-use Rattle.base.proofs.Somewhere.{some_map, some_left, some_right}
+use Rattle.laws_coding.proofs.Somewhere.{some_map, some_left, some_right}
 use Rattle.laws_coding.proofs.Distance.{controlled}
 use Rattle.laws_coding.proofs.Near.{Near, Invokes, reach_near}
 

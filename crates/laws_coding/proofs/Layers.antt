@@ -8,7 +8,8 @@ use lib.Dec.{leb}
 use Rattle.coding.specs.State.{same_state}
 use Rattle.coding.specs.Candidates.{Cand}
 use Rattle.coding.specs.Search.{Node, push, push_all, by_cand, by_cands, reach, keep}
-use Rattle.base.specs.Lists.{All, Some, here, there}
+use Rattle.base.specs.Lists.{All}
+use Rattle.coding.specs.Admissible.{Some, here, there}
 use Rattle.base.proofs.Tests.{either}
 
 -- all nodes that a node reaches, that some nodes reach

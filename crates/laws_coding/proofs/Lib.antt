@@ -1,4 +1,5 @@
 pub mod Distance
+pub mod Somewhere
 pub mod WaysNear
 pub mod Layers
 pub mod Near

@@ -8,14 +8,14 @@ use native.Mathlib.Omega.{arith}
 use lib.Dec.{eqb, leb}
 use lib.ListN.{length, length-append, length-map}
 use borrow.Author.Tests.{eqb-true, leb-true, leb-false}
-use Rattle.base.specs.Lists.{Some, here, there}
+use Rattle.coding.specs.Admissible.{Some, here, there}
 use Rattle.coding.specs.State.{State, same_state, resize}
 use Rattle.coding.specs.Candidates.{Size, either, narrow, wide, Cand}
 use Rattle.coding.specs.Ways.{Way}
 use Rattle.coding.specs.Search.{Node, node, size_bytes, sized, by_ways, by_cand, reach}
-use Rattle.coding_admissible.specs.Admissible.{Sized, Shows, left, right, shifted, direct}
+use Rattle.coding.specs.Admissible.{Sized, Shows, left, right, shifted, direct}
 use Rattle.base.proofs.Tests.{by_test}
-use Rattle.base.proofs.Somewhere.{some_map, some_left, some_right}
+use Rattle.laws_coding.proofs.Somewhere.{some_map, some_left, some_right}
 use Rattle.laws_coding.proofs.Distance.{distance, distance_same, resized, sized_closer}
 use Rattle.laws_coding.proofs.WaysNear.{Within, single_one, ways_gl, ways_gr, ways_single}
 use Rattle.laws_coding.proofs.Layers.{by_each, reached, reach_flat, all_some}

@@ -8,10 +8,11 @@ use lib.ListN.{length, length-reverse_aux}
 use Rattle.coding.specs.State.{State, start}
 use Rattle.coding.specs.Candidates.{Cand}
 use Rattle.coding.specs.Search.{Node, node, newest, least, first_of, begin, Run, run, finish, gap_of, code}
-use Rattle.coding_admissible.specs.Admissible.{Admissible, done, control, write}
-use Rattle.base.specs.Lists.{All, Some, here}
+use Rattle.coding.specs.Admissible.{Admissible, done, control, write}
+use Rattle.base.specs.Lists.{All}
+use Rattle.coding.specs.Admissible.{Some, here}
 use Rattle.laws_coding.specs.Coding.{dropped, Gap}
-use Rattle.base.proofs.Somewhere.{some_map, meet}
+use Rattle.laws_coding.proofs.Somewhere.{some_map, meet}
 use Rattle.laws_coding.proofs.Distance.{distance_none}
 use Rattle.laws_coding.proofs.Near.{Near, Invokes}
 use Rattle.laws_coding.proofs.Gap.{lowered, run_floor, floor_least, ends}

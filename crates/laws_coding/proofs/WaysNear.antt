@@ -10,9 +10,10 @@ use borrow.Author.Tests.{eqb-false, lt-ltb, le-leb}
 use Rattle.sets.specs.Sets.{designation}
 use Rattle.coding.specs.State.{State, set_in, designate, invoke_gl, invoke_gr, lock_gl, lock_gr, single}
 use Rattle.coding.specs.Ways.{Way, way, through, by_element, ways}
-use Rattle.base.specs.Lists.{when, Some, here, there}
+use Rattle.base.specs.Lists.{when}
+use Rattle.coding.specs.Admissible.{Some, here, there}
 use Rattle.base.proofs.Tests.{by_test}
-use Rattle.base.proofs.Somewhere.{some_map, some_left, some_right}
+use Rattle.laws_coding.proofs.Somewhere.{some_map, some_left, some_right}
 use Rattle.laws_coding.proofs.Distance.{distance, designated, locked_gl, locked_gr}
 
 -- a way that, with the distance left, takes at most c bytes

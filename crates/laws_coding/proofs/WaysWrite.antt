@@ -12,11 +12,12 @@ use Rattle.sets.specs.Sets.{designation, sequence, bytes_per_char, final_byte}
 use Rattle.coding.specs.State.{State, set_in, designate, invoke_gl, invoke_gr, lock_gl, lock_gr, single}
 use Rattle.coding.specs.Candidates.{Size, either, narrow, wide, Cand, graphic}
 use Rattle.coding.specs.Ways.{Way, way, through, by_element, ways}
-use Rattle.coding_admissible.specs.Admissible.{Sized, Shows, left, right, shifted, low, Control, designates, locks_gl, locks_gr, Admissible, control, write}
-use Rattle.base.specs.Lists.{All, when, Some}
+use Rattle.coding.specs.Admissible.{Sized, Shows, left, right, shifted, low, Control, designates, locks_gl, locks_gr, Admissible, control, write}
+use Rattle.base.specs.Lists.{All, when}
+use Rattle.coding.specs.Admissible.{Some}
 use Rattle.base.proofs.Every.{all_append}
 use Rattle.base.proofs.Tests.{by_test, either as anyway}
-use Rattle.base.proofs.Somewhere.{some_map}
+use Rattle.laws_coding.proofs.Somewhere.{some_map}
 use Rattle.laws_coding.proofs.WaysNear.{single_one}
 
 -- controls by which a coding from t becomes one from s

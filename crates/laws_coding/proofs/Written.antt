@@ -10,8 +10,9 @@ use Rattle.coding.specs.State.{State, resize}
 use Rattle.coding.specs.Candidates.{Size, either, narrow, wide, Cand, graphic, plain}
 use Rattle.coding.specs.Ways.{Way, ways}
 use Rattle.coding.specs.Search.{Node, size_bytes, sized, by_ways, by_cand}
-use Rattle.coding_admissible.specs.Admissible.{Sized, direct, msz, nsz, Admissible, control, write}
-use Rattle.base.specs.Lists.{All, Some, here, there}
+use Rattle.coding.specs.Admissible.{Sized, direct, msz, nsz, Admissible, control, write}
+use Rattle.base.specs.Lists.{All}
+use Rattle.coding.specs.Admissible.{Some, here, there}
 use Rattle.base.proofs.Every.{all_append}
 use Rattle.base.proofs.Tests.{by_test}
 use Rattle.laws_coding.proofs.WaysWrite.{Leads, Writes, shown, ways_write}

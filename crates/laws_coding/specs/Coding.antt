@@ -7,9 +7,10 @@ use Rattle.coding.specs.State.{start}
 use Rattle.coding.specs.Candidates.{Cand, candidates, rest_of}
 use Rattle.coding.specs.Search.{Node, by_cand, reach, top, keep, alone, code}
 use Rattle.coding.specs.Store.{counts, numbers, states, needs_states, fit_states}
-use Rattle.coding_admissible.specs.Admissible.{Admissible}
+use Rattle.coding.specs.Admissible.{Admissible}
 use Rattle.coding.specs.Call.{Lent, ordering, choices, coding, without, Outcome, outcome}
-use Rattle.base.specs.Lists.{All, Some}
+use Rattle.base.specs.Lists.{All}
+use Rattle.coding.specs.Admissible.{Some}
 
 -- demand 3: "no admissible coding of that text is shorter than it by more than the gap returned beside it"; and so of any characters, by any
 -- candidates

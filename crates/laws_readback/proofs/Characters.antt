@@ -9,12 +9,13 @@ use lib.ListN.{length, length-map}
 use Rattle.decode_output.specs.Output.{Output}
 use Rattle.coding.specs.State.{State, set_in, single}
 use Rattle.coding.specs.Candidates.{Size, Cand, candidates}
-use Rattle.coding_admissible.specs.Admissible.{Sized, Half, low, high, Shows, left, right, shifted, direct}
+use Rattle.coding.specs.Admissible.{Sized, Half, low, high, Shows, left, right, shifted, direct}
 use Rattle.reading.specs.State as reading
 use Rattle.reading.specs.Macros.{Run}
 use Rattle.reading.specs.Characters.{is_gl, is_gr, is_graphic, graphic_of, graphic, single_shift}
 use Rattle.reading.specs.Steps.{step, offset}
-use Rattle.base.specs.Lists.{All, Some, here, there}
+use Rattle.base.specs.Lists.{All}
+use Rattle.coding.specs.Admissible.{Some, here, there}
 use Rattle.laws_readback.proofs.States.{read, Invokes, set_in_lem, Moves, one_step}
 use Rattle.laws_readback.proofs.Halves.{Byte, is_left, not_left, is_right, in_half}
 use Rattle.laws_readback.proofs.Codes.{puts, ReadsCode, Reads, candidates_read}

@@ -23,7 +23,7 @@ use Rattle.issues.specs.declared.IssueKind.TheVariants.{UndefinedCode}
 use Rattle.decode_output.specs.Output.{Output, emit, mark, newline}
 use Rattle.coding.specs.State.{State}
 use Rattle.coding.specs.Candidates.{Size, either, narrow, wide, Cand, graphic, plain, of_code, of_place, fullwidth, letters, candidates}
-use Rattle.coding_admissible.specs.Admissible.{Sized, Half}
+use Rattle.coding.specs.Admissible.{Sized, Half}
 use Rattle.reading.specs.State as reading
 use Rattle.reading.specs.Macros.{Run}
 use Rattle.reading.specs.Characters.{emit_or, cell_or, char2, letter, graphic2, graphic_of}

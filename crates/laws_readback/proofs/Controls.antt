@@ -13,7 +13,7 @@ use Rattle.sets.specs.Sets.{designation, read_designation}
 use Rattle.sets.proofs.Laws.{begins, read_designation_lem}
 use Rattle.decode_output.specs.Output.{Output}
 use Rattle.coding.specs.State.{State, designate, lock_gl, lock_gr}
-use Rattle.coding_admissible.specs.Admissible.{Control, designates, locks_gl, locks_gr, msz, nsz}
+use Rattle.coding.specs.Admissible.{Control, designates, locks_gl, locks_gr, msz, nsz}
 use Rattle.reading.specs.State as reading
 use Rattle.reading.specs.Macros.{Run}
 use Rattle.reading.specs.Controls.{leading, applied, applied_or, escape_at, escape}

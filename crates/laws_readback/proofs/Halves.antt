@@ -7,7 +7,7 @@ use native.Mathlib.Nat.{add-zero}
 use native.Mathlib.Omega.{arith}
 use borrow.Author.Tests.{eq-eqb, le-leb, lt-leb}
 use lib.Dec.{eqb}
-use Rattle.coding_admissible.specs.Admissible.{Half, low, high}
+use Rattle.coding.specs.Admissible.{Half, low, high}
 use Rattle.reading.specs.State as reading
 use Rattle.reading.specs.Characters.{is_gl, is_gr, is_graphic, char2, graphic2}
 

@@ -17,7 +17,7 @@ use Rattle.issues.specs.Issue.{issues_numbers}
 use Rattle.decode_output.specs.Output.{Output, first_at, release}
 use Rattle.coding.specs.State.{State, start}
 use Rattle.coding.specs.Candidates.{Cand}
-use Rattle.coding_admissible.specs.Admissible.{Admissible, done, control, write}
+use Rattle.coding.specs.Admissible.{Admissible, done, control, write}
 use Rattle.coding.specs.Call as coding
 use Rattle.reading.specs.State as reading
 use Rattle.reading.specs.Macros.{Run}

@@ -1,12 +1,12 @@
 -- A worked example: an admissible coding that the search does not choose.
 use Rattle.std.specs.Prelude.{refl, [], ◌∷◌, replicate}
 use Rattle.std.proofs.Common.{arith}
-use Rattle.base.specs.Lists.{here}
+use Rattle.coding.specs.Admissible.{here}
 use Rattle.utf8.specs.Utf8.{utf8s}
 use Rattle.coding.specs.State.{start, set_in, lock_gl, single}
 use Rattle.coding.specs.Tokens.{tokens, baseless}
 use Rattle.coding.specs.Candidates.{either, wide}
-use Rattle.coding_admissible.specs.Admissible.{left, shifted, high, control, write, done, msz, nsz, locks_gl}
+use Rattle.coding.specs.Admissible.{left, shifted, high, control, write, done, msz, nsz, locks_gl}
 use Rattle.coding.specs.Call as coding
 use Rattle.laws_readback.specs.ReadBack.{Codes, Based}
 

@@ -10,7 +10,7 @@ use Rattle.questions.specs.Questions.{cells_hold}
 use Rattle.questions.specs.Buffer.{padded}
 use Rattle.coding.specs.State.{start}
 use Rattle.coding.specs.Tokens.{tokens, baseless}
-use Rattle.coding_admissible.specs.Admissible.{Admissible}
+use Rattle.coding.specs.Admissible.{Admissible}
 use Rattle.coding.specs.Call as coding
 use Rattle.reading.specs.State.{State}
 use Rattle.reading.specs.Steps.{decode}

@@ -15,7 +15,6 @@ pub fn all() -> Vec<Case> {
     list.extend(damaged());
     list.extend(other_lengths());
     list.extend(any_bytes());
-    list.extend(stations());
     list
 }
 
@@ -121,23 +120,6 @@ fn any_bytes() -> Vec<Case> {
         remove(8),
         add(3, b"", FEW),
         find(b""),
-    ]
-}
-
-/// Aあ as two stations send it, and as a third with the sets of captions: one key.
-fn stations() -> Vec<Case> {
-    let terse = [0x89, 0x0E, 0x41, 0x8A, 0xA2];
-    let wordy = [
-        0x1B, 0x2B, 0x4A, 0x1B, 0x7C, 0x89, 0xC1, 0x0F, 0x8A, 0x1B, 0x29, 0x20, 0x4F, 0x19, 0xA2,
-        0x89,
-    ];
-    let captions = [0x1B, 0x6E, 0x1B, 0x2B, 0x4A, 0x89, 0x1D, 0xC1, 0x8A, 0x22];
-    vec![
-        add(8, &terse, FEW).on(vec![0; STORE]),
-        add(2, &wordy, FEW),
-        add(5, &captions, FEW).under(1, 0),
-        find("Aあ".as_bytes()),
-        add(6, &wordy, 3),
     ]
 }
 

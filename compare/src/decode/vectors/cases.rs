@@ -1,9 +1,7 @@
 //! The list of calls: 01's table, the corners, limits, then random ones without end.
 
 use super::Case;
-use crate::arrangement::Station;
 use crate::call::{Call, OPTIONS, Rooms};
-use crate::coding::Coder;
 use crate::inputs::{self, bombs, corners};
 use crate::model::{ISSUE, Reading};
 use crate::questions::some_wrong_options;
@@ -26,7 +24,7 @@ pub fn all() -> impl Iterator<Item = Case> {
     let corner = |(initial, width, input)| case(false, initial, width, input);
     let corners = table.chain(corners::corners().map(corner)).chain(tight());
     let limits = options().chain(bytes()).chain(spent()).chain(rows()).chain(level());
-    corners.chain(limits).chain(named()).chain(arranged()).chain(random())
+    corners.chain(limits).chain(named()).chain(random())
 }
 
 /// A case in the usual rooms.
@@ -125,19 +123,6 @@ fn spent() -> impl Iterator<Item = Case> {
 /// The titles.
 fn named() -> impl Iterator<Item = Case> {
     titles::all().into_iter().map(|input| case(false, 0, 0, input))
-}
-
-/// The titles, each as a station arranges it, under all options in turn where they have candidates.
-fn arranged() -> impl Iterator<Item = Case> {
-    let mut model = Coder::default();
-    titles::texts().into_iter().enumerate().filter_map(move |(index, title)| {
-        let (initial, width) = OPTIONS[index % OPTIONS.len()];
-        let call = Call { cells: cells::rusts(), initial, width, input: title.as_bytes() };
-        let choices = model.choices(&call).ok()?;
-        let mut random = Random::new(0xA44A, index as u64);
-        let coding = Station::any(&mut random).arrange(&mut random, initial == 1, &choices);
-        Some(case(false, initial, width, coding.bytes))
-    })
 }
 
 /// Random inputs that stay small, in rooms beyond, exact or too small by a little.

@@ -1,6 +1,7 @@
 -- What holds of some element of a list. Assumes nothing.
 use mathlib.Core.List.{List, [], ◌∷◌, ◌++◌}
-use Rattle.base.specs.Lists.{All, Some, here, there}
+use Rattle.base.specs.Lists.{All}
+use Rattle.coding.specs.Admissible.{Some, here, there}
 
 pub some_map : {A : Type 0} {P Q : A → Type 0} {l : List A} → Some P l → ((x : A) → P x → Q x) → Some Q l
 some_map (here {x = x} p) f = here (f x p)

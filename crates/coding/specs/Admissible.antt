@@ -1,10 +1,14 @@
 -- Admissible codings: 01, "An admissible coding".
 use Rattle.std.specs.Prelude.{ℕ, ◌+◌, ◌≤◌, ◌<◌, ◌≡◌, List, [], ◌∷◌, ◌++◌, map}
-use Rattle.base.specs.Lists.{Some}
 use Rattle.control.specs.Codes.{MSZ, NSZ}
 use Rattle.sets.specs.Sets.{designation}
 use Rattle.coding.specs.State.{State, set_in, designate, invoke_gl, invoke_gr, resize, lock_gl, lock_gr, single}
 use Rattle.coding.specs.Candidates.{Size, either, narrow, wide, Cand, graphic, plain}
+
+-- some element has a property
+pub data Some {X : Type 0} (P : X → Type 0) : List X → Type 0 where
+  here : {x : X} {xs : List X} → P x → Some P (x ∷ xs)
+  there : {x : X} {xs : List X} → Some P xs → Some P (x ∷ xs)
 
 -- "designations of any set in the form of `designation`, locking shifts, MSZ and NSZ": from a state, by bytes, to a state
 pub data Control : State → List ℕ → State → Type 0 where
