@@ -4,7 +4,7 @@
 
 mod decoding;
 
-use replay_vectors::files::{cells, read};
+use replay_vectors::files::{cells, file_room, read};
 use replay_vectors::tally::line;
 
 /// The buffer is longer than the file, whose end is looked at.
@@ -13,7 +13,7 @@ fn main(rt: HostRuntime) {
     if !cells(&rt, &mut t) {
         return;
     }
-    let mut file = [0u8; 0x80000];
+    let mut file = file_room();
     let n = read(&rt, "decode.bin", &mut file);
     line(
         &rt,

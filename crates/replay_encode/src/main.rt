@@ -5,7 +5,7 @@
 mod coding;
 mod coding_case;
 
-use replay_vectors::files::{cells, read};
+use replay_vectors::files::{cells, file_room, read};
 use replay_vectors::tally::line;
 
 /// The buffer is longer than the file, whose end is looked at.
@@ -14,7 +14,7 @@ fn main(rt: HostRuntime) {
     if !cells(&rt, &mut t) {
         return;
     }
-    let mut file = [0u8; 0x80000];
+    let mut file = file_room();
     let n = read(&rt, "encode.bin", &mut file);
     line(&rt, b"encode", coding::replay(&file[..n], &t));
 }

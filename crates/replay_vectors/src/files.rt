@@ -5,6 +5,13 @@ use std::fs::File;
 use std::io::Read;
 use std::rt::Files;
 
+/// 524,288 zeros, more than a file of cases has bytes. The `ensures` gives the length, which is all that is asked of them.
+pub fn file_room() -> [u8; 524288]
+    ensures { 524288 ≡ length result }
+{
+    [0; 524288]
+}
+
 /// One read, of at most a buffer: 0 where it fails.
 fn read_once(reader: &mut impl Read, buffer: &mut [u8]) -> usize
     ensures { result ≤ length buffer.new }
