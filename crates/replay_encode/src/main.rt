@@ -2,8 +2,8 @@
 // table (compare/README.md has the layout). A line says how many answers were compared and how many differ.
 #![tactic(auto)]
 
-mod coding;
 mod coding_case;
+mod codings;
 
 use replay_vectors::files::{cells, file_room, read};
 use replay_vectors::tally::line;
@@ -16,5 +16,5 @@ fn main(rt: HostRuntime) {
     }
     let mut file = file_room();
     let n = read(&rt, "encode.bin", &mut file);
-    line(&rt, b"encode", coding::replay(&file[..n], &t));
+    line(&rt, b"encode", codings::replay(&file[..n], &t));
 }

@@ -2,7 +2,7 @@
 use mathlib.Core.Path.{sym}
 use native.Mathlib.Omega.{arith}
 use lib.Seq.{length-take-le}
-use Rattle.replay_encode.proofs.coding.same_in_rooms.Goals as goal
+use Rattle.replay_encode.proofs.codings.same_in_rooms.Goals as goal
 
 pub slice_bounds-same-end : goal.slice_bounds-same-end
 slice_bounds-same-end c =
