@@ -152,8 +152,8 @@ smallest_least (e ∷ es) =
       reached = λ m q a. absurd (omega (arith, least_reached (suc (least_from e.number es)) e.number es a.0 a.1));
     }
 
-pub find_counts_lem : FindCounts
-find_counts_lem store k f =
+pub find_counts : FindCounts
+find_counts store k f =
     let e = finds store k f in
     record {
       refused = ap (λ o. o.refused) e;

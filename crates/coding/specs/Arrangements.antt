@@ -1,10 +1,10 @@
 -- Worked examples of admissible codings: controls that serve no character, and what controls leave as it is.
-use Rattle.std.specs.Prelude.{ℕ, refl, List, [], ◌∷◌}
+use Rattle.std.specs.Prelude.{ℕ, ◌≡◌, refl, List, [], ◌∷◌}
 use Rattle.std.proofs.Common.{arith}
 use Rattle.sets.specs.Sets.{designation}
-use Rattle.coding.specs.State.{start, set_in, designate, lock_gl, lock_gr, single}
+use Rattle.coding.specs.State.{start, set_in, designate, lock_gl, lock_gr, single, resize}
 use Rattle.coding.specs.Candidates.{narrow, wide, Cand, graphic}
-use Rattle.coding.specs.Admissible.{here, designates, locks_gl, locks_gr, msz, nsz, low, left, right, shifted, Admissible, done, control, write}
+use Rattle.coding.specs.Admissible.{here, Sized, designates, locks_gl, locks_gr, msz, nsz, low, left, right, shifted, Admissible, done, control, write}
 
 -- a coding of あ, code 22 of the Hiragana set, from the Si start
 abbrev pub Codes : List ℕ → Type 0
@@ -38,24 +38,26 @@ hiragana = graphic 2 (0x22 ∷ []) wide ∷ []
 abbrev pub kanji : List Cand
 kanji = graphic 0 (0x30 ∷ 0x21 ∷ []) wide ∷ []
 
-abbrev pub halfwidth : List Cand
-halfwidth = graphic 1 (0x41 ∷ []) narrow ∷ []
+abbrev pub narrow_a : List Cand
+narrow_a = graphic 1 (0x41 ∷ []) narrow ∷ []
 
-abbrev pub fullwidth : List Cand
-fullwidth = graphic 1 (0x41 ∷ []) wide ∷ []
+abbrev pub wide_a : List Cand
+wide_a = graphic 1 (0x41 ∷ []) wide ∷ []
 
 -- a coding of characters from the Si start
-abbrev pub Coded : List (List Cand) → List ℕ → Type 0
-Coded css bytes = Admissible (start 0) css bytes
+abbrev pub CodesOf : List (List Cand) → List ℕ → Type 0
+CodesOf css bytes = Admissible (start 0) css bytes
 
 pub record Kept : Type 0 where
   -- a locking shift leaves the size: MSZ, LS1, A; and NSZ undoes MSZ: Ａ
-  pub size_kept : Coded (halfwidth ∷ fullwidth ∷ []) (0x89 ∷ 0x0E ∷ 0x41 ∷ 0x8A ∷ 0x41 ∷ [])
+  pub size_kept : CodesOf (narrow_a ∷ wide_a ∷ []) (0x89 ∷ 0x0E ∷ 0x41 ∷ 0x8A ∷ 0x41 ∷ [])
   -- a single shift is for one character: SS2 and あ, then 亜 from G0 in GL
-  pub one_shifted : Coded (hiragana ∷ kanji ∷ []) (0x19 ∷ 0x22 ∷ 0x30 ∷ 0x21 ∷ [])
+  pub one_shifted : CodesOf (hiragana ∷ kanji ∷ []) (0x19 ∷ 0x22 ∷ 0x30 ∷ 0x21 ∷ [])
+  -- under MSZ no wide candidate is written
+  pub wide_undone : Sized (resize (start 0) 1) wide → ⊥
 
 pub kept : Kept
-unfolding start set_in lock_gl lock_gr single
+unfolding start set_in lock_gl lock_gr single resize
 kept =
     record {
       size_kept =
@@ -63,4 +65,5 @@ kept =
           (control nsz (write (here (left (0x41 ∷ []) wide refl)) (done _)))));
       one_shifted =
           write (here (shifted (0x22 ∷ []) wide 2 0 low refl (omega arith) (omega arith))) (write (here (left (0x30 ∷ 0x21 ∷ []) wide refl)) (done _));
+      wide_undone = λ (q : ◌≡◌ {A = ℕ} 1 0). omega arith;
     }

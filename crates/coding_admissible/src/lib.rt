@@ -1,4 +1,4 @@
-// Admissible codings: specs/Admissible.antt says what they are, specs/Laws.antt what size controls mean to them.
+// What size controls mean in an admissible coding: specs/Laws.antt.
 #![tactic(auto)]
 
 /// A crate has a function; nothing calls this one.

@@ -72,7 +72,7 @@ module _ (x : ℕ) (low : 0x21 ≤ x % 128) (high : x % 128 ≤ 0x7E) (byte : x 
 
 -- ---- letters
 
--- a one_byte set of letters
+-- a one-byte set of letters
 pub record LetterSet (z : ℕ) : Type 0 where
   pub one : eqb (bytes_per_char z) 2 ≡ false
   pub macro : z ≡ 15 → ⊥

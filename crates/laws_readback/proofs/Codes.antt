@@ -145,7 +145,7 @@ module _ (g : reading.Given) (depth : ℕ) (R : Run) (z : reading.State) where
     unfolding cell_or
     cell_or_lem kind at s o h = rw l.mark (emit_or_lem kind at s o h)
 
-    -- a candidate of a one_byte set
+    -- a candidate of a one-byte set
     one_byte : (x : ℕ) (size : Size) (table : OneByteTable) → OneByteSet x
         → ((s : State) (o : Output) (b : ℕ) → Sized s size → letter (reading.is_narrow g (read z s o)) x b ≡ one_byte_at table b)
         → All (Reads c) (of_code x size (one_byte_reverse table c))
