@@ -9,7 +9,7 @@ use files::{fail, read, read_table};
 /// it is read.
 fn main(rt: HostRuntime) {
     let mut bytes = [0u8; 7282];
-    let input = read(&rt, &mut rt.stdin(), "standard input", &mut bytes);
+    let input = read(&rt, &mut rt.stdin(), b"standard input", &mut bytes);
     if input.failed {
         return;
     }
@@ -20,6 +20,6 @@ fn main(rt: HostRuntime) {
     let m = table.len;
     let n = encoding_lines::encoding(table.present, &cells[..m], &bytes[..k], &mut out);
     if let Err(why) = rt.write_all(&out[..n]) {
-        fail(&rt, "standard output", why);
+        fail(&rt, b"standard output", why);
     }
 }

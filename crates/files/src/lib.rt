@@ -6,6 +6,7 @@ ghost use Rattle.std.specs.Prelude.{◌≡◌, ◌≤◌, length, take};
 use std::fs::File;
 use std::io::{Error, ErrorKind, Read};
 use std::rt::Files;
+use std::str::from_utf8;
 
 /// The words of an error's text, without the number that ends it.
 fn words(text: &str) -> &str {
@@ -16,7 +17,8 @@ fn words(text: &str) -> &str {
 }
 
 /// Says on standard error what failed and why.
-pub fn fail(rt: &(impl Eprint + AllocGlobal), what: &str, why: Error) {
+pub fn fail(rt: &(impl Eprint + AllocGlobal), what: &[u8], why: Error) {
+    let what = from_utf8(what).unwrap_or("input");
     let _ = match why.to_string(rt.alloc()) {
         Ok(text) => {
             let words = words(text.as_str());
@@ -37,7 +39,7 @@ pub struct Input {
 fn read_once(
     rt: &(impl Eprint + AllocGlobal),
     reader: &mut impl Read,
-    what: &str,
+    what: &[u8],
     buffer: &mut [u8],
 ) -> Input
     ensures { result.len ≤ length buffer.new }
@@ -58,7 +60,7 @@ fn read_once(
 pub fn read(
     rt: &(impl Eprint + AllocGlobal),
     reader: &mut impl Read,
-    what: &str,
+    what: &[u8],
     buffer: &mut [u8],
 ) -> Input
     ensures within { result.len ≤ length buffer.new }
@@ -100,14 +102,14 @@ pub fn read_table(rt: &(impl Files + Eprint + AllocGlobal), buffer: &mut [u8]) -
                     len: 0,
                 };
             }
-            fail(rt, "jis.tab", why);
+            fail(rt, b"jis.tab", why);
             return Table {
                 present: true,
                 len: 0,
             };
         }
     };
-    let file = read(rt, &mut opened, "jis.tab", buffer);
+    let file = read(rt, &mut opened, b"jis.tab", buffer);
     if file.failed {
         return Table {
             present: true,

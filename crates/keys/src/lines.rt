@@ -36,7 +36,7 @@ fn write_waiting(
     match rt.write_all(&out[..used]) {
         Ok(()) => true,
         Err(why) => {
-            fail(rt, "standard output", why);
+            fail(rt, b"standard output", why);
             false
         }
     }
@@ -58,7 +58,7 @@ fn write_malformed(
     match println!(rt; "line {number}: malformed") {
         Ok(()) => true,
         Err(why) => {
-            fail(rt, "standard output", why);
+            fail(rt, b"standard output", why);
             false
         }
     }
@@ -232,7 +232,7 @@ fn read_piece(
     let n = match reader.read(&mut piece) {
         Ok(n) => n,
         Err(why) => {
-            fail(rt, "standard input", why);
+            fail(rt, b"standard input", why);
             let failed = Progress {
                 lines: p.lines,
                 malformed: p.malformed,

@@ -14,7 +14,7 @@ use std::rt::Files;
 /// The cases of the file against the calls. The buffer is longer than the file, whose end is looked at.
 fn replay(rt: &(impl Files + Print), cells: &[u16]) {
     let mut file = [0u8; 0x40000];
-    let n = read(rt, "bookmark.bin", &mut file);
+    let n = read(rt, b"bookmark.bin", &mut file);
     line(rt, b"bookmarks", replaying::replay(&file[..n], cells));
 }
 

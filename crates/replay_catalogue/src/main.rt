@@ -17,7 +17,7 @@ fn main(rt: HostRuntime) {
         return;
     }
     let mut file = [0u8; 0x20000];
-    let n = read(&rt, "catalogue.bin", &mut file);
+    let n = read(&rt, b"catalogue.bin", &mut file);
     let mut store = [0u8; 266249];
     line(
         &rt,

@@ -14,7 +14,7 @@ fn main(rt: HostRuntime) {
         return;
     }
     let mut file = file_room();
-    let n = read(&rt, "decode.bin", &mut file);
+    let n = read(&rt, b"decode.bin", &mut file);
     line(
         &rt,
         b"decode, measure and clean",

@@ -15,6 +15,6 @@ fn main(rt: HostRuntime) {
         return;
     }
     let mut file = file_room();
-    let n = read(&rt, "encode.bin", &mut file);
+    let n = read(&rt, b"encode.bin", &mut file);
     line(&rt, b"encode", codings::replay(&file[..n], &t));
 }

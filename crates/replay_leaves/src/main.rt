@@ -118,7 +118,7 @@ fn main(rt: HostRuntime) {
         return;
     }
     let mut answers = [0u8; 301522];
-    let n = read(&rt, "leaves.bin", &mut answers);
+    let n = read(&rt, b"leaves.bin", &mut answers);
     if n != 301521 {
         let _ = println!(rt; "leaves.bin does not have 301521 bytes");
         return;

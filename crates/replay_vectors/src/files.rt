@@ -4,6 +4,7 @@ ghost use Rattle.std.specs.Prelude.{◌≡◌, ◌<◌, ◌≤◌, length, take}
 use std::fs::File;
 use std::io::Read;
 use std::rt::Files;
+use std::str::from_utf8;
 
 /// 524,288 zeros, more than a file of cases has bytes. The `ensures` gives the length, which is all that is asked of them.
 pub fn file_room() -> [u8; 524288]
@@ -37,10 +38,13 @@ fn read_full(reader: &mut impl Read, buffer: &mut [u8]) -> usize
 
 /// Reads a file up to its end, or until the buffer is full, and answers how many bytes it read: 0
 /// where it cannot be opened.
-pub fn read(rt: &impl Files, path: &str, buffer: &mut [u8]) -> usize
+pub fn read(rt: &impl Files, path: &[u8], buffer: &mut [u8]) -> usize
     ensures within { result ≤ length buffer.new }
     ensures prefix { result ≡ length (take result buffer.new) }
 {
+    let Ok(path) = from_utf8(path) else {
+        return 0;
+    };
     match File::open(rt, path) {
         Ok(mut file) => read_full(&mut file, buffer),
         Err(_) => 0,
@@ -67,7 +71,7 @@ pub fn cells(rt: &(impl Files + Print), t: &mut [u16]) -> bool
     ensures { length t.new ≡ length t.old }
 {
     let mut table = [0u8; 17673];
-    let n = read(rt, "jis.tab", &mut table);
+    let n = read(rt, b"jis.tab", &mut table);
     if n != 17672 {
         let _ = println!(rt; "jis.tab does not have 17672 bytes");
         return false;
