@@ -43,7 +43,7 @@ loop-i-smaller c = omega arith
 
 pub loop-i-preserved : goal.loop-i-preserved
 loop-i-preserved c =
-    (c.if-v-gt4294967295.false, c.loop-i.invariant.1 ∙ number_next _ _ _ c.loop-i-test.true (sym c.is_decimal.ensures ∙ c.if-not-is_decimal.false))
+    (omega arith, c.loop-i.invariant.1 ∙ number_next _ _ _ c.loop-i-test.true (sym c.is_decimal.ensures ∙ c.if-not-is_decimal.false))
 
 pub returns : goal.returns
 returns c = sym (c.loop-i.invariant.1 ∙ number_end _ _ _ c.loop-i-test.false c.loop-i.invariant.0)
