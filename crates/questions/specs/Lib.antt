@@ -1,3 +1,4 @@
 pub mod Questions
+pub mod Refusal
 pub mod Buffer
 pub mod Examples

@@ -2,6 +2,8 @@
 // length of the input, and the zeros past a result.
 #![tactic(auto)]
 
+pub mod refusal;
+
 ghost use Rattle.std.specs.Prelude.{◌≡◌};
 ghost use Rattle.questions.specs.Questions.{all, scalar, zero?, cells_hold, options_hold, first_refusal};
 ghost use Rattle.questions.specs.Buffer.{cleared};
