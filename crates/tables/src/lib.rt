@@ -185,13 +185,11 @@ fn assigned_at(list: &[Assignment], row: u8, cell: u8) -> Option<u32>
 fn table_at(t: &[u16], row: u8, cell: u8) -> u32
     ensures { result ≡ table_at t.now row cell }
 {
-    match (row, cell) {
-        (1..=94, 1..=94) => {
-            let place = (row as usize - 1) * 94 + (cell as usize - 1);
-            u32::from(t.get(place).copied().unwrap_or(0))
-        }
-        _ => 0,
+    if row == 0 || 94 < row || cell == 0 || 94 < cell {
+        return 0;
     }
+    let place = (row as usize - 1) * 94 + (cell as usize - 1);
+    u32::from(t.get(place).copied().unwrap_or(0))
 }
 
 /// Whether a cell is in one of row 90's gaps, which the additional symbols set alone fills (Table 7-10).
@@ -235,7 +233,9 @@ fn jis_x0208_at(t: &[u16], row: u8, cell: u8) -> u32
     assigned_at(&KANJI_OVERRIDES, row, cell).unwrap_or(table_at(t, row, cell))
 }
 
-/// The Kanji set at a cell: marks, the row 90 gaps, rows 90 to 94 from the additional symbols, JIS X 0208.
+/// The Kanji set at a cell: marks, the row 90 gaps, rows 90 to 94 from the additional symbols, JIS X 0208. The search of a
+/// row cell by cell has it inside its loop: a call for each cell makes it a third dearer.
+#[inline(always)]
 pub fn kanji_at(t: &[u16], row: u8, cell: u8) -> u32
     ensures { result ≡ kanji_at t.now row cell }
 {
