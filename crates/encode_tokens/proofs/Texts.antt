@@ -1,7 +1,6 @@
 -- A text's characters, one after another, and question 5. Assumes nothing.
 use mathlib.Core.Path.{◌≡◌, refl, sym, ap, ap₂, ◌∙◌}
 use mathlib.Core.Bool.{Bool, true, false, not}
-use mathlib.Core.Logic.{◌⊎◌, inl, inr}
 use mathlib.Core.List.{List, [], ◌∷◌}
 use mathlib.Core.Option.{some}
 use Prim.Native.Nat.{ℕ, ◌+◌, ◌≤◌}
@@ -11,10 +10,10 @@ use lib.ListN.{length, drop, length-drop}
 use lib.Seq.{drop-drop}
 use Rattle.tables.specs.Kanji.{non_spacing, has_character}
 use Rattle.utf8.specs.declared.Sequence.{Sequence}
-use Rattle.utf8.specs.declared.Sequence.TheVariants.{Scalar, Fault, End}
-use Rattle.utf8.specs.Utf8.{sequence, scalars_from, scalars}
-use Rattle.utf8.proofs.Reading.{sequence_begins, sequence_not_end}
-use Rattle.utf8.proofs.Texts.{sequence_least, sequence_within, scalars_next}
+use Rattle.utf8.specs.declared.Sequence.TheVariants.{Scalar}
+use Rattle.utf8.specs.Utf8.{sequence, scalars}
+use Rattle.utf8.proofs.Reading.{sequence_begins}
+use Rattle.utf8.proofs.Texts.{sequence_least, sequence_within, scalars_next, none_left}
 use Rattle.coding.specs.Tokens.{Token, placed, tokens, ordered, baseless}
 
 -- a character at a place
@@ -47,24 +46,9 @@ read_as text at c n h e =
     }
 
 -- where no scalar was read
-none_read : (s : Sequence) → ((c n : ℕ) → s ≡ Scalar c n → ⊥) → (s ≡ Fault) ⊎ (s ≡ End)
-none_read (Scalar c n) h = absurd (h c n refl)
-none_read Fault h = inl refl
-none_read End h = inr refl
-
-scalars_none : (l : List ℕ) → (sequence l ≡ Fault) ⊎ (sequence l ≡ End) → scalars l ≡ []
-unfolding scalars scalars_from
-scalars_none [] e = refl
-scalars_none (x ∷ xs) (inl e) = rw (e, scalars_from)
-scalars_none (x ∷ xs) (inr e) = absurd (sequence_not_end x xs e)
-
 pub from_end : (text : List ℕ) (at : ℕ) {s : Sequence} → s ≡ sequence (drop at text) → ((c n : ℕ) → s ≡ Scalar c n → ⊥) → from text at ≡ []
 unfolding placed
-from_end text at {s} e h = ap (placed at) (scalars_none (drop at text) (go (none_read s h)))
-  where
-    go : (s ≡ Fault) ⊎ (s ≡ End) → (sequence (drop at text) ≡ Fault) ⊎ (sequence (drop at text) ≡ End)
-    go (inl q) = inl (sym e ∙ q)
-    go (inr q) = inr (sym e ∙ q)
+from_end text at {s} e h = ap (placed at) (none_left (drop at text) s e h)
 
 -- ---- question 5, by the character that was read
 

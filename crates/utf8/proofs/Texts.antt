@@ -13,7 +13,7 @@ use Rattle.utf8.specs.declared.Sequence.TheVariants.{Scalar, Fault, End}
 use Rattle.std.specs.Prelude.{Option, Some, None}
 use Rattle.utf8.specs.Utf8.{is_scalar, are_scalars, utf8, utf8s, sequence, fault_from, first_fault, scalars_from, scalars}
 use Rattle.utf8.proofs.Bytes.{length_utf8}
-use Rattle.utf8.proofs.Reading.{sequence_utf8, sequence_begins, sequence_not_end}
+use Rattle.utf8.proofs.Reading.{sequence_utf8, sequence_begins, sequence_not_end, not_scalar}
 
 -- ---- a sequence
 
@@ -71,6 +71,12 @@ scalars_next (x ∷ xs) c n e = go n (sequence_least (x ∷ xs) c n e) e
     go (suc m) h p =
         let d : suc m - 1 ≡ m = omega arith in
         rw (p, scalars_from) (rw d (ap (λ (r : List ℕ). c ∷ r) (scalars_skip xs m)))
+
+-- where the code read no scalar
+pub none_left : (l : List ℕ) (s : Sequence) → s ≡ sequence l → ((c n : ℕ) → s ≡ Scalar c n → ⊥) → scalars l ≡ []
+unfolding scalars scalars_from
+none_left [] s e h = refl
+none_left (x ∷ xs) s e h = rw (not_scalar (x ∷ xs) s e h (omega arith), scalars_from)
 
 -- ---- (3) from scalars to a text
 
