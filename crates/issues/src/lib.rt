@@ -7,7 +7,7 @@ ghost use Rattle.issues.specs.Issue.{numbers_of};
 
 /// Kinds of decoding problems, in the Rust's order. A set is 01's number of it, a code the GL form
 /// (two bytes as 16 bits).
-#[derive(Clone, Copy)]
+#[derive(Clone, Copy, Debug, PartialEq, Eq)]
 pub enum IssueKind {
     /// An escape sequence that Tables 7-1 to 7-3 do not list: its start in the input and its length.
     UnknownEscape { start: u32, len: u32 },
@@ -42,7 +42,7 @@ pub enum IssueKind {
 pub const NUMBERS: usize = 5;
 
 /// Those beside the offset and the position: the kind, 1 to 13, and two fields, 0 where unused.
-#[derive(Clone, Copy)]
+#[derive(Clone, Copy, Debug, PartialEq, Eq)]
 pub struct Numbers {
     pub kind: u32,
     pub first: u32,
@@ -53,72 +53,25 @@ impl IssueKind {
     pub fn numbers(self) -> Numbers
         ensures { result ≡ numbers_of self }
     {
-        match self {
-            IssueKind::UnknownEscape { start, len } => Numbers {
-                kind: 1,
-                first: start,
-                second: len,
-            },
-            IssueKind::UndefinedControl(code) => Numbers {
-                kind: 2,
-                first: code as u32,
-                second: 0,
-            },
-            IssueKind::MalformedControl(code) => Numbers {
-                kind: 3,
-                first: code as u32,
-                second: 0,
-            },
-            IssueKind::Truncated => Numbers {
-                kind: 4,
-                first: 0,
-                second: 0,
-            },
-            IssueKind::UndefinedCode { set, code } => Numbers {
-                kind: 5,
-                first: set as u32,
-                second: code as u32,
-            },
-            IssueKind::UnsupportedCode { set, code } => Numbers {
-                kind: 6,
-                first: set as u32,
-                second: code as u32,
-            },
-            IssueKind::Drcs { n, code } => Numbers {
-                kind: 7,
-                first: n as u32,
-                second: code as u32,
-            },
-            IssueKind::Mosaic { set, code } => Numbers {
-                kind: 8,
-                first: set as u32,
-                second: code as u32,
-            },
-            IssueKind::UndefinedMacro(code) => Numbers {
-                kind: 9,
-                first: code as u32,
-                second: 0,
-            },
-            IssueKind::MacroLimit => Numbers {
-                kind: 10,
-                first: 0,
-                second: 0,
-            },
-            IssueKind::LoneSingleShift => Numbers {
-                kind: 11,
-                first: 0,
-                second: 0,
-            },
-            IssueKind::DanglingNonSpacing => Numbers {
-                kind: 12,
-                first: 0,
-                second: 0,
-            },
-            IssueKind::RepeatToEndOfLine => Numbers {
-                kind: 13,
-                first: 0,
-                second: 0,
-            },
+        let (kind, first, second) = match self {
+            IssueKind::UnknownEscape { start, len } => (1, start, len),
+            IssueKind::UndefinedControl(code) => (2, u32::from(code), 0),
+            IssueKind::MalformedControl(code) => (3, u32::from(code), 0),
+            IssueKind::Truncated => (4, 0, 0),
+            IssueKind::UndefinedCode { set, code } => (5, u32::from(set), u32::from(code)),
+            IssueKind::UnsupportedCode { set, code } => (6, u32::from(set), u32::from(code)),
+            IssueKind::Drcs { n, code } => (7, u32::from(n), u32::from(code)),
+            IssueKind::Mosaic { set, code } => (8, u32::from(set), u32::from(code)),
+            IssueKind::UndefinedMacro(code) => (9, u32::from(code), 0),
+            IssueKind::MacroLimit => (10, 0, 0),
+            IssueKind::LoneSingleShift => (11, 0, 0),
+            IssueKind::DanglingNonSpacing => (12, 0, 0),
+            IssueKind::RepeatToEndOfLine => (13, 0, 0),
+        };
+        Numbers {
+            kind,
+            first,
+            second,
         }
     }
 }

@@ -1,6 +1,5 @@
 -- A text that moves up in its own buffer, a character at a time. Assumes nothing.
 use mathlib.Core.Path.{◌≡◌, refl, sym, ap, ap₂, ◌∙◌}
-use mathlib.Core.Logic.{◌⊎◌, inl, inr}
 use mathlib.Core.List.{List, [], ◌∷◌, ◌++◌, append-nil, append_assoc}
 use Prim.Native.Nat.{ℕ, zero, suc, ◌+◌, ◌≤◌}
 use native.Mathlib.Omega.{arith}
@@ -8,9 +7,9 @@ use lib.ListN.{length, take, drop, length-drop}
 use lib.Seq.{sets, length-sets, length-take-le, drop-drop}
 use Rattle.lent.specs.Put.{Put}
 use Rattle.lent.proofs.Stores.{take_sets, drop_sets}
-use Rattle.utf8.specs.declared.Sequence.TheVariants.{Scalar, Fault, End}
-use Rattle.utf8.specs.Utf8.{utf8s, sequence, scalars_from, scalars}
-use Rattle.utf8.proofs.Reading.{sequence_begins, sequence_not_end}
+use Rattle.utf8.specs.declared.Sequence.TheVariants.{Scalar}
+use Rattle.utf8.specs.Utf8.{utf8s, sequence, scalars}
+use Rattle.utf8.proofs.Reading.{sequence_begins}
 use Rattle.utf8.proofs.Texts.{sequence_least, sequence_within, scalars_next}
 use Rattle.questions.specs.Buffer.{padded, cleared}
 use Rattle.key_text.specs.KeyText.{key_char, kept, key_text}
@@ -74,22 +73,16 @@ turned t₀ t at to c n m e p = rw (p.written, p.next) (turn t₀ t at to c n m 
 
 -- ---- the end
 
-scalars_none : (l : List ℕ) → (sequence l ≡ Fault) ⊎ (sequence l ≡ End) → scalars l ≡ []
-unfolding scalars scalars_from
-scalars_none [] e = refl
-scalars_none (x ∷ xs) (inl e) = rw (e, scalars_from)
-scalars_none (x ∷ xs) (inr e) = absurd (sequence_not_end x xs e)
-
 cleared_take : (l : List ℕ) (j : ℕ) → cleared l j ≡ padded (length l) (take j l)
 unfolding cleared padded
 cleared_take [] j = refl
 cleared_take (x ∷ l) zero = ap (λ (r : List ℕ). 0 ∷ r) (cleared_take l zero)
 cleared_take (x ∷ l) (suc j) = ap (λ (r : List ℕ). x ∷ r) (cleared_take l j)
 
-pub moved_all : (t₀ t : List ℕ) (at to : ℕ) → Moved t₀ t at to → (sequence (drop at t) ≡ Fault) ⊎ (sequence (drop at t) ≡ End) → Removed t₀ to (cleared t to)
+pub moved_all : (t₀ t : List ℕ) (at to : ℕ) → Moved t₀ t at to → scalars (drop at t) ≡ [] → Removed t₀ to (cleared t to)
 unfolding key_text utf8s
 moved_all t₀ t at to m e =
-    let z : scalars (drop at t₀) ≡ [] = ap scalars (sym m.rest) ∙ scalars_none (drop at t) e in
+    let z : scalars (drop at t₀) ≡ [] = ap scalars (sym m.rest) ∙ e in
     let q : take to t ≡ utf8s (key_text (scalars t₀)) = sym (append-nil (take to t)) ∙ (ap (λ (l : List ℕ). take to t ++ utf8s (key_text l)) (sym z) ∙ m.same) in
     record {
       len = sym (length-take-le to t (omega (arith, m.order, m.within, m.long))) ∙ ap length q;

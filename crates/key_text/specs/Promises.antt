@@ -1,16 +1,14 @@
 -- What the functions of keys promise.
-use Rattle.std.specs.Prelude.{ℕ, ◌≡◌, List, length}
+use Rattle.std.specs.Prelude.{ℕ, ◌≡◌, List, length, Option as Optional, Some, None}
 use Rattle.std.proofs.Math.Option.{Option, none, some}
 use Rattle.utf8.specs.Utf8.{utf8s, scalars}
 use Rattle.questions.specs.Buffer.{padded}
 use Rattle.key_text.specs.KeyText.{key_text}
-use Rattle.key_text.specs.declared.Kept.{Kept}
-use Rattle.key_text.specs.declared.Kept.TheVariants.{Char, Nothing}
 
 -- what an answer says that a key has for a character
-abbrev pub kept_of : Kept → Option ℕ
-kept_of (Char c) = some c
-kept_of Nothing = none
+abbrev pub kept_of : Optional ℕ → Option ℕ
+kept_of (Some c) = some c
+kept_of None = none
 
 -- a text's key takes its place: the text up to its first fault, if it has one
 pub record Removed (text : List ℕ) (r : ℕ) (after : List ℕ) : Type 0 where

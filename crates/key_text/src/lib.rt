@@ -10,24 +10,17 @@ ghost use Rattle.key_text.specs.Promises.{kept_of, Removed};
 
 use utf8::Sequence;
 
-/// What a key has for a character.
-#[derive(Clone, Copy)]
-pub enum Kept {
-    Char(u32),
-    Nothing,
-}
-
-/// The rule of a key, character by character. The full-width forms of the 94 alphanumerics are a run, and that of YEN
+/// The rule of a key, character by character: what a key has for one, if anything. The full-width forms of the 94 alphanumerics are a run, and that of YEN
 /// SIGN, which the set has in the place of backslash. What is kept takes no more bytes than what it stands for.
-pub fn key_char(c: u32) -> Kept
+pub fn key_char(c: u32) -> Option<u32>
     ensures { kept_of result ≡ key_char c }
 {
     match c {
-        0x0A | 0x20 | 0x3000 => Kept::Nothing,
-        0xFF3C => Kept::Char(c),
-        0xFF01..=0xFF5E => Kept::Char(c - 0xFF01 + 0x21),
-        0xFFE5 => Kept::Char(0xA5),
-        _ => Kept::Char(c),
+        0x0A | 0x20 | 0x3000 => None,
+        0xFF3C => Some(c),
+        0xFF01..=0xFF5E => Some(c - 0xFF01 + 0x21),
+        0xFFE5 => Some(0xA5),
+        _ => Some(c),
     }
 }
 
@@ -36,10 +29,9 @@ fn put(text: &mut [u8], at: usize, c: u32) -> usize
     requires { at ≤ length text.old }
     ensures { Put text.old at (utf8s (kept (key_char c) [])) text.new result }
 {
-    let k = key_char(c);
-    match k {
-        Kept::Char(x) => at + utf8::put(text, at, x),
-        Kept::Nothing => at,
+    match key_char(c) {
+        Some(x) => at + utf8::put(text, at, x),
+        None => at,
     }
 }
 
@@ -50,11 +42,7 @@ pub fn remove(text: &mut [u8]) -> usize
 {
     let mut at = 0;
     let mut to = 0;
-    loop {
-        let s = utf8::read(text, at);
-        let Sequence::Scalar(c, n) = s else {
-            break;
-        };
+    while let Sequence::Scalar(c, n) = utf8::read(text, at) {
         to = put(text, to, c);
         at += n;
     }

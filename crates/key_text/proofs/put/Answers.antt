@@ -8,11 +8,11 @@ use Rattle.key_text.proofs.put.Goals as goal
 
 pub overflow_add-result : goal.overflow_add-result
 overflow_add-result c =
-    omega (arith, c.put.ensures.count, length_utf8 c.in-Char.x, c.well_formed, c.requires)
+    omega (arith, c.put.ensures.count, length_utf8 c.in-Some.x, c.well_formed, c.requires)
 
-pub returns-in-Char : goal.returns-in-Char
-returns-in-Char c =
-    put_char _ _ _ _ _ _ (sym c.key_char-k.ensures ∙ ap kept_of c.in-Char.is) c.put.ensures
+pub returns-in-Some : goal.returns-in-Some
+returns-in-Some c =
+    put_char _ _ _ _ _ _ (sym c.key_char.ensures ∙ ap kept_of c.in-Some.is) c.put.ensures
 
-pub returns-in-Nothing : goal.returns-in-Nothing
-returns-in-Nothing c = put_nothing _ _ _ (sym c.key_char-k.ensures ∙ ap kept_of c.in-Nothing.is)
+pub returns-in-None : goal.returns-in-None
+returns-in-None c = put_nothing _ _ _ (sym c.key_char.ensures ∙ ap kept_of c.in-None.is)
