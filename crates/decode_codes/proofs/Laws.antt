@@ -1,7 +1,7 @@
 -- The definitions of reading/specs/Characters by cases: what reading a code and writing its character have in common. Assumes nothing.
 use Prim.Native.Nat.{ℕ, zero, suc, ◌+◌, ◌-◌, ◌*◌, ◌/◌, ◌%◌, ◌≤◌, ◌<◌}
 use mathlib.Core.Path.{◌≡◌, refl, sym, ap, ◌∙◌}
-use mathlib.Core.Bool.{Bool, true, false, false≢true, cond, ◌&&◌, ◌||◌}
+use mathlib.Core.Bool.{Bool, true, false, cond, ◌&&◌, ◌||◌}
 use mathlib.Core.List.{List}
 use native.Mathlib.Omega.{arith}
 use borrow.Author.Tests.{eqb-true, leb-true, ne_eqb, lt-leb}
@@ -30,14 +30,6 @@ emit_some kind at s zero h = absurd (h refl)
 emit_some kind at s (suc c) h = refl
 
 -- ---- bytes of GL and GR
-
-pub and_same : (u : Bool) {v : Bool} → v ≡ true → u ≡ (u && v)
-and_same true e = sym e
-and_same false e = refl
-
-pub and_other : (u : Bool) {v : Bool} → v ≡ false → false ≡ (u && v)
-and_other true e = sym e
-and_other false e = refl
 
 pub and_left : (u v : Bool) → (u && v) ≡ true → u ≡ true
 and_left true v e = refl
@@ -117,12 +109,6 @@ module _ (narrow : Bool) (c : ℕ) where
   unfolding letter
   letter_wide e = rw e (fullwidth_at c)
 
-  pub letter_none : {z : ℕ} → (z ≡ 1 → ⊥) → (z ≡ 2 → ⊥) → (z ≡ 3 → ⊥) → (z ≡ 8 → ⊥) → (z ≡ 9 → ⊥) → (z ≡ 10 → ⊥) → (z ≡ 11 → ⊥)
-      → 0 ≡ letter narrow z c
-  unfolding letter
-  letter_none {z} h1 h2 h3 h8 h9 h10 h11 =
-      rw (ne_eqb z 1 h1, ne_eqb z 8 h8, ne_eqb z 2 h2, ne_eqb z 9 h9, ne_eqb z 3 h3, ne_eqb z 10 h10, ne_eqb z 11 h11)
-
 -- ---- steps
 
 module _ (g : Given) (z x : ℕ) (b : List ℕ) (j at : ℕ) (s : State) where
@@ -139,28 +125,3 @@ module _ (g : Given) (left : ℕ) (R : Run) (z x : ℕ) (rest : List ℕ) (at : 
   pub graphic_one : eqb (bytes_per_char z) 2 ≡ false → graphic_of g left R z x rest at s ≡ took 1 (char1 g left R z (x % 128) at s)
   unfolding graphic_of
   graphic_one e = rw e
-
--- ---- which table a two-byte set reads
-
-module _ (cells : List ℕ) (z row cell : ℕ) where
-  pub cell_kanji : (eqb z 0 || (eqb z 12 && leb row 84)) ≡ true → cell_at cells z row cell ≡ kanji_at cells row cell
-  unfolding cell_at
-  cell_kanji = go (eqb z 0) refl (eqb z 12) refl
-    where
-      go : (a : Bool) → eqb z 0 ≡ a → (b : Bool) → eqb z 12 ≡ b → (a || (b && leb row 84)) ≡ true
-          → cell_at cells z row cell ≡ kanji_at cells row cell
-      go true p b q h = rw p
-      go false p true q h = rw (p, ne_eqb z 14 (λ e. omega (arith, e, eqb-true z 12 q)), q, h)
-      go false p false q h = absurd (false≢true h)
-
-  pub cell_symbol : z ≡ 14 → cell_at cells z row cell ≡ symbol row cell
-  unfolding cell_at
-  cell_symbol e = rw e
-
-  pub cell_none : (eqb z 0 || (eqb z 12 && leb row 84)) ≡ false → (z ≡ 14 → ⊥) → cell_at cells z row cell ≡ 0
-  unfolding cell_at
-  cell_none h f = go (eqb z 0) refl h
-    where
-      go : (a : Bool) → eqb z 0 ≡ a → (a || (eqb z 12 && leb row 84)) ≡ false → cell_at cells z row cell ≡ 0
-      go true p k = absurd (false≢true (sym k))
-      go false p k = rw (p, ne_eqb z 14 f, k)

@@ -29,13 +29,13 @@ module _ (g : Given) (left : ℕ) (R : Run) (z c at : ℕ) (s : State) (h : z �
   char1_drcs p = let a : 4 ≤ z = omega arith in let b : 7 < z = omega arith in rw (ne_eqb z 15 h, le-leb 4 z a, lt-leb z 7 b, le-leb 17 z p)
 
 -- the letter that the code reads, over a state that its struct holds
-pub letter_narrows : {starts lens t₀ i₀ t i : List ℕ} (g : Given) (s : State) {c : Core} (kind : IssueKind) (at z a : ℕ) {x : ℕ} {narrow : Bool}
-    → x ≡ letter narrow z a → narrow ≡ (c.annex || c.narrow) → Holds g t₀ i₀ s (whole c starts lens) t i
-    → emit_or kind x at s ≡ emit_or kind (letter (is_narrow g s) z a) at s
+pub letter_narrows : {starts lens t₀ i₀ t i : List ℕ} (g : Given) (s : State) {c : Core} (kind : IssueKind) (at z a : ℕ) {narrow : Bool}
+    → narrow ≡ (c.annex || c.narrow) → Holds g t₀ i₀ s (whole c starts lens) t i
+    → emit_or kind (letter narrow z a) at s ≡ emit_or kind (letter (is_narrow g s) z a) at s
 unfolding is_narrow
-letter_narrows g s kind at z a {narrow = narrow} e n h =
+letter_narrows g s kind at z a {narrow = narrow} n h =
     let q : narrow ≡ (g.annex_e || s.narrow) = n ∙ (λ j. (h.state j).core.annex || (h.state j).core.narrow) in
-    ap (λ (y : ℕ). emit_or kind y at s) (e ∙ ap (λ (u : Bool). letter u z a) q)
+    ap (λ (u : Bool). emit_or kind (letter u z a) at s) q
 
 -- ---- steps
 

@@ -60,13 +60,12 @@ fn char1(set: u8, c: u8, at: u32, s: Core, text: &mut [u8], issues: &mut [u32]) 
             issues,
         ),
         _ => {
-            let x = decode_codes::letter_at(decode_codes::is_narrow(s.annex, s.narrow), set, c);
+            let narrow = decode_codes::is_narrow(s.annex, s.narrow);
+            let letter = decode_codes::letter_at(narrow, set, c);
+            let code = c as u16;
             decode_characters::emit_or(
-                x,
-                IssueKind::UndefinedCode {
-                    set: set,
-                    code: c as u16,
-                },
+                letter,
+                IssueKind::UndefinedCode { set, code },
                 at,
                 s,
                 text,
@@ -81,8 +80,10 @@ fn truncated(at: u32, s: Core, issues: &mut [u32]) -> Stepped
     requires { MayTake 1 s }
     ensures { (cells b t : List ℕ) (i : ℕ) → i < length b → TookOver cells b i (λ g. truncated 1 at) s t issues.old result t issues.new }
 {
-    let r = decode_characters::report(at, IssueKind::Truncated, s, issues);
-    Stepped { used: 1, core: r }
+    Stepped {
+        used: 1,
+        core: decode_characters::report(at, IssueKind::Truncated, s, issues),
+    }
 }
 
 /// A character of a two-byte set that begins at a place: its second byte is in the same area, or it is none.
@@ -101,19 +102,16 @@ fn graphic2(
         text.old issues.old result text.new issues.new }
 {
     let i = p.i;
-    if i + 1 >= b.len() {
-        return truncated(p.at, s, issues);
-    }
-    let x = b[i];
-    let y = b[i + 1];
-    if decode_codes::is_second(x, y) {
+    if i + 1 < b.len() && decode_codes::is_second(b[i], b[i + 1]) {
         let c = Code2 {
             set,
-            a: x % 128,
-            b: y % 128,
+            a: b[i] % 128,
+            b: b[i + 1] % 128,
         };
-        let r = char2(cells, c, p.at, s, text, issues);
-        return Stepped { used: 2, core: r };
+        return Stepped {
+            used: 2,
+            core: char2(cells, c, p.at, s, text, issues),
+        };
     }
     truncated(p.at, s, issues)
 }
@@ -137,9 +135,10 @@ pub fn graphic(
     if decode_codes::two_bytes(set) {
         return graphic2(cells, b, p, set, s, text, issues);
     }
-    let i = p.i;
-    let r = char1(set, b[i] % 128, p.at, s, text, issues);
-    Stepped { used: 1, core: r }
+    Stepped {
+        used: 1,
+        core: char1(set, b[p.i] % 128, p.at, s, text, issues),
+    }
 }
 
 /// SS2 or SS3 at a place: one character of G2 or G3. Table 7-1.
@@ -162,16 +161,15 @@ pub fn single_shift(
         return truncated(p.at, s, issues);
     }
     if decode_codes::is_graphic(b[i]) {
-        let sets = s.sets;
-        let set = sets[element];
-        let next = At { i, at: p.at };
-        let w = graphic(cells, b, next, set, s, text, issues);
-        let core = w.core;
+        let next = At { i, ..p };
+        let w = graphic(cells, b, next, s.sets[element], s, text, issues);
         return Stepped {
             used: w.used + 1,
-            core: core,
+            ..w
         };
     }
-    let r = decode_characters::report(p.at, IssueKind::LoneSingleShift, s, issues);
-    Stepped { used: 1, core: r }
+    Stepped {
+        used: 1,
+        core: decode_characters::report(p.at, IssueKind::LoneSingleShift, s, issues),
+    }
 }

@@ -1,2 +1,1 @@
 pub mod Spelling
-pub mod Pairs

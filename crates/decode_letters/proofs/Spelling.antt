@@ -34,7 +34,7 @@ use Rattle.decode_codes.specs.Codes.{cell_at, issue_of}
 use Rattle.decode_codes.proofs.Letters.{letter_ordinary}
 use Rattle.decode_codes.proofs.Laws.{in_area, emit_some, char2_as, char1_letter, graphic2_pair, graphic_two, graphic_one}
 use Rattle.decode_letters.specs.declared.Invoked.{Invoked}
-use Rattle.decode_letters.specs.Promises.{LetterCell, Pair, PairReads, Ideograph, Sees, Spells, Reads, Takes}
+use Rattle.decode_letters.specs.Promises.{Pair, PairReads, Ideograph, Sees, Spells, Reads, Takes}
 
 -- ---- a byte of GL or GR reads through the set there
 
@@ -265,10 +265,8 @@ module _ (cells b : List ℕ) (j to : ℕ) (v : Invoked) (inside : j < to) where
     reads_pair {c} two h w =
         record { some = omega arith; within = omega arith; most = omega (arith, (length_utf8 c).most); spells = spells_pair cells b j v byte e two w }
 
-    pub takes_letter : {l : ℕ} (x : Cell) → l ≡ letter v.narrow z (get_or b j 0 % 128) → LetterCell x l → Takes cells b j to v 1 x
-    takes_letter (Char c) q f = let i = sym f.0 ∙ q in (reads_letter i f.1, letter_plain v.narrow z (get_or b j 0 % 128) i)
-    takes_letter (PrivateUse c) q f = absurd f
-    takes_letter Undefined q f = tt
+    pub takes_letter : {l : ℕ} → letter v.narrow z (get_or b j 0 % 128) ≡ l → 1 ≤ l → Takes cells b j to v 1 (Char l)
+    takes_letter q f = let i = sym q in (reads_letter i (λ e. omega arith), letter_plain v.narrow z (get_or b j 0 % 128) i)
 
     pub takes_pair : (x : Cell) → eqb (bytes_per_char z) 2 ≡ true → PairReads cells b j to z x → Takes cells b j to v 2 x
     takes_pair (Char c) two w = (reads_pair two w.0 w.1, w.2)

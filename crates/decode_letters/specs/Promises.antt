@@ -19,12 +19,6 @@ Spacing x (Char c) = (x ≡ c) × (c ≡ 0 → ⊥) × (has_character non_spacin
 Spacing x (PrivateUse c) = (x ≡ c) × (c ≡ 0 → ⊥) × (has_character non_spacing c ≡ false) × (is_private_use c ≡ true)
 Spacing x Undefined = Unit {0}
 
--- an answer of the letter c, 0 for none
-abbrev pub LetterCell : Cell → ℕ → Type 0
-LetterCell (Char c) l = (l ≡ c) × (c ≡ 0 → ⊥)
-LetterCell (PrivateUse c) l = ⊥
-LetterCell Undefined l = l ≡ 0
-
 -- the bytes i and i + 1 of b are a code of a two-byte set ("A two-byte character needs its second byte in the same half"), at which the set z has
 -- the character c, no mark
 pub record Pair (cells b : List ℕ) (i z c : ℕ) : Type 0 where

@@ -2,12 +2,12 @@
 // no mark. From `graphic`, `char1` and `char2` of decode.rs, over numbers alone.
 #![tactic(auto)]
 
-ghost use Rattle.std.specs.Prelude.{◌≡◌, true, cond, ℕ, ◌+◌, ◌≤◌, ◌<◌, ltb, length, get_or};
+ghost use Rattle.std.specs.Prelude.{◌≡◌, true, cond, ℕ, ◌+◌, ◌≤◌, ◌<◌, ltb, length, get_or, IfSome};
 ghost use Rattle.std.proofs.lemmas.List.Edits.{sets};
 ghost use Rattle.utf8.specs.Utf8.{utf8};
 ghost use Rattle.tables.specs.Kanji.{CellReads};
 ghost use Rattle.reading.specs.Characters.{is_graphic, letter};
-ghost use Rattle.decode_letters.specs.Promises.{Spacing, LetterCell, PairReads, Ideograph, Takes};
+ghost use Rattle.decode_letters.specs.Promises.{Spacing, PairReads, Ideograph, Takes};
 
 use control::{APR, SP};
 use tables::Cell;
@@ -31,56 +31,42 @@ pub struct Taken {
 pub fn set_of(x: u8, gl: u8, gr: u8) -> u8
     ensures { result ≡ cond (ltb x 128) gl gr }
 {
-    if x < 128 {
-        return gl;
-    }
-    gr
+    if x < 128 { gl } else { gr }
 }
 
 /// The character of the Kanji set at the bytes `i` and `i + 1`, of rows 3 to 84, which the lent table alone decides, from
-/// U+3000 on and before the private-use ones; 0 for any other.
-pub fn kanji_at(cells: &[u16], b: &[u8], i: usize) -> u32
+/// U+3000 on and before the private-use ones.
+pub fn kanji_at(cells: &[u16], b: &[u8], i: usize) -> Option<u32>
     requires { (i < length b.now) × (8836 ≤ length cells.now) }
-    ensures { (result ≡ 0 → ⊥) → Ideograph cells.now b.now i result }
+    ensures { IfSome result (Ideograph cells.now b.now i) }
 {
     let x = b[i];
     let row = (x % 128) as usize;
-    if row < 0x23 {
-        return 0;
-    }
-    if row > 0x74 {
-        return 0;
-    }
-    if i + 1 >= b.len() {
-        return 0;
+    if !matches!(row, 0x23..=0x74) || i + 1 >= b.len() {
+        return None;
     }
     let y = b[i + 1];
-    if x / 128 != y / 128 {
-        return 0;
-    }
     let cell = (y % 128) as usize;
-    if cell < 0x21 {
-        return 0;
-    }
-    if cell > 0x7E {
-        return 0;
+    if x / 128 != y / 128 || !matches!(cell, 0x21..=0x7E) {
+        return None;
     }
     let c = cells[(row - 0x21) * 94 + (cell - 0x21)] as u32;
     match c {
-        0x3000..=0xDFFF => c,
-        _ => 0,
+        0x3000..=0xDFFF => Some(c),
+        _ => None,
     }
 }
 
-/// The letter of the alphanumeric, the hiragana or the katakana set, with which a reading begins; 0 for any other.
-pub fn initial_at(narrow: bool, set: u8, c: u8) -> u32
-    ensures { (result ≡ 0 → ⊥) → result ≡ letter narrow set c }
+/// The letter of the alphanumeric, the hiragana or the katakana set, with which a reading begins; none of any other.
+#[tactic(auto, unfolding(reading::specs::Characters::letter))]
+pub fn initial_at(narrow: bool, set: u8, c: u8) -> Option<u32>
+    ensures { IfSome result (λ l. (l ≡ letter narrow set c) × (1 ≤ l)) }
 {
     match set {
         1 => decode_codes::alphanumeric_at(narrow, c),
-        2 => decode_codes::scalar(tables_onebyte::hiragana(c)),
-        3 => decode_codes::scalar(tables_onebyte::katakana(c)),
-        _ => 0,
+        2 => tables_onebyte::hiragana(c),
+        3 => tables_onebyte::katakana(c),
+        _ => None,
     }
 }
 
@@ -95,29 +81,14 @@ pub fn put3(text: &mut [u8], at: usize, c: u32)
 }
 
 /// What a cell reads as, none for a mark.
+#[tactic(auto, using(tables::proofs::MarkLaws::tested, tables::proofs::Cases::private_some, tables::proofs::Cases::private_spacing))]
 fn spacing(cell: Cell) -> Cell
     ensures { (x : ℕ) → CellReads cell x → Spacing x result }
 {
     match cell {
-        Cell::Char(c) => {
-            if tables::is_non_spacing(c).mark {
-                return Cell::Undefined;
-            }
-            Cell::Char(c)
-        }
-        Cell::PrivateUse(c) => Cell::PrivateUse(c),
-        Cell::Undefined => Cell::Undefined,
+        Cell::Char(c) if tables::is_non_spacing(c).mark => Cell::Undefined,
+        other => other,
     }
-}
-
-/// A letter, 0 for none, as a cell.
-fn letter(c: u32) -> Cell
-    ensures { LetterCell result c }
-{
-    if c == 0 {
-        return Cell::Undefined;
-    }
-    Cell::Char(c)
 }
 
 /// The character of a two-byte set at the bytes `i` and `i + 1`, before the byte `to`; none for a mark.
@@ -125,14 +96,9 @@ fn pair_at(cells: &[u16], b: &[u8], i: usize, to: usize, set: u8) -> Cell
     requires { (i < to) × (to ≤ length b.now) × (is_graphic (get_or b.now i 0) ≡ true) }
     ensures { PairReads cells.now b.now i to set result }
 {
-    if i + 1 >= to {
-        return Cell::Undefined;
-    }
-    let x = b[i];
-    let y = b[i + 1];
-    if decode_codes::is_second(x, y) {
-        let row = x % 128 - 0x20;
-        let cell = y % 128 - 0x20;
+    if i + 1 < to && decode_codes::is_second(b[i], b[i + 1]) {
+        let row = b[i] % 128 - 0x20;
+        let cell = b[i + 1] % 128 - 0x20;
         return spacing(decode_codes::cell_at(cells, set, row, cell));
     }
     Cell::Undefined
@@ -151,10 +117,11 @@ fn graphic(cells: &[u16], b: &[u8], i: usize, to: usize, sets: Invoked) -> Taken
             used: 2,
         };
     }
-    Taken {
-        cell: letter(decode_codes::letter_at(sets.narrow, set, x % 128)),
-        used: 1,
-    }
+    let cell = match decode_codes::letter_at(sets.narrow, set, x % 128) {
+        Some(c) => Cell::Char(c),
+        None => Cell::Undefined,
+    };
+    Taken { cell, used: 1 }
 }
 
 /// SP. Table 7-14, Annex E.4.
@@ -178,8 +145,7 @@ pub fn character(cells: &[u16], b: &[u8], i: usize, to: usize, sets: Invoked) ->
             cell: Cell::Char(0x0A),
             used: 1,
         },
-        0x21..=0x7E => graphic(cells, b, i, to, sets),
-        0xA1..=0xFE => graphic(cells, b, i, to, sets),
+        0x21..=0x7E | 0xA1..=0xFE => graphic(cells, b, i, to, sets),
         _ => Taken {
             cell: Cell::Undefined,
             used: 1,

@@ -1,13 +1,12 @@
 -- Runs of characters and controls, one after the other. Assumes nothing.
 use Prim.Native.Nat.{ℕ, ◌+◌, ◌-◌, ◌*◌, ◌^◌, ◌≤◌, ◌<◌}
 use mathlib.Core.Path.{◌≡◌, refl, sym, ap, subst, ◌∙◌}
-use mathlib.Core.Bool.{Bool, true, false, ◌||◌}
+use mathlib.Core.Bool.{Bool, true, false, not, ◌||◌}
 use lib.Dec.{eqb}
 use mathlib.Core.List.{List, [], ◌∷◌}
 use native.Mathlib.Omega.{arith}
 use lib.ListN.{length, take, drop, get_or}
 use lib.Seq.{sets, length-sets, get_or-take}
-use Rattle.lent.proofs.Stores.{sets_out}
 use Rattle.private_use.specs.PrivateUse.{is_private_use, private_use}
 use Rattle.private_use.proofs.Laws.{count_most, count_ordinary}
 use Rattle.utf8.specs.Utf8.{utf8}
@@ -23,11 +22,14 @@ use Rattle.decode_state.specs.Promises.{whole, Holds, Goes, MayTake, Stretch}
 use Rattle.decode_state.proofs.Lift.{with_out, holds_writes}
 use Rattle.decode_state.proofs.Steps.{goes_none, goes_on, goes_later, goes_step}
 use Rattle.decode_settings.specs.Promises.{with_settings, Settings, Controls}
-use Rattle.decode_settings.proofs.Turning.{seven}
 use Rattle.decode_letters.specs.declared.Invoked.{Invoked}
 use Rattle.decode_letters.specs.Promises.{Sees, Spells, Reads}
-use Rattle.decode_runs.specs.Promises.{Space, with_text, Plain, Letters, Counted, Behind, core_at, RunsTo, Begins}
+use Rattle.decode_runs.specs.Promises.{Space, with_text, Plain, Letters, Behind, core_at, RunsTo, Begins}
 use Rattle.decode_runs.specs.declared.Reached.{Reached}
+
+-- a const parameter as a clause has it
+abbrev pub flag : ℕ → Bool
+flag n = not (eqb n 0)
 
 sees : {v : Invoked} {n p m q : ℕ} {g : Given} {c : Core} {starts lens t₀ i₀ t i : List ℕ} {s : State} → Plain v n p c
     → Holds g t₀ i₀ s (whole (with_text c m q) starts lens) t i → Sees v g s
@@ -46,11 +48,11 @@ sees p h =
 abbrev with_waiting : ℕ → ℕ → ℕ → Core → Core
 with_waiting w n p c = with_out c (record { len = n; end = n; waiting = w; first = 0; repeat = 0; issues = c.out.issues; private_use = p })
 
--- the loop: what is spelt up to the byte j₁, the text as long as it was, and room for three bytes a byte before `to`
-pub record Spelt (cells b : List ℕ) (to j : ℕ) (v : Invoked) (n p : ℕ) (t : List ℕ) (j₁ n₁ : ℕ) (t₁ : List ℕ) : Type 0 where
+-- the loop: what is spelt up to the byte j₁, the text as long as it was, and room for three bytes a byte before `to`, or none at all
+pub record Spelt (fits : Bool) (cells b : List ℕ) (to j : ℕ) (v : Invoked) (n p : ℕ) (t : List ℕ) (j₁ n₁ : ℕ) (t₁ : List ℕ) : Type 0 where
   pub letters : Letters cells b to j v n p t j₁ n₁ p t₁
   pub as_long : length t₁ ≡ length t
-  pub room : n₁ + 3 * (to - j₁) ≤ length t
+  pub room : Space fits n₁ (to - j₁) (length t)
 
 -- the space that is left when more is written, in a text that is as long as it was
 pub space_on : {fits : Bool} {n m k n₁ m₁ k₁ : ℕ} → n ≤ n₁ → n₁ + 3 * m₁ ≤ n + 3 * m → k₁ ≡ k → Space fits n m k → Space fits n₁ m₁ k₁
@@ -88,7 +90,8 @@ module _ {cells b : List ℕ} {to j : ℕ} {v : Invoked} {n p : ℕ} {t : List �
         most = omega arith;
         few = omega (arith, few, q, e, (length_utf8 l).least, count_most 1 l);
         goes = λ g ce left R base origin i starts lens c f.
-            goes_on g left R base origin b to j (whole c starts lens) t i j₁ (whole (with_text c n₁ p₁) starts lens) t₁ i (j₁ + u) (whole (with_text c (n₁ + w) p₂) starts lens) t₂ i
+            goes_on g left R base origin b to j (whole c starts lens) t i j₁ (whole (with_text c n₁ p₁) starts lens) t₁ i (j₁ + u)
+            (whole (with_text c (n₁ + w) p₂) starts lens) t₂ i
             (before.goes g ce left R base origin i starts lens c f)
             (goes_step g left R base origin b to j₁ (with_text c n₁ p₁) t₁ i u (with_text c (n₁ + w) p₂) t₂ i starts lens begins (omega arith) a within
             record {
@@ -114,47 +117,27 @@ module _ {cells b : List ℕ} {to j : ℕ} {v : Invoked} {n p : ℕ} {t : List �
             });
       }
 
-module _ {cells b : List ℕ} {to j : ℕ} {v : Invoked} {n p : ℕ} {t : List ℕ} where
-  pub spelt_start : j ≤ length b → n + 3 * (to - j) ≤ length t → Spelt cells b to j v n p t j n t
+module _ {fits : Bool} {cells b : List ℕ} {to j : ℕ} {v : Invoked} {n p : ℕ} {t : List ℕ} where
+  pub spelt_start : j ≤ length b → Space fits n (to - j) (length t) → Spelt fits cells b to j v n p t j n t
   spelt_start h r = record { letters = letters_none h; as_long = refl; room = r }
 
   -- an ordinary character more
-  pub spelt_more : {j₁ n₁ : ℕ} {t₁ : List ℕ} (u l : ℕ) {t₂ : List ℕ} {w : ℕ} → Spelt cells b to j v n p t j₁ n₁ t₁ → 1 ≤ u → j₁ < to → j₁ + u ≤ length b
+  pub spelt_more : {j₁ n₁ : ℕ} {t₁ : List ℕ} (u l : ℕ) {t₂ : List ℕ} {w : ℕ} → Spelt fits cells b to j v n p t j₁ n₁ t₁ → 1 ≤ u → j₁ < to → j₁ + u ≤ length b
       → Spells cells b j₁ v u l → is_private_use l ≡ false → w ≡ length (utf8 l) → w ≤ 3 * u → w + 3 * (to - (j₁ + u)) ≤ 3 * (to - j₁)
-      → t₂ ≡ sets t₁ n₁ (utf8 l) → Spelt cells b to j v n p t (j₁ + u) (n₁ + w) t₂
+      → t₂ ≡ sets t₁ n₁ (utf8 l) → Spelt fits cells b to j v n p t (j₁ + u) (n₁ + w) t₂
   spelt_more {j₁} {n₁} {t₁} u l s a begins v k o e m q d = record {
     letters = letters_more u l s.letters a begins v k e m (omega (arith, count_ordinary 1 l o)) d;
     as_long = ap length d ∙ length-sets t₁ n₁ (utf8 l) ∙ s.as_long;
-    room = omega (arith, s.room, q);
+    room = space_on (omega arith) (omega (arith, q)) refl s.room;
   }
 
 -- one character behind what was reached, of which q are private-use
-module _ {cells b : List ℕ} {v : Invoked} {from r : Reached} {to c u q : ℕ} {t t' : List ℕ} {fits : Bool} (within : from.at ≤ length b) (inside : to ≤ length b)
-    (reads : Reads cells b from.at to v u c) (count : private_use (c ∷ []) ≡ q) (space : Space fits from.len (to - from.at) (length t)) (w : Behind from c u q t r t') where
-  pub behind_letters : Letters cells b to from.at v from.len from.private_use t r.at r.len r.private_use t'
-  behind_letters =
-      rw (w.at, w.len, w.private_use)
-      (letters_more u c (letters_none within) reads.some (omega (arith, reads.some, reads.within)) (omega (arith, reads.within, inside)) reads.spells refl reads.most
-      (ap (λ (k : ℕ). from.private_use + k) (sym count)) w.text)
-
-  pub behind_space : Space fits r.len (to - r.at) (length t')
-  behind_space =
-      rw (w.at, w.len)
-      (space_on (omega arith) (omega (arith, reads.within, reads.most)) (ap length w.text ∙ length-sets t from.len (utf8 c)) space)
-
--- the loop that counts
-module _ {cells b : List ℕ} {to j : ℕ} {v : Invoked} {n p : ℕ} where
-  pub counted_start : j ≤ length b → Counted cells b to j v n p j n p
-  counted_start h = record { letters = λ t f. letters_none h; more = omega arith; room = omega arith }
-
-  pub counted_more : {j₁ n₁ : ℕ} (u l : ℕ) {w : ℕ} → Counted cells b to j v n p j₁ n₁ p → 1 ≤ u → j₁ < to → j₁ + u ≤ length b
-      → Spells cells b j₁ v u l → is_private_use l ≡ false → w ≡ length (utf8 l) → w ≤ 3 * u → w + 3 * (to - (j₁ + u)) ≤ 3 * (to - j₁)
-      → Counted cells b to j v n p (j₁ + u) (n₁ + w) p
-  counted_more {j₁} {n₁} u l s a begins v k o e m q = record {
-    letters = λ t f. letters_more u l (s.letters t f) a begins v k e m (omega (arith, count_ordinary 1 l o)) (sym (sets_out (utf8 l) t n₁ (omega (arith, f, s.more))));
-    more = omega (arith, s.more);
-    room = omega (arith, s.room, q);
-  }
+pub behind_letters : {cells b : List ℕ} {v : Invoked} {from r : Reached} {to c u q : ℕ} {t t' : List ℕ} → from.at ≤ length b → to ≤ length b
+    → Reads cells b from.at to v u c → private_use (c ∷ []) ≡ q → Behind from c u q t r t' → Letters cells b to from.at v from.len from.private_use t r.at r.len r.private_use t'
+behind_letters {from = from} {c = c} {u} within inside reads count w =
+    rw (w.at, w.len, w.private_use)
+    (letters_more u c (letters_none within) reads.some (omega (arith, reads.some, reads.within)) (omega (arith, reads.within, inside)) reads.spells refl reads.most
+    (ap (λ (k : ℕ). from.private_use + k) (sym count)) w.text)
 
 -- no step
 pub stretch_none : {cells b : List ℕ} {to j : ℕ} {c : Core} {t i : List ℕ} (base origin : ℕ) → j ≤ length b → MayTake (length b - j) c → Stretch cells base origin b to j c t i j c t i
@@ -199,7 +182,8 @@ module _ {cells b : List ℕ} {to j : ℕ} {annex : Bool} {l : List ℕ} {n p : 
               (whole (core_at l₁ n₂ p₂ c) starts lens) t₂ i
               (r.goes g e left R base origin i starts lens c a)
               (goes_later g left R base origin b to' j₁ (whole (core_at l₁ n₁ p₁ c) starts lens) t₁ i to j₂ (whole (core_at l₁ n₂ p₂ c) starts lens) t₂ i before
-              (w.goes g e left R base origin i starts lens (core_at l₁ n₁ p₁ c) (record { gl = x; gr = y; narrow = z ∙ ap (λ (u : Bool). u || eqb (get_or l₁ 6 0) 1) (sym a); text = refl })));
+              (w.goes g e left R base origin i starts lens (core_at l₁ n₁ p₁ c)
+              (record { gl = x; gr = y; narrow = z ∙ ap (λ (u : Bool). u || eqb (get_or l₁ 6 0) 1) (sym a); text = refl })));
         }
 
     -- controls more
@@ -306,61 +290,6 @@ stretch_runs {cells} {b} {to} {j} {l} {n} {p} {c} {t} {j₁} {l₁} {n₁} {p₁
           subst (λ (z : Core). Goes g left R base origin b to j (whole z starts lens) t i j₁ (whole (core_at l₁ n₁ p₁ c) starts lens) t₁ i) (sym e)
           (w.goes g z left R base origin i starts lens c refl);
     })
-
--- ---- the settings, from the struct and back
-
-pub not-true : {A : Type 0} → false ≡ true → A
-not-true e = let z : ◌≡◌ {A = ℕ} 0 1 = cc in absurd (omega arith)
-
-four_of : (l : List ℕ) → length l ≡ 4 → l ≡ get_or l 0 0 ∷ get_or l 1 0 ∷ get_or l 2 0 ∷ get_or l 3 0 ∷ []
-four_of [] q = absurd (omega arith)
-four_of (a ∷ []) q = absurd (omega arith)
-four_of (a ∷ b ∷ []) q = absurd (omega arith)
-four_of (a ∷ b ∷ c ∷ []) q = absurd (omega arith)
-four_of (a ∷ b ∷ c ∷ d ∷ []) q = refl
-four_of (a ∷ b ∷ c ∷ d ∷ e ∷ r) q = absurd (omega arith)
-
-pub settings_of : (c : Core) (x : ℕ) → length c.sets ≡ 4 → c.narrow ≡ eqb x 1 → (n p : ℕ)
-    → core_at (get_or c.sets 0 0 ∷ get_or c.sets 1 0 ∷ get_or c.sets 2 0 ∷ get_or c.sets 3 0 ∷ c.gl ∷ c.gr ∷ x ∷ []) n p c ≡ with_text c n p
-settings_of c x h q n p =
-    λ k.
-    record {
-      sets = sym (four_of c.sets h) k;
-      gl = c.gl;
-      gr = c.gr;
-      narrow = sym q k;
-      annex = c.annex;
-      enough = c.enough;
-      charged = c.charged;
-      out = record { len = n; end = n; waiting = c.out.waiting; first = 0; repeat = 0; issues = c.out.issues; private_use = p };
-    }
-
-pub core_of_lem : (l : List ℕ) (n p : ℕ) (c : Core) → length l ≡ 7
-    → record {
-      sets = get_or l 0 0 ∷ get_or l 1 0 ∷ get_or l 2 0 ∷ get_or l 3 0 ∷ [];
-      gl = get_or l 4 0;
-      gr = get_or l 5 0;
-      narrow = eqb (get_or l 6 0) 1;
-      annex = c.annex;
-      enough = c.enough;
-      charged = c.charged;
-      out = record { len = n; end = n; waiting = c.out.waiting; first = 0; repeat = 0; issues = c.out.issues; private_use = p };
-    }
-    ≡ core_at l n p c
-core_of_lem l n p c h =
-    let e : get_or l 0 0 ∷ get_or l 1 0 ∷ get_or l 2 0 ∷ get_or l 3 0 ∷ [] ≡ take 4 l =
-    seven (λ (l : List ℕ). get_or l 0 0 ∷ get_or l 1 0 ∷ get_or l 2 0 ∷ get_or l 3 0 ∷ [] ≡ take 4 l) (λ a b c d x y z. refl) l h in
-    λ k.
-    record {
-      sets = e k;
-      gl = get_or l 4 0;
-      gr = get_or l 5 0;
-      narrow = eqb (get_or l 6 0) 1;
-      annex = c.annex;
-      enough = c.enough;
-      charged = c.charged;
-      out = record { len = n; end = n; waiting = c.out.waiting; first = 0; repeat = 0; issues = c.out.issues; private_use = p };
-    }
 
 -- where a run may begin, nothing waits
 pub plain_text : (c : Core) {cells : ℕ} → Begins c.out cells → c ≡ with_text c c.out.len c.out.private_use

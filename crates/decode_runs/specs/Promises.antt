@@ -51,12 +51,6 @@ pub record Letters (cells b : List ℕ) (to j : ℕ) (v : Invoked) (n p : ℕ) (
   pub goes : (g : Given) → g.cells ≡ cells → (left : ℕ) (R : Run) (base origin : ℕ) (i starts lens : List ℕ) (c : Core) → Plain v n p c
       → Goes g left R base origin b to j (whole c starts lens) t i j' (whole (with_text c n' p') starts lens) t' i
 
--- the same run in every text that ends before it, whose bytes stay
-pub record Counted (cells b : List ℕ) (to j : ℕ) (v : Invoked) (n p j' n' p' : ℕ) : Type 0 where
-  pub letters : (t : List ℕ) → length t ≤ n → Letters cells b to j v n p t j' n' p' t
-  pub more : n ≤ n'
-  pub room : n' + 3 * (to - j') ≤ n + 3 * (to - j)
-
 -- a character c of u bytes behind what was reached, of which q are private-use
 pub record Behind (from : Reached) (c u q : ℕ) (t : List ℕ) (r : Reached) (t' : List ℕ) : Type 0 where
   pub at : r.at ≡ from.at + u

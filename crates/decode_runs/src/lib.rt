@@ -3,12 +3,14 @@
 // what they leave is read step by step.
 #![tactic(auto)]
 
-ghost use Rattle.std.specs.Prelude.{◌≡◌, true, ℕ, ◌+◌, ◌-◌, ◌*◌, ◌^◌, ◌≤◌, ◌<◌, List, length};
+ghost use Rattle.std.specs.Prelude.{◌≡◌, Bool, true, false, ℕ, ◌+◌, ◌-◌, ◌*◌, ◌^◌, ◌≤◌, ◌<◌, List, length};
+ghost use Rattle.std.proofs.lemmas.List.Edits.{sets};
+ghost use Rattle.utf8.specs.Utf8.{utf8};
 ghost use Rattle.decode_state.specs.Promises.{MayTake, Stretch};
 ghost use Rattle.decode_settings.specs.Promises.{Settings};
-ghost use Rattle.decode_runs.specs.Promises.{Space, with_text, Letters, Counted, Behind, core_at, RunsTo, Begins};
+ghost use Rattle.decode_runs.specs.Promises.{Space, with_text, Letters, Behind, core_at, RunsTo, Begins};
 
-use decode_letters::Invoked;
+use decode_letters::{Invoked, Taken};
 use decode_output::Out;
 use decode_settings::{GL, GR, NARROW};
 use decode_state::{Core, Far};
@@ -22,19 +24,38 @@ struct Reached {
     private_use: u32,
 }
 
-/// How far a run goes: before the byte `to`, and whether what it writes fits. Where the text is at its end nothing does,
-/// and a run is counted and not written.
-#[derive(Clone, Copy)]
-struct Limit {
-    to: usize,
-    fits: bool,
-}
-
 /// The bytes of a character of the Kanji set.
 const KANJI: usize = 2;
 
-/// A run of ideographs, kana and ASCII before the byte `to`, of which none is private-use.
-fn letters_from(
+/// Writes a character of three bytes where it fits, and answers how many it takes. Behind the end of the text it is counted.
+fn wide<const FITS: bool>(text: &mut [u8], at: usize, c: u32) -> usize
+    requires fits { (FITS ≡ true → at + 3 ≤ length text.old) × (FITS ≡ false → length text.old ≤ at) }
+    requires c_bound { (0x800 ≤ c) × (c < 0x10000) }
+    ensures bytes { text.new ≡ sets text.old at (utf8 c) }
+    ensures count { result ≡ length (utf8 c) }
+{
+    if FITS {
+        decode_letters::put3(text, at, c);
+    }
+    3
+}
+
+/// The same of a character of one byte.
+fn ascii<const FITS: bool>(text: &mut [u8], at: usize, c: u32) -> usize
+    requires fits { (FITS ≡ true → at + 1 ≤ length text.old) × (FITS ≡ false → length text.old ≤ at) }
+    requires c_bound { c < 0x80 }
+    ensures bytes { text.new ≡ sets text.old at (utf8 c) }
+    ensures count { result ≡ length (utf8 c) }
+{
+    if FITS {
+        text[at] = c as u8;
+    }
+    1
+}
+
+/// A run of ideographs, kana and ASCII before the byte `to`, of which none is private-use. It is written where it fits, and
+/// behind the end of the text it is counted.
+fn run_from<const FITS: bool>(
     cells: &[u16],
     b: &[u8],
     from: Reached,
@@ -42,133 +63,42 @@ fn letters_from(
     sets: Invoked,
     text: &mut [u8],
 ) -> Reached
-    requires { (from.at ≤ length b.now) × (to ≤ length b.now) × (8836 ≤ length cells.now) × (from.len + 3 * (to - from.at) ≤ length text.old) }
+    requires at_in_bounds { (from.at ≤ length b.now) × (to ≤ length b.now) × (8836 ≤ length cells.now) }
+    requires space { Space FITS from.len (to - from.at) (length text.old) }
     ensures run { Letters cells.now b.now to from.at sets from.len from.private_use text.old result.at result.len
         result.private_use text.new }
-    ensures room { result.len + 3 * (to - result.at) ≤ length text.new }
+    ensures room { Space FITS result.len (to - result.at) (length text.new) }
 {
-    let gl = sets.gl;
-    let gr = sets.gr;
-    let narrow = sets.narrow;
-    let private_use = from.private_use;
     let mut i = from.at;
     let mut m = from.len;
-    loop {
-        if i >= to {
-            return Reached {
-                at: i,
-                len: m,
-                private_use,
-            };
-        }
+    while i < to {
         let x = b[i];
-        let set = decode_letters::set_of(x, gl, gr);
+        let set = decode_letters::set_of(x, sets.gl, sets.gr);
         if set == 0 {
-            let c = decode_letters::kanji_at(cells, b, i);
-            if c == 0 {
-                return Reached {
-                    at: i,
-                    len: m,
-                    private_use,
-                };
-            }
-            decode_letters::put3(text, m, c);
-            m += 3;
+            let Some(kanji) = decode_letters::kanji_at(cells, b, i) else {
+                break;
+            };
+            m += wide::<FITS>(text, m, kanji);
             i += KANJI;
             continue;
         }
-        let c = decode_letters::initial_at(narrow, set, x % 128);
-        if c >= 0x800 {
-            decode_letters::put3(text, m, c);
-            m += 3;
-            i += 1;
-            continue;
+        let Some(letter) = decode_letters::initial_at(sets.narrow, set, x % 128) else {
+            break;
+        };
+        if letter >= 0x800 {
+            m += wide::<FITS>(text, m, letter);
+        } else if letter < 0x80 {
+            m += ascii::<FITS>(text, m, letter);
+        } else {
+            break;
         }
-        if c == 0 {
-            return Reached {
-                at: i,
-                len: m,
-                private_use,
-            };
-        }
-        if c >= 0x80 {
-            return Reached {
-                at: i,
-                len: m,
-                private_use,
-            };
-        }
-        text[m] = c as u8;
-        m += 1;
         i += 1;
     }
-}
-
-/// The same run behind the end of the text: it is counted and not written.
-fn count_from(cells: &[u16], b: &[u8], from: Reached, to: usize, sets: Invoked) -> Reached
-    requires { (from.at ≤ length b.now) × (to ≤ length b.now) × (8836 ≤ length cells.now) × (from.len + 3 * (to - from.at) ≤ 0x10000000000) }
-    ensures { Counted cells.now b.now to from.at sets from.len from.private_use result.at result.len result.private_use }
-{
-    let gl = sets.gl;
-    let gr = sets.gr;
-    let narrow = sets.narrow;
-    let private_use = from.private_use;
-    let mut i = from.at;
-    let mut m = from.len;
-    loop {
-        if i >= to {
-            return Reached {
-                at: i,
-                len: m,
-                private_use,
-            };
-        }
-        let x = b[i];
-        let set = decode_letters::set_of(x, gl, gr);
-        if set == 0 {
-            if decode_letters::kanji_at(cells, b, i) == 0 {
-                return Reached {
-                    at: i,
-                    len: m,
-                    private_use,
-                };
-            }
-            m += 3;
-            i += KANJI;
-            continue;
-        }
-        let c = decode_letters::initial_at(narrow, set, x % 128);
-        if c == 0 {
-            return Reached {
-                at: i,
-                len: m,
-                private_use,
-            };
-        }
-        m += utf8::width(c);
-        i += 1;
+    Reached {
+        at: i,
+        len: m,
+        ..from
     }
-}
-
-/// Such a run, written or counted.
-fn run_from(
-    cells: &[u16],
-    b: &[u8],
-    from: Reached,
-    limit: Limit,
-    sets: Invoked,
-    text: &mut [u8],
-) -> Reached
-    requires at_in_bounds { (from.at ≤ length b.now) × (limit.to ≤ length b.now) × (8836 ≤ length cells.now) }
-    requires space { Space limit.fits from.len (limit.to - from.at) (length text.old) }
-    ensures run { Letters cells.now b.now limit.to from.at sets from.len from.private_use text.old result.at result.len
-        result.private_use text.new }
-    ensures room { Space limit.fits result.len (limit.to - result.at) (length text.new) }
-{
-    if limit.fits {
-        return letters_from(cells, b, from, limit.to, sets, text);
-    }
-    count_from(cells, b, from, limit.to, sets)
 }
 
 /// A character behind what was read, of which so many are private-use: 1 or 0.
@@ -176,38 +106,32 @@ fn behind(from: Reached, c: u32, used: usize, private_use: u32, text: &mut [u8])
     requires { (from.at + used < 2 ^ 63) × (from.len < 2 ^ 63) × (from.private_use + private_use ≤ 0xFFFFFFFF) }
     ensures { Behind from c used private_use text.old result text.new }
 {
-    let width = utf8::put(text, from.len, c);
-    let at = from.at + used;
-    let len = from.len + width;
-    let counted = from.private_use + private_use;
     Reached {
-        at,
-        len,
-        private_use: counted,
+        at: from.at + used,
+        len: from.len + utf8::put(text, from.len, c),
+        private_use: from.private_use + private_use,
     }
 }
 
-/// A character that `letters_from` leaves, if there is one.
+/// A character that `run_from` leaves, if there is one.
 fn other(
     cells: &[u16],
     b: &[u8],
     from: Reached,
-    limit: Limit,
+    to: usize,
     sets: Invoked,
     text: &mut [u8],
 ) -> Reached
-    requires at_in_bounds { (from.at ≤ length b.now) × (limit.to ≤ length b.now) × (from.private_use + 3 * (limit.to - from.at) ≤ 0xFFFFFFFF) }
-    requires space { Space limit.fits from.len (limit.to - from.at) (length text.old) }
-    ensures run { Letters cells.now b.now limit.to from.at sets from.len from.private_use text.old result.at result.len
+    requires at_in_bounds { (from.at ≤ length b.now) × (to ≤ length b.now) × (from.private_use + 3 * (to - from.at) ≤ 0xFFFFFFFF) }
+    requires len_bound { from.len + 3 * (to - from.at) < 2 ^ 63 }
+    ensures run { Letters cells.now b.now to from.at sets from.len from.private_use text.old result.at result.len
         result.private_use text.new }
-    ensures room { Space limit.fits result.len (limit.to - result.at) (length text.new) }
+    ensures room { (fits : Bool) → Space fits from.len (to - from.at) (length text.old) → Space fits result.len (to - result.at) (length text.new) }
 {
-    if from.at >= limit.to {
+    if from.at >= to {
         return from;
     }
-    let taken = decode_letters::character(cells, b, from.at, limit.to, sets);
-    let cell = taken.cell;
-    let used = taken.used;
+    let Taken { cell, used } = decode_letters::character(cells, b, from.at, to, sets);
     match cell {
         Cell::Char(c) => behind(from, c, used, 0, text),
         Cell::PrivateUse(c) => behind(from, c, used, 1, text),
@@ -215,35 +139,45 @@ fn other(
     }
 }
 
-/// How many characters fit: at most three bytes each in `room`, and no more than `left`.
-fn fitting(room: usize, left: usize) -> usize
-    ensures { (3 * result ≤ room) × (result ≤ left) }
+/// Characters and controls that begin before the byte `end`, the characters before the byte `to`: there they surely fit, or
+/// surely do not.
+fn runs_to<const FITS: bool>(
+    cells: &[u16],
+    b: &[u8],
+    from: Reached,
+    to: usize,
+    end: usize,
+    annex: bool,
+    settings: &mut [u8],
+    text: &mut [u8],
+) -> Reached
+    requires at_le_end { (from.at ≤ end) × (to ≤ end) × (end ≤ length b.now) × (8836 ≤ length cells.now) × Settings settings.old }
+    requires few { from.private_use + 3 * (length b.now - from.at) ≤ 0xFFFFFFFF }
+    requires space { Space FITS from.len (to - from.at) (length text.old) }
+    ensures { RunsTo cells.now b.now end from.at annex settings.old from.len from.private_use text.old result.at
+        settings.new result.len result.private_use text.new }
 {
-    let most = room / 3;
-    if most < left {
-        return most;
+    let mut reached = from;
+    loop {
+        let left = settings[GL] as usize;
+        let right = settings[GR] as usize;
+        let sets = Invoked {
+            gl: settings[left],
+            gr: settings[right],
+            narrow: decode_codes::is_narrow(annex, settings[NARROW] == 1),
+        };
+        let run = run_from::<FITS>(cells, b, reached, to, sets, text);
+        let more = other(cells, b, run, to, sets, text);
+        let at = decode_settings::controls(b, more.at, end, settings);
+        reached = Reached { at, ..more };
+        if at == run.at {
+            return reached;
+        }
     }
-    left
 }
 
-/// The limit of a run from there to the byte `end`, in a text with room for so many bytes.
-fn limit_of(from: Reached, end: usize, room: usize) -> Limit
-    requires { (from.at ≤ end) × (from.len + 3 * (end - from.at) ≤ 0x10000000000) }
-    ensures { (from.at ≤ result.to) × (result.to ≤ end) × Space result.fits from.len (result.to - from.at) room }
-{
-    let n = from.len;
-    if n < room {
-        let i = from.at;
-        let to = i + fitting(room - n, end - i);
-        return Limit { to, fits: true };
-    }
-    Limit {
-        to: end,
-        fits: false,
-    }
-}
-
-/// Characters and controls that begin before the byte `end`, with characters as far as they surely fit, or surely do not.
+/// Characters and controls that begin before the byte `end`. As many characters surely fit as have three bytes each in the
+/// rest of the text; where the text is at its end nothing does, and they are counted.
 fn runs_from(
     cells: &[u16],
     b: &[u8],
@@ -258,53 +192,20 @@ fn runs_from(
     ensures { RunsTo cells.now b.now end from.at annex settings.old from.len from.private_use text.old result.at
         settings.new result.len result.private_use text.new }
 {
-    let mut i = from.at;
-    let mut m = from.len;
-    let mut private_use = from.private_use;
-    let limit = limit_of(from, end, text.len());
-    loop {
-        let left = settings[GL] as usize;
-        let right = settings[GR] as usize;
-        let gl = settings[left];
-        let gr = settings[right];
-        let narrow = decode_codes::is_narrow(annex, settings[NARROW] == 1);
-        let sets = Invoked { gl, gr, narrow };
-        let reached = Reached {
-            at: i,
-            len: m,
-            private_use,
-        };
-        let w = run_from(cells, b, reached, limit, sets, text);
-        let stop = w.at;
-        let o = other(cells, b, w, limit, sets, text);
-        m = o.len;
-        private_use = o.private_use;
-        i = decode_settings::controls(b, o.at, end, settings);
-        if i == stop {
-            return Reached {
-                at: i,
-                len: m,
-                private_use,
-            };
-        }
+    let room = text.len();
+    if from.len < room {
+        let fit = (room - from.len) / 3;
+        let to = from.at + fit.min(end - from.at);
+        return runs_to::<true>(cells, b, from, to, end, annex, settings, text);
     }
+    runs_to::<false>(cells, b, from, end, end, annex, settings, text)
 }
 
 /// Whether a run may begin: nothing waits, and the table has its cells.
 fn may_begin(out: Out, cells: usize) -> bool
     ensures { result ≡ true → Begins out cells }
 {
-    let waits = out.repeat as u64 + out.first as u64;
-    if waits != 0 {
-        return false;
-    }
-    if out.len != out.end {
-        return false;
-    }
-    if cells < 8836 {
-        return false;
-    }
-    true
+    out.repeat == 0 && out.first == 0 && out.len == out.end && cells >= 8836
 }
 
 /// The settings that controls change.
@@ -313,41 +214,28 @@ fn settings_of(s: Core) -> [u8; 7]
     ensures settings { Settings result }
     ensures same { (n p : ℕ) → core_at result n p s ≡ with_text s n p }
 {
-    let sets = s.sets;
-    [
-        sets[0],
-        sets[1],
-        sets[2],
-        sets[3],
-        s.gl,
-        s.gr,
-        s.narrow as u8,
-    ]
+    let [g0, g1, g2, g3] = s.sets;
+    [g0, g1, g2, g3, s.gl, s.gr, s.narrow as u8]
 }
 
 /// The state with these settings, where `len` bytes are written, so many characters are private-use and nothing waits.
 fn with_settings(s: Core, settings: [u8; 7], len: usize, private_use: u32) -> Core
     ensures { result ≡ core_at settings len private_use s }
 {
-    let sets = [settings[0], settings[1], settings[2], settings[3]];
-    let out = Out {
-        len,
-        end: len,
-        waiting: s.out.waiting,
-        first: 0,
-        repeat: 0,
-        issues: s.out.issues,
-        private_use,
-    };
     Core {
-        sets,
+        sets: [settings[0], settings[1], settings[2], settings[3]],
         gl: settings[GL],
         gr: settings[GR],
         narrow: settings[NARROW] == 1,
-        annex: s.annex,
-        enough: s.enough,
-        charged: s.charged,
-        out,
+        out: Out {
+            len,
+            end: len,
+            first: 0,
+            repeat: 0,
+            private_use,
+            ..s.out
+        },
+        ..s
     }
 }
 
@@ -358,19 +246,18 @@ pub fn letters(cells: &[u16], b: &[u8], from: usize, to: usize, s: Core, text: &
     ensures { (base origin : ℕ) (i : List ℕ) → Stretch cells.now base origin b.now to from s text.old i result.at result.core text.new i }
 {
     let out = s.out;
-    if from >= to {
+    if from >= to || !may_begin(out, cells.len()) {
         return Far { at: from, core: s };
     }
-    if may_begin(out, cells.len()) {
-        let start = Reached {
-            at: from,
-            len: out.len,
-            private_use: out.private_use,
-        };
-        let mut settings = settings_of(s);
-        let w = runs_from(cells, b, start, to, s.annex, &mut settings, text);
-        let core = with_settings(s, settings, w.len, w.private_use);
-        return Far { at: w.at, core };
+    let start = Reached {
+        at: from,
+        len: out.len,
+        private_use: out.private_use,
+    };
+    let mut settings = settings_of(s);
+    let w = runs_from(cells, b, start, to, s.annex, &mut settings, text);
+    Far {
+        at: w.at,
+        core: with_settings(s, settings, w.len, w.private_use),
     }
-    Far { at: from, core: s }
 }

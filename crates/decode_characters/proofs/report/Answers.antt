@@ -6,7 +6,4 @@ use Rattle.decode_characters.proofs.report.Goals as goal
 
 pub returns : goal.returns
 unfolding issue
-returns c =
-    let pre = c.requires in
-    let issue = c.issue-reported in
-    λ cells t. did_writes cells (omega arith) (omega arith) (pre) (issue.ensures t)
+returns c = λ cells t. did_writes cells (omega arith) (omega arith) c.requires (c.issue.ensures t)

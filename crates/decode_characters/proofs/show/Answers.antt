@@ -4,7 +4,4 @@ use Rattle.decode_characters.proofs.Did.{did_writes}
 use Rattle.decode_characters.proofs.show.Goals as goal
 
 pub returns : goal.returns
-returns c =
-    let pre = c.requires in
-    let emit = c.emit-shown in
-    λ cells i. did_writes cells (omega arith) (omega arith) pre.may_take (emit.ensures i)
+returns c = λ cells i. did_writes cells (omega arith) (omega arith) c.requires.may_take (c.emit.ensures i)

@@ -1,19 +1,13 @@
--- `cell_at` meets its contract, by the set. Assumes nothing.
-use mathlib.Core.Path.{sym, ◌∙◌}
-use Rattle.decode_codes.proofs.Laws.{cell_kanji, cell_symbol, cell_none}
+-- `cell_at` meets its contract at plane 1, and at a set with no cells. Assumes nothing.
+use native.Mathlib.Omega.{arith}
+use borrow.Author.Tests.{le-leb, ne_eqb}
+use Rattle.decode_codes.specs.Codes.{cell_at}
 use Rattle.decode_codes.proofs.cell_at.Goals as goal
 
-pub returns-then-reads_kanji : goal.returns-then-reads_kanji
-returns-then-reads_kanji c =
-    let a = c.args in
-    rw (cell_kanji a.cells.now a.set a.row a.cell (sym c.reads_kanji.ensures ∙ c.if-reads_kanji.true)) c.kanji.ensures
+pub returns-in-12 : goal.returns-in-12
+unfolding cell_at
+returns-in-12 c = rw (c.in-12.is, le-leb c.args.row 84 (omega arith)) c.kanji-in-12.ensures
 
-pub returns-then-set-eq14 : goal.returns-then-set-eq14
-returns-then-set-eq14 c =
-    let a = c.args in
-    rw (cell_symbol a.cells.now a.set a.row a.cell c.if-set-eq14.true) c.additional_symbols.ensures
-
-pub returns : goal.returns
-returns c =
-    let a = c.args in
-    cell_none a.cells.now a.set a.row a.cell (sym c.reads_kanji.ensures ∙ c.if-reads_kanji.false) c.if-set-eq14.false
+pub returns-in_default-2 : goal.returns-in_default-2
+unfolding cell_at
+returns-in_default-2 c = let z = c.args.set in rw (ne_eqb z 0 (omega arith), ne_eqb z 14 (omega arith), ne_eqb z 12 (omega arith))

@@ -1,18 +1,26 @@
 -- `char1` meets its contract. Assumes nothing.
-use Prim.Native.Nat.{◌≤◌, ◌<◌}
+use Prim.Native.Nat.{ℕ, ◌≤◌, ◌<◌}
+use mathlib.Core.Bool.{Bool, false}
 use mathlib.Core.Logic.{⊎_elim}
-use mathlib.Core.Path.{ap, ◌∙◌}
+use mathlib.Core.Path.{◌≡◌, sym, ap, ◌∙◌}
 use native.Mathlib.Omega.{arith}
 use Rattle.decode_characters.proofs.Did.{did_as}
+use Rattle.std.specs.Prelude.{Option, Some, None, IfSome}
 use Rattle.private_use.specs.PrivateUse.{is_private_use}
+use Rattle.tables_onebyte.specs.OneByte.{OneByteReads}
+use Rattle.reading.specs.Characters.{letter}
 use Rattle.decode_codes.proofs.Laws.{char1_letter}
 use Rattle.decode_codes.proofs.Letters.{letter_ordinary}
 use Rattle.decode_graphic.proofs.Laws.{char1_mosaic, char1_drcs, letter_narrows}
 use Rattle.decode_graphic.proofs.char1.Goals as goal
 
+ordinary : (letter_lem : Option ℕ) (narrow : Bool) (z c : ℕ) → OneByteReads letter_lem (letter narrow z c) → IfSome letter_lem (λ l. is_private_use l ≡ false)
+ordinary None narrow z c e = tt
+ordinary (Some l) narrow z c e = ap is_private_use (sym e.0) ∙ letter_ordinary narrow z c
+
 pub emit_or-requires : goal.emit_or-requires
 emit_or-requires c =
-    record { may_take = c.requires.may_take; c_value = ap is_private_use c.letter_at-x.ensures ∙ letter_ordinary _ _ _ }
+    record { may_take = c.requires.may_take; c_value = ordinary _ _ _ _ c.letter_at-letter.ensures }
 
 pub returns-in-4-to-7 : goal.returns-in-4-to-7
 returns-in-4-to-7 c =
@@ -29,8 +37,8 @@ pub returns-in_default : goal.returns-in_default
 returns-in_default c =
     let a = c.args in
     let if1 = c.in_default in
-    let letter_at = c.letter_at-x in
-    let is_narrow_lem = c.is_narrow in
+    let letter_at = c.letter_at-letter in
+    let is_narrow_lem = c.is_narrow-narrow in
     let pre = c.requires in
     let emit_or_lem = c.emit_or in
     let z = a.set in
@@ -38,5 +46,5 @@ returns-in_default c =
     let small : z < 17 = ⊎_elim (λ w. omega arith) (λ w. omega arith) if1.branch-raw in
     λ cells left R.
     did_as
-    (λ g q starts lens t₀ i₀ x k. letter_narrows g x _ _ _ _ letter_at.ensures is_narrow_lem.ensures k ∙ char1_letter g left R _ _ _ x pre.c_bound.1 far small)
-    (emit_or_lem.ensures cells)
+    (λ g q starts lens t₀ i₀ x k. letter_narrows g x _ _ _ _ is_narrow_lem.ensures k ∙ char1_letter g left R _ _ _ x pre.c_bound.1 far small)
+    (emit_or_lem.ensures cells _ letter_at.ensures)

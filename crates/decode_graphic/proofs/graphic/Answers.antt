@@ -17,5 +17,5 @@ returns c =
     let pre = c.requires in
     let two_bytes = c.two_bytes in
     let if1 = c.if-two_bytes in
-    let char1 = c.char1-r in
+    let char1 = c.char1 in
     λ left R. took_did _ 1 (omega arith) (omega (arith, pre.i_in_bounds.0)) (λ g x. graphic_one g left R _ _ _ _ x (sym two_bytes.ensures ∙ if1.false)) (char1.ensures _ left R)

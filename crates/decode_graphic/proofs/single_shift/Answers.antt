@@ -51,5 +51,5 @@ returns c =
     let if1 = c.if-i-b in
     let is-graphic = c.is_graphic in
     let if2 = c.if-is_graphic in
-    let report = c.report-r in
+    let report = c.report in
     λ left R. took_did _ 1 (omega arith) (omega arith) (λ g x. shift_lone g left R _ _ _ _ x if1.false (sym is-graphic.ensures ∙ if2.false)) (report.ensures _ _)

@@ -9,5 +9,4 @@ pub returns : goal.returns
 unfolding truncated
 returns c =
     let a = c.args in
-    let report = c.report-r in
-    λ cells b t i h. took_did (λ g. truncated 1 a.at) 1 (omega arith) (omega arith) (λ g x. refl) (report.ensures cells t)
+    λ cells b t i h. took_did (λ g. truncated 1 a.at) 1 (omega arith) (omega arith) (λ g x. refl) (c.report.ensures cells t)
