@@ -10,7 +10,8 @@ use Rattle.base.specs.Lists.{All}
 use Rattle.base.proofs.Every.{all_map}
 use Rattle.coding.specs.Candidates.{Cand}
 use Rattle.coding.specs.Search.{reach, least, keep, floor_of}
-use Rattle.encode_layer.specs.Entries.{Entry, node_of, entries_of, layer_of}
+use Rattle.encode_layer.specs.declared.Entry.{Entry}
+use Rattle.encode_layer.specs.Entries.{node_of, entries_of, layer_of}
 use Rattle.encode_layer.specs.Layer.{Sound, bounds, Held, Represents, held, over}
 use Rattle.encode_layer.specs.Kept.{Kept, older, Squeezed}
 use Rattle.encode_layer.proofs.Entries.{length_of_lem, entry_first, same_entries}

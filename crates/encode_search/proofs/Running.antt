@@ -17,7 +17,8 @@ use Rattle.coding.specs.Store.{counts_from, counts, numbers, needs, fit}
 use Rattle.encode_tokens.specs.Promises.{HoldCharacters}
 use Rattle.encode_states.specs.Packed.{Packs}
 use Rattle.encode_states.specs.Written.{written, written_at}
-use Rattle.encode_layer.specs.Entries.{Entry, entry, node_of, entries_of, layer_of, set_entry}
+use Rattle.encode_layer.specs.declared.Entry.{Entry}
+use Rattle.encode_layer.specs.Entries.{entry, node_of, entries_of, layer_of, set_entry}
 use Rattle.encode_layer.specs.Layer.{Sound}
 use Rattle.encode_layer.proofs.Standing.{of_new}
 use Rattle.encode_layer.proofs.Costs.{length_layer}
