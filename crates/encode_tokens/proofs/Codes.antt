@@ -5,13 +5,16 @@ use mathlib.Core.List.{List, [], ◌∷◌}
 use Prim.Native.Nat.{ℕ, zero, suc, ◌/◌, ◌%◌, ◌≤◌}
 use native.Mathlib.Omega.{arith}
 use lib.Dec.{eqb, ltb}
-use lib.ListN.{get_or, set}
+use lib.ListN.{get_or}
 use Rattle.tables_reverse.specs.Reverse.{kanji_reverse, additional_reverse}
-use Rattle.coding.specs.Candidates.{graphic, plain, candidates, code_length, shortest}
+use Rattle.coding.specs.Candidates.{Cand, graphic, plain, candidates, code_length, shortest}
 use Rattle.encode_candidates.specs.declared.Cands.{Cands}
 use Rattle.encode_candidates.specs.Packed.{packed, code_of, cand_of, cand_at, cands_from, cands_of, StandsForCandidates}
 use Rattle.encode_states.specs.Packed.{set_of, size_of}
-use Rattle.encode_tokens.specs.Steps.{Appended}
+use Rattle.std.specs.Prelude.{Some, None}
+use Rattle.encode_tokens.specs.Promises.{character}
+use Rattle.encode_tokens.specs.declared.Character.{Character}
+use Rattle.encode_tokens.specs.Steps.{shortest_of, Appended}
 
 record OneOrTwo (n : ℕ) : Type 0 where
   least : 1 ≤ n
@@ -48,18 +51,26 @@ unfolding cands_from
 shortest_none k i zero e = refl
 shortest_none k i (suc n) e = absurd (omega (arith, (shortest_length k i n).least))
 
--- a character, its two cells, and the shortest of its candidates
-pub appended : (cells : List ℕ) (annex_e : Bool) (c n : ℕ) (chs ks ss : List ℕ) (kanji symbol : ℕ) (k : Cands) (r : ℕ)
-    → kanji ≡ packed (kanji_reverse cells c) → symbol ≡ packed (additional_reverse c) → StandsForCandidates c kanji symbol annex_e k → r ≡ shortest (cands_of k)
-    → Appended cells annex_e c n chs ks ss r (set chs n c) (set ks n kanji) (set ss n symbol)
-unfolding cands_of
-appended cells annex_e c n chs ks ss kanji symbol k r p q s e =
-    let l : cands_of k ≡ candidates cells annex_e c = s.list cells p q in
-    record {
-      chars = refl;
-      kanji = ap (set ks n) p;
-      symbols = ap (set ss n) q;
-      shortest = e ∙ ap shortest l;
-      missing = λ z. sym l ∙ shortest_none k 0 k.count (sym e ∙ z);
-      short = omega (arith, e, shortest_short k 0 k.count);
-    }
+-- the shortest of a list of candidates
+some_of : (n : ℕ) (l : List Cand) → (n ≡ 0 → ⊥) → n ≡ shortest l → Some n ≡ shortest_of l
+unfolding shortest_of shortest
+some_of n [] h e = absurd (h e)
+some_of n (k ∷ ks) h e = ap Some e
+
+-- a character with its cells, and the shortest of its candidates
+module _ (cells : List ℕ) (annex_e : Bool) (c n kanji symbol : ℕ) (k : Cands) (p : kanji ≡ packed (kanji_reverse cells c)) (q : symbol ≡ packed (additional_reverse c))
+    (s : StandsForCandidates c kanji symbol annex_e k) (e : n ≡ shortest (cands_of k)) where
+  list : cands_of k ≡ candidates cells annex_e c
+  list = s.list cells p q
+
+  cells_of : ◌≡◌ {A = Character} (record { char = c; kanji = kanji; symbol = symbol }) (character cells c)
+  cells_of = cc
+
+  pub appended_none : n ≡ 0 → Appended cells annex_e c (record { char = c; kanji = kanji; symbol = symbol }) None
+  unfolding cands_of shortest_of
+  appended_none z =
+      record { character = cells_of; shortest = sym (ap shortest_of (sym list ∙ shortest_none k 0 k.count (sym e ∙ z))); short = tt }
+
+  pub appended_some : (n ≡ 0 → ⊥) → Appended cells annex_e c (record { char = c; kanji = kanji; symbol = symbol }) (Some n)
+  unfolding cands_of
+  appended_some h = record { character = cells_of; shortest = some_of n (candidates cells annex_e c) h (e ∙ ap shortest list); short = omega (arith, e, shortest_short k 0 k.count) }
