@@ -111,3 +111,14 @@ pub none_short : (l : List Candidate) → length l ≡ 0 → 0 ≡ shortest (can
 unfolding shortest
 none_short [] e = refl
 none_short (c ∷ l) e = absurd (omega arith)
+
+-- none has more than two bytes, and where there is none there is no candidate
+pub short : (l : List Candidate) → shortest (cands_of l) ≤ 2
+unfolding shortest
+short [] = omega arith
+short (c ∷ []) = few_length c
+short (c ∷ d ∷ l) = omega (arith, short (d ∷ l))
+
+pub nothing : (l : List Candidate) → shortest (cands_of l) ≡ 0 → cands_of l ≡ []
+nothing [] e = refl
+nothing (c ∷ l) e = absurd (omega (arith, one_least c l))

@@ -17,16 +17,16 @@ pub mod candidate;
 use arrayvec::ArrayVec;
 use candidate::{Candidate, Size};
 use control::{APR, SP};
-use tables::Place;
-use tables_onebyte::{Code, OneByteTable};
+use tables_onebyte::OneByteTable;
 
-/// A cell in one number, row × 256 + cell, 0 for none.
-pub fn pack(p: Place) -> u16
-    ensures { result ≡ packed (place_value p) }
+/// A cell in one number, row × 256 + cell, 0 for none: the characters of a text are lent memory of fixed size, where an
+/// `Option` of a pair would take more.
+pub fn pack(place: Option<(u8, u8)>) -> u16
+    ensures { result ≡ packed (place_value place) }
 {
-    match p {
-        Place::At(row, cell) => row as u16 * 256 + cell as u16,
-        Place::Nowhere => 0,
+    match place {
+        Some((row, cell)) => row as u16 * 256 + cell as u16,
+        None => 0,
     }
 }
 
@@ -36,7 +36,7 @@ fn with_code(k: &mut ArrayVec<Candidate, 9>, table: OneByteTable, c: u32, set: u
     requires set_bound { set < 6 }
     ensures { Adds k.old.items (of_code (set_of set) (size_of size) (one_byte_reverse table c)) 1 k.new.items }
 {
-    if let Code::Gl(code) = tables_onebyte::one_byte_reverse(table, c) {
+    if let Some(code) = tables_onebyte::one_byte_reverse(table, c) {
         k.push(Candidate {
             set,
             code: code as u16,

@@ -16,8 +16,16 @@ returns c =
     let z = c.args in
     record {
       few = omega (
-        arith, ap length c.new-k.ensures, c.with_code.ensures.count, c.with_code-2.ensures.count, c.with_code-3.ensures.count, c.with_half.ensures.count,
-        c.with_cell.ensures.count, c.with_cell-2.ensures.count, c.with_code-4.ensures.count, c.with_space.ensures.count,
+        arith,
+        ap length c.new-k.ensures,
+        c.with_code.ensures.count,
+        c.with_code-2.ensures.count,
+        c.with_code-3.ensures.count,
+        c.with_half.ensures.count,
+        c.with_cell.ensures.count,
+        c.with_cell-2.ensures.count,
+        c.with_code-4.ensures.count,
+        c.with_space.ensures.count,
       );
       list = λ cells e f.
           alone c.new-k.ensures

@@ -10,7 +10,7 @@ use Rattle.encode_candidates.proofs.Lengths.{more, is_one, all_two, none_short}
 use Rattle.encode_candidates.proofs.shortest.Goals as goal
 
 pub returns-then-is_empty : goal.returns-then-is_empty
-returns-then-is_empty c = 
+returns-then-is_empty c =
     let e : length c.args.candidates.now ≡ 0 = grind (arith, nat_tests) in
     none_short c.args.candidates.now e
 

@@ -12,14 +12,14 @@ use Rattle.encode_candidates.proofs.with_code.Goals as goal
 
 pub invariant_of-push : goal.invariant_of-push
 invariant_of-push c =
-    let f = one_byte_found c.args.table c.args.c _ (sym c.one_byte_reverse.ensures ∙ ap code_value c.in-Gl.is) in
+    let f = one_byte_found c.args.table c.args.c _ (sym c.one_byte_reverse.ensures ∙ ap code_value c.in-Some.is) in
     let t = f.to in
     record { known = omega arith; six = λ n. c.requires.set_bound; plain = λ e. omega arith; row = omega arith; last = omega arith }
 
-pub returns-in-Gl : goal.returns-in-Gl
+pub returns-in-Some : goal.returns-in-Some
 unfolding of_code cand
-returns-in-Gl c =
-    let e = sym c.one_byte_reverse.ensures ∙ ap code_value c.in-Gl.is in
+returns-in-Some c =
+    let e = sym c.one_byte_reverse.ensures ∙ ap code_value c.in-Some.is in
     let f = one_byte_found c.args.table c.args.c _ e in
     likewise (one_more _ _ _ c.push.ensures.items)
     (ap (λ (y : Cand). y ∷ []) (byte_cand c.args.set _ (size_of c.args.size) c.requires.set_bound f.to)
