@@ -83,7 +83,10 @@ fn append(t: &[u16], annex: bool, c: u32, place: &mut Character) -> Option<usize
         kanji,
         symbol,
     };
-    match encode_candidates::shortest(encode_candidates::candidates(c, kanji, symbol, annex)) {
+    match encode_candidates::shortest(encode_candidates::candidates(
+        c, kanji, symbol, annex,
+    ).as_slice())
+    {
         0 => None,
         code => Some(code),
     }
