@@ -20,12 +20,10 @@ pub fn word(out: &mut [u8], at: usize, w: &[u8]) -> usize
     requires { at ≤ 0x100000 }
     ensures { Put out.old at w.now out.new result }
 {
-    let mut i = 0;
-    while i < w.len() {
-        put(out, at + i, w[i]);
-        i += 1;
+    for (i, x) in w.iter().enumerate() {
+        put(out, at + i, *x);
     }
-    at + i
+    at + w.len()
 }
 
 /// 0 to 9, then A to F.
@@ -56,14 +54,11 @@ pub fn hexadecimal(out: &mut [u8], at: usize, bytes: &[u8]) -> usize
     requires { (at ≤ 0x100000) × (length bytes.now ≤ 65536) }
     ensures { Put out.old at (hexadecimal bytes.now) out.new result }
 {
-    let mut i = 0;
     let mut next = at;
-    while i < bytes.len() {
-        let b = bytes[i] as usize;
-        put(out, next, digit(b / 16));
-        put(out, next + 1, digit(b % 16));
+    for b in bytes {
+        put(out, next, digit(usize::from(*b / 16)));
+        put(out, next + 1, digit(usize::from(*b % 16)));
         next += 2;
-        i += 1;
     }
     next
 }

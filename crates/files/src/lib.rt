@@ -1,7 +1,7 @@
 // Standard input and the file `jis.tab`.
 #![tactic(auto)]
 
-ghost use Rattle.std.specs.Prelude.{◌≡◌, ◌≤◌, length, take};
+ghost use Rattle.std.specs.Prelude.{◌≡◌, ◌≤◌, length, take, IfOk, IfSome};
 
 use std::fs::File;
 use std::io::{Error, ErrorKind, Read};
@@ -28,96 +28,46 @@ pub fn fail(rt: &(impl Eprint + AllocGlobal), what: &[u8], why: Error) {
     };
 }
 
-/// How many bytes stand at the start of a buffer, and whether a read failed.
-#[derive(Drop)]
-pub struct Input {
-    pub len: usize,
-    pub failed: bool,
-}
-
-/// One read, of at most a buffer. Where it fails, what and why goes to standard error.
-fn read_once(
-    rt: &(impl Eprint + AllocGlobal),
-    reader: &mut impl Read,
-    what: &[u8],
-    buffer: &mut [u8],
-) -> Input
-    ensures { result.len ≤ length buffer.new }
-{
-    match reader.read(buffer) {
-        Ok(len) => Input { len, failed: false },
-        Err(why) => {
-            fail(rt, what, why);
-            Input {
-                len: 0,
-                failed: true,
-            }
-        }
-    }
-}
-
-/// Reads until the buffer is full or the input ends, in however many pieces it comes.
-pub fn read(
-    rt: &(impl Eprint + AllocGlobal),
-    reader: &mut impl Read,
-    what: &[u8],
-    buffer: &mut [u8],
-) -> Input
-    ensures within { result.len ≤ length buffer.new }
-    ensures prefix { result.len ≡ length (take result.len buffer.new) }
+/// Reads until the buffer is full or the input ends, in however many pieces it comes, and answers how many bytes stand at
+/// the start of the buffer.
+pub fn read(reader: &mut impl Read, buffer: &mut [u8]) -> Result<usize, Error>
+    ensures within { IfOk result (λ n. n ≤ length buffer.new) }
+    ensures prefix { IfOk result (λ n. n ≡ length (take n buffer.new)) }
 {
     let mut done = 0;
-    let mut failed = false;
     while done < buffer.len() {
-        let piece = read_once(rt, reader, what, &mut buffer[done..]);
-        failed = piece.failed;
-        if piece.len == 0 {
+        let n = reader.read(&mut buffer[done..])?;
+        if n == 0 {
             break;
         }
-        done += piece.len;
+        done += n;
     }
-    Input { len: done, failed }
+    Ok(done)
 }
 
-/// Whether there is a `jis.tab`, and how many of its bytes stand at the start of a buffer.
-#[derive(Drop)]
-pub struct Table {
-    pub present: bool,
-    pub len: usize,
-}
-
-/// Reads `jis.tab`. One that cannot be opened or read counts as one of no bytes, which is refused, and
-/// not as one that is absent. That there is none, or why it could not be read, goes to standard error.
-pub fn read_table(rt: &(impl Files + Eprint + AllocGlobal), buffer: &mut [u8]) -> Table
-    ensures within { result.len ≤ length buffer.new }
-    ensures prefix { result.len ≡ length (take result.len buffer.new) }
+/// Reads `jis.tab`, if there is one, and answers how many of its bytes stand at the start of a buffer. One that cannot be
+/// opened or read counts as one of no bytes, which is refused, and not as one that is absent. That there is none, or why
+/// it could not be read, goes to standard error.
+pub fn read_table(rt: &(impl Files + Eprint + AllocGlobal), buffer: &mut [u8]) -> Option<usize>
+    ensures within { IfSome result (λ n. n ≤ length buffer.new) }
+    ensures prefix { IfSome result (λ n. n ≡ length (take n buffer.new)) }
 {
     let mut opened = match File::open(rt, "jis.tab") {
         Ok(opened) => opened,
+        Err(why) if why.kind() == ErrorKind::NotFound => {
+            let _ = eprintln!(rt; "jis.tab: absent, so every kanji is undefined");
+            return None;
+        }
         Err(why) => {
-            if why.kind() == ErrorKind::NotFound {
-                let _ = eprintln!(rt; "jis.tab: absent, so every kanji is undefined");
-                return Table {
-                    present: false,
-                    len: 0,
-                };
-            }
             fail(rt, b"jis.tab", why);
-            return Table {
-                present: true,
-                len: 0,
-            };
+            return Some(0);
         }
     };
-    let file = read(rt, &mut opened, b"jis.tab", buffer);
-    if file.failed {
-        return Table {
-            present: true,
-            len: 0,
-        };
-    }
-    Table {
-        present: true,
-        len: file.len,
+    match read(&mut opened, buffer) {
+        Ok(n) => Some(n),
+        Err(why) => {
+            fail(rt, b"jis.tab", why);
+            Some(0)
+        }
     }
 }

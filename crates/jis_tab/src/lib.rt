@@ -11,7 +11,7 @@ fn number(bytes: &[u8], i: usize) -> u16
     ensures { result ≡ get_or (big_endian bytes.now) i 0 }
 {
     if i < bytes.len() / 2 {
-        return bytes[2 * i] as u16 * 256 + bytes[2 * i + 1] as u16;
+        return u16::from_be_bytes([bytes[2 * i], bytes[2 * i + 1]]);
     }
     0
 }
@@ -20,10 +20,8 @@ fn number(bytes: &[u8], i: usize) -> u16
 pub fn numbers(bytes: &[u8], cells: &mut [u16])
     ensures { cells.new ≡ padded (length cells.old) (big_endian bytes.now) }
 {
-    let mut i = 0;
-    while i < cells.len() {
-        cells[i] = number(bytes, i);
-        i += 1;
+    for (i, cell) in cells.iter_mut().enumerate() {
+        *cell = number(bytes, i);
     }
 }
 

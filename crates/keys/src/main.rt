@@ -18,9 +18,9 @@ fn summary(rt: &impl Eprint, malformed: u64) {
 /// The file's buffer has room for one byte more than a cell table has, so that a longer one shows.
 fn main(rt: HostRuntime) {
     let mut bytes = [0u8; 17673];
-    let file = files::read_table(&rt, &mut bytes);
+    let table = files::read_table(&rt, &mut bytes);
     let mut t = [0u16; 8836];
-    let n = file.len;
-    let m = jis_tab::fill(file.present, &bytes[..n], &mut t);
+    let n = table.unwrap_or(0);
+    let m = jis_tab::fill(table.is_some(), &bytes[..n], &mut t);
     summary(&rt, all_lines(&rt, &t[..m]));
 }

@@ -11,6 +11,7 @@ use lib.Dec.{eqb, ltb, leb}
 use lib.ListN.{length, take, drop, set, get_or, length-set, length-drop, drop_of_length-le}
 use lib.Seq.{drop-cons, take-suc-set, take_all, length-take-le}
 use Rattle.questions.specs.Questions.{all}
+use Rattle.std.specs.Prelude.{Option, Some, None, is_some, if◌then◌else◌}
 use Rattle.keys_form.specs.Line.{is_decimal, value_from, is_number, hex_value, is_hex_digit, is_hex, bytes_of, trimmed, tab_at, is_line}
 
 and_false : (a : Bool) → a && false ≡ false
@@ -54,14 +55,6 @@ unfolding tab_at
 tab_none l i h e = sym (e ∙ rw (drop_of_length-le l h) (add-zero i))
 
 -- ---- NUMBER
-
-pub decimal_below : (x : ℕ) → x < 0x30 → false ≡ is_decimal x
-unfolding is_decimal
-decimal_below x h = rw (lt-leb 0x30 x h)
-
-pub decimal_rest : (x : ℕ) → 0x30 ≤ x → leb x 0x39 ≡ is_decimal x
-unfolding is_decimal
-decimal_rest x h = rw (le-leb 0x30 x h)
 
 pub decimal_range : (x : ℕ) → is_decimal x ≡ true → (0x30 ≤ x) × (x ≤ 0x39)
 unfolding is_decimal
@@ -142,6 +135,27 @@ module _ (x : ℕ) where
       go : (a b c : Bool) → leb 0x30 x ≡ a → leb 0x41 x ≡ b → leb 0x61 x ≡ c → 16 ≡ hex_value x
       go a b c p q r = rw (p, q, r) (rw (within a 0x30 0x39 p f, within b 0x41 0x46 q g, within c 0x61 0x66 r h))
 
+-- the digit, or none
+pub hex_some : (x v : ℕ) → v ≡ hex_value x → v < 16 → Some v ≡ (if is_hex_digit x then Some (hex_value x) else None)
+unfolding is_hex_digit
+hex_some x v e h = rw (← e, lt-ltb v 16 h)
+
+pub hex_other : (x : ℕ) → 16 ≡ hex_value x → None ≡ (if is_hex_digit x then Some (hex_value x) else None)
+unfolding is_hex_digit
+hex_other x e = rw (← e)
+
+pub hex_read : (x : ℕ) {o : Option ℕ} → o ≡ (if is_hex_digit x then Some (hex_value x) else None) → hex_value x < 16 → o ≡ Some (hex_value x)
+unfolding is_hex_digit
+hex_read x e h = e ∙ rw (lt-ltb (hex_value x) 16 h)
+
+-- whether there is one
+pub hex_is : (x : ℕ) {o : Option ℕ} → o ≡ (if is_hex_digit x then Some (hex_value x) else None) → is_some o ≡ is_hex_digit x
+hex_is x e = ap is_some e ∙ go (is_hex_digit x)
+  where
+    go : (b : Bool) → is_some (if b then Some (hex_value x) else None) ≡ b
+    go true = refl
+    go false = refl
+
 pub hex_long : (ds : List ℕ) → 131070 < length ds → false ≡ is_hex ds
 unfolding is_hex
 hex_long ds h = rw (lt-leb (length ds) 131070 h)
@@ -159,15 +173,13 @@ unfolding all
 hex_end l i h = rw (drop_of_length-le l h)
 
 module _ (l : List ℕ) (i : ℕ) (h : i < length l) where
-  pub hex_not : 15 < hex_value (get_or l i 0) → all is_hex_digit (drop i l) ≡ false
-  unfolding all is_hex_digit
-  hex_not e = ap (all is_hex_digit) (from l i h) ∙ rw (le-ltb (hex_value (get_or l i 0)) 16 e)
+  pub hex_not : is_hex_digit (get_or l i 0) ≡ false → all is_hex_digit (drop i l) ≡ false
+  unfolding all
+  hex_not e = ap (all is_hex_digit) (from l i h) ∙ rw e
 
-  pub hex_next : hex_value (get_or l i 0) ≤ 15 → all is_hex_digit (drop i l) ≡ all is_hex_digit (drop (i + 1) l)
-  unfolding all is_hex_digit
-  hex_next e =
-      let k : hex_value (get_or l i 0) < 16 = omega arith in
-      ap (all is_hex_digit) (from l i h) ∙ rw (lt-ltb (hex_value (get_or l i 0)) 16 k)
+  pub hex_next : is_hex_digit (get_or l i 0) ≡ true → all is_hex_digit (drop i l) ≡ all is_hex_digit (drop (i + 1) l)
+  unfolding all
+  hex_next e = ap (all is_hex_digit) (from l i h) ∙ rw e
 
 -- what HEX has
 pub record Hex (ds : List ℕ) : Type 0 where

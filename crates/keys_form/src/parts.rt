@@ -1,81 +1,69 @@
 // The parts of a line: NUMBER TAB HEX.
-ghost use Rattle.std.specs.Prelude.{◌≡◌, true, ◌*◌, ◌≤◌, length};
-ghost use Rattle.keys_form.specs.Line.{is_decimal, is_number, hex_value, is_hex, bytes_of, trimmed, tab_at, is_line};
+ghost use Rattle.std.specs.Prelude.{◌≡◌, true, ◌*◌, ◌≤◌, length, if◌then◌else◌};
+ghost use Rattle.keys_form.specs.Line.{is_decimal, is_number, hex_value, is_hex_digit, is_hex, bytes_of, trimmed, tab_at, is_line};
 ghost use Rattle.keys_form.specs.Promises.{Titled};
 
 /// The line without a carriage return at its end.
 pub fn trimmed(line: &[u8]) -> &[u8]
     ensures { result.now ≡ trimmed line.now }
 {
-    let n = line.len();
-    if n == 0 {
-        return line;
+    match line {
+        [front @ .., b'\r'] => front,
+        _ => line,
     }
-    if line[n - 1] == 0x0D {
-        return &line[..n - 1];
-    }
-    line
 }
 
 /// The place of the first TAB; the length where there is none.
 pub fn tab_at(line: &[u8]) -> usize
     ensures { result ≡ tab_at line.now }
 {
-    let mut i = 0;
-    while i < line.len() {
-        if line[i] == 0x09 {
+    for (i, x) in line.iter().enumerate() {
+        if *x == b'\t' {
             return i;
         }
-        i += 1;
     }
-    i
+    line.len()
 }
 
 /// 0 to 9.
 fn is_decimal(x: u8) -> bool
     ensures { result ≡ is_decimal x }
 {
-    if x < 0x30 {
-        return false;
-    }
-    x <= 0x39
+    x.is_ascii_digit()
 }
 
 /// NUMBER: one to ten decimal digits that make a number of 32 bits.
 fn is_number(ds: &[u8]) -> bool
     ensures { result ≡ is_number ds.now }
 {
-    if ds.len() < 1 {
+    if ds.is_empty() {
         return false;
     }
     if ds.len() > 10 {
         return false;
     }
     let mut v: u64 = 0;
-    let mut i = 0;
-    while i < ds.len() {
-        let x = ds[i];
-        if !is_decimal(x) {
+    for x in ds {
+        if !is_decimal(*x) {
             return false;
         }
-        v = v * 10 + (x - 0x30) as u64;
+        v = v * 10 + u64::from(*x - b'0');
         if v > 0xFFFFFFFF {
             return false;
         }
-        i += 1;
     }
     true
 }
 
-/// The value of a hexadecimal digit in either case; 16 for any other byte.
-fn hex_value(x: u8) -> u8
-    ensures { result ≡ hex_value x }
+/// The value of a hexadecimal digit in either case.
+fn hex_value(x: u8) -> Option<u8>
+    ensures { result ≡ (if is_hex_digit x then Some (hex_value x) else None) }
 {
     match x {
-        0x30..=0x39 => x - 0x30,
-        0x41..=0x46 => x - 0x37,
-        0x61..=0x66 => x - 0x57,
-        _ => 16,
+        b'0'..=b'9' => Some(x - b'0'),
+        b'A'..=b'F' => Some(x - b'A' + 10),
+        b'a'..=b'f' => Some(x - b'a' + 10),
+        _ => None,
     }
 }
 
@@ -89,12 +77,10 @@ fn is_hex(ds: &[u8]) -> bool
     if ds.len() % 2 != 0 {
         return false;
     }
-    let mut i = 0;
-    while i < ds.len() {
-        if hex_value(ds[i]) > 15 {
+    for x in ds {
+        if hex_value(*x).is_none() {
             return false;
         }
-        i += 1;
     }
     true
 }
@@ -118,10 +104,8 @@ fn put_bytes(ds: &[u8], bytes: &mut [u8])
     requires { (is_hex ds.now ≡ true) × (length bytes.old * 2 ≡ length ds.now) }
     ensures { bytes.new ≡ bytes_of ds.now }
 {
-    let mut i = 0;
-    while i < bytes.len() {
-        bytes[i] = hex_value(ds[2 * i]) * 16 + hex_value(ds[2 * i + 1]);
-        i += 1;
+    for (i, byte) in bytes.iter_mut().enumerate() {
+        *byte = hex_value(ds[2 * i]).unwrap() * 16 + hex_value(ds[2 * i + 1]).unwrap();
     }
 }
 

@@ -9,16 +9,18 @@ use files::{fail, read, read_table};
 /// it is read.
 fn main(rt: HostRuntime) {
     let mut bytes = [0u8; 4097];
-    let input = read(&rt, &mut rt.stdin(), b"standard input", &mut bytes);
-    if input.failed {
-        return;
-    }
+    let k = match read(&mut rt.stdin(), &mut bytes) {
+        Ok(k) => k,
+        Err(why) => {
+            fail(&rt, b"standard input", why);
+            return;
+        }
+    };
     let mut cells = [0u8; 17673];
     let table = read_table(&rt, &mut cells);
     let mut out = [0u8; listing_lines::GREATEST];
-    let k = input.len;
-    let m = table.len;
-    let n = listing_lines::listing(table.present, &cells[..m], &bytes[..k], &mut out);
+    let m = table.unwrap_or(0);
+    let n = listing_lines::listing(table.is_some(), &cells[..m], &bytes[..k], &mut out);
     if let Err(why) = rt.write_all(&out[..n]) {
         fail(&rt, b"standard output", why);
     }

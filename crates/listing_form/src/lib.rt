@@ -39,11 +39,9 @@ fn issue_line(out: &mut [u8], at: usize, issue: &[u32]) -> usize
     ensures upper_bound { result ≤ at + 21 * length issue.now }
 {
     let mut next = decimal(out, at, issue[0] as usize);
-    let mut i = 1;
-    while i < issue.len() {
+    for i in 1..issue.len() {
         next = word(out, next, b" ");
         next = decimal(out, next, issue[i] as usize);
-        i += 1;
     }
     word(out, next, b"\n")
 }
@@ -53,14 +51,10 @@ fn issue_lines(out: &mut [u8], at: usize, k: usize, issues: &[u32]) -> usize
     requires { (at ≤ 0x40000) × (k ≤ 256) × (k * numbers ≤ length issues.now) }
     ensures { Put out.old at (issue_lines k issues.now) out.new result }
 {
-    let mut left = k;
-    let mut i = 0;
     let mut next = at;
-    while left > 0 {
-        let end = i + NUMBERS;
-        next = issue_line(out, next, &issues[i..end]);
-        i = end;
-        left -= 1;
+    for i in 0..k {
+        let from = i * NUMBERS;
+        next = issue_line(out, next, &issues[from..from + NUMBERS]);
     }
     next
 }

@@ -1,12 +1,8 @@
 -- `word` meets its contract: the bytes that are left are still to be written. Assumes nothing.
-use Prim.Native.Nat.{◌+◌, ◌-◌, ◌≤◌}
-use mathlib.Core.Path.{◌≡◌}
-use lib.ListN.{length, drop}
+use Prim.Native.Nat.{◌+◌}
+use lib.ListN.{drop}
 use Rattle.lent.proofs.Putting.{Rest}
 use Rattle.ascii.proofs.word.Given as goal
 
 abbrev pub invariant-loop-i : goal.invariant-loop-i
-invariant-loop-i l = (length l.out ≡ length l.initial.out) × (l.i ≤ length l.w) × Rest l.initial.out l.at l.w l.out (l.at + l.i) (drop l.i l.w)
-
-abbrev pub decreases-loop-i : goal.decreases-loop-i
-decreases-loop-i l = length l.w - l.i
+invariant-loop-i l = Rest l.initial.out l.at l.w l.out (l.at + l.i) (drop l.i l.w)

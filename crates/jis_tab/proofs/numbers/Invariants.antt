@@ -1,11 +1,6 @@
 -- `numbers` meets its contract: the numbers passed are those of the front of the bytes. Assumes nothing.
-use Prim.Native.Nat.{◌-◌}
-use lib.ListN.{length}
 use Rattle.jis_tab.proofs.Table.{Part}
 use Rattle.jis_tab.proofs.numbers.Given as goal
 
 abbrev pub invariant-loop-i : goal.invariant-loop-i
 invariant-loop-i l = Part l.bytes l.initial.cells l.cells l.i
-
-abbrev pub decreases-loop-i : goal.decreases-loop-i
-decreases-loop-i l = length l.cells - l.i

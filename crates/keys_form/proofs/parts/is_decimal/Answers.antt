@@ -1,9 +1,7 @@
 -- `is_decimal` meets its contract. Assumes nothing.
-use Rattle.keys_form.proofs.Reading.{decimal_below, decimal_rest}
+use Rattle.keys_form.specs.Line.{is_decimal}
 use Rattle.keys_form.proofs.parts.is_decimal.Goals as goal
 
-pub returns-then-x-lt48 : goal.returns-then-x-lt48
-returns-then-x-lt48 c = decimal_below c.args.x c.if-x-lt48.true
-
 pub returns : goal.returns
-returns c = decimal_rest c.args.x c.if-x-lt48.false
+unfolding is_decimal
+returns c = c.is_ascii_digit.ensures.value

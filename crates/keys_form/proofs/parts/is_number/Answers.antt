@@ -1,49 +1,34 @@
 -- `is_number` meets its contract: the digits that are left decide. Assumes nothing.
-use mathlib.Core.Path.{sym, ◌∙◌}
+use mathlib.Core.Path.{sym, ap, ◌∙◌}
+use Prim.Native.Nat.{ℕ, ◌+◌, ◌*◌, ◌≤◌}
 use native.Mathlib.Omega.{arith}
-use Rattle.keys_form.proofs.Reading.{decimal_range, number_empty, number_long, number_start, number_over, number_end, number_not, number_next}
+use borrow.Author.Tests.{eqb-true, eqb-false}
+use lib.ListN.{length, drop}
+use Rattle.keys_form.proofs.Reading.{numbers, decimal_range, number_empty, number_long, number_start, number_over, number_end, number_not, number_next}
 use Rattle.keys_form.proofs.parts.is_number.Goals as goal
 
-pub returns-then-ds-lt1 : goal.returns-then-ds-lt1
-returns-then-ds-lt1 c = number_empty _ c.if-ds-lt1.true
+pub returns-then-is_empty : goal.returns-then-is_empty
+returns-then-is_empty c = number_empty _ (omega (arith, eqb-true _ _ (sym c.is_empty.ensures ∙ c.if-is_empty.true)))
 
 pub returns-then-ds-gt10 : goal.returns-then-ds-gt10
-returns-then-ds-gt10 c = number_long _ c.if-ds-lt1.false c.if-ds-gt10.true
+returns-then-ds-gt10 c = number_long _ (omega arith) c.if-ds-gt10.true
 
-pub loop-i-init : goal.loop-i-init
-loop-i-init c = (omega arith, number_start _ c.if-ds-lt1.false c.if-ds-gt10.false)
+pub loop-x-init : goal.loop-x-init
+loop-x-init c =
+    let e : 1 ≤ length c.args.ds.now = omega (arith, eqb-false _ _ (sym c.is_empty.ensures ∙ c.if-is_empty.false)) in
+    (omega arith, number_start _ e c.if-ds-gt10.false)
 
 pub returns-then-not-is_decimal : goal.returns-then-not-is_decimal
-returns-then-not-is_decimal c =
-    sym (c.loop-i.invariant.1 ∙ number_not _ _ _ c.loop-i-test.true (sym c.is_decimal.ensures ∙ c.if-not-is_decimal.true))
-
-pub overflow_mul-v : goal.overflow_mul-v
-overflow_mul-v c = omega (arith, c.loop-i.invariant.0)
-
-pub overflow_sub-v : goal.overflow_sub-v
-overflow_sub-v c = omega (arith, decimal_range _ (sym c.is_decimal.ensures ∙ c.if-not-is_decimal.false))
-
-pub overflow_cast-v : goal.overflow_cast-v
-overflow_cast-v c = omega (arith, c.type_inv.ds c.loop-i.i)
-
-pub overflow_add-v : goal.overflow_add-v
-overflow_add-v c =
-    omega (arith, c.loop-i.invariant.0, c.type_inv.ds c.loop-i.i)
+returns-then-not-is_decimal c = sym (c.loop-x.invariant.1 ∙ number_not _ _ _ c.loop-x-test.true (sym c.is_decimal.ensures ∙ c.if-not-is_decimal.true))
 
 pub returns-then-v-gt4294967295 : goal.returns-then-v-gt4294967295
-returns-then-v-gt4294967295 c =
-    sym (c.loop-i.invariant.1 ∙ (number_next _ _ _ c.loop-i-test.true (sym c.is_decimal.ensures ∙ c.if-not-is_decimal.false) ∙ number_over _ _
-    c.if-v-gt4294967295.true))
+returns-then-v-gt4294967295 c = sym (c.loop-x.invariant.1 ∙ (number_next _ _ _ c.loop-x-test.true (sym c.is_decimal.ensures ∙ c.if-not-is_decimal.false) ∙ number_over _ _ (omega (arith, c.from.ensures))))
 
-pub overflow_add-i : goal.overflow_add-i
-overflow_add-i c = omega arith
+pub overflow_sub-x : goal.overflow_sub-x
+overflow_sub-x c = omega (arith, decimal_range _ (sym c.is_decimal.ensures ∙ c.if-not-is_decimal.false))
 
-pub loop-i-smaller : goal.loop-i-smaller
-loop-i-smaller c = omega arith
-
-pub loop-i-preserved : goal.loop-i-preserved
-loop-i-preserved c =
-    (omega arith, c.loop-i.invariant.1 ∙ number_next _ _ _ c.loop-i-test.true (sym c.is_decimal.ensures ∙ c.if-not-is_decimal.false))
+pub loop-x-preserved : goal.loop-x-preserved
+loop-x-preserved c = (omega arith, c.loop-x.invariant.1 ∙ (number_next _ _ _ c.loop-x-test.true (sym c.is_decimal.ensures ∙ c.if-not-is_decimal.false) ∙ ap (λ (n : ℕ). numbers (c.loop-x.v * 10 + n) (drop (c.loop-x.x-index + 1) c.args.ds.now)) (sym c.from.ensures)))
 
 pub returns : goal.returns
-returns c = sym (c.loop-i.invariant.1 ∙ number_end _ _ _ c.loop-i-test.false c.loop-i.invariant.0)
+returns c = sym (c.loop-x.invariant.1 ∙ number_end _ _ _ c.loop-x-test.false c.loop-x.invariant.0)
