@@ -1,7 +1,8 @@
 -- How one entry more or less changes the number of different keys. Assumes nothing.
 use Prim.Native.Nat.{ℕ, suc, ◌+◌, ◌-◌, ◌≤◌}
 use mathlib.Core.Path.{◌≡◌, refl, sym, ap, subst, ◌∙◌}
-use mathlib.Core.Bool.{Bool, true, false, cond}
+use mathlib.Core.Bool.{Bool, true, false, cond, not}
+use Rattle.std.specs.Int.{from_bool}
 use mathlib.Core.List.{List, [], ◌∷◌, ◌++◌}
 use native.Mathlib.Numerals.{add-one}
 use native.Mathlib.Omega.{arith}
@@ -83,14 +84,23 @@ keys_append [] fs = refl
 keys_append (e ∷ es) fs = ap (λ (r : List (List ℕ)). e.key ∷ r) (keys_append es fs)
 
 -- a key is among those of the entries where some have it
-pub among_having : (k : List ℕ) (es : List Entry) → ◌≡◌ {A = ℕ} (cond (among k (keys es)) 0 1) (cond (eqb (length (having k es)) 0) 1 0)
+pub among_having : (k : List ℕ) (es : List Entry) → not (among k (keys es)) ≡ eqb (length (having k es)) 0
 among_having k [] = refl
-among_having k (e ∷ es) = go (among_having k es) (same k e.key) refl
+among_having k (e ∷ es) = go (among_having k es) (same k e.key)
   where
-    go : ◌≡◌ {A = ℕ} (cond (among k (keys es)) 0 1) (cond (eqb (length (having k es)) 0) 1 0) → (t : Bool) → same k e.key ≡ t
-        → ◌≡◌ {A = ℕ} (cond (cond t true (among k (keys es))) 0 1) (cond (eqb (length (cond t (e ∷ having k es) (having k es))) 0) 1 0)
-    go ih true p = rw (ne_eqb (suc (length (having k es))) 0 (λ q. omega arith))
-    go ih false p = ih
+    go : not (among k (keys es)) ≡ eqb (length (having k es)) 0 → (t : Bool)
+        → not (cond t true (among k (keys es))) ≡ eqb (length (cond t (e ∷ having k es) (having k es))) 0
+    go ih true = sym (ne_eqb (suc (length (having k es))) 0 (λ q. omega arith))
+    go ih false = ih
+
+-- what a test adds to a count, or takes from it
+pub one_if : (b : Bool) → from_bool b ≡ cond b 1 0
+one_if true = refl
+one_if false = refl
+
+pub one_of : (b : Bool) → from_bool (not b) ≡ cond b 0 1
+one_of true = refl
+one_of false = refl
 
 having_one : (k : List ℕ) (f b : List Entry) (e : Entry) → same k e.key ≡ true → length (having k (f ++ e ∷ b)) ≡ suc (length (having k (f ++ b)))
 having_one k [] b e s = rw s
@@ -131,8 +141,9 @@ module _ (es : List Entry) (at : ℕ) where
 
     ones : ◌≡◌ {A = ℕ} (cond (among e.key (keys (taken_at at es))) 0 1) (cond (eqb (length (having e.key es)) 1) 1 0)
     ones =
-        among_having e.key (taken_at at es)
-        ∙ (ap (λ (t : Bool). cond t 1 0) (sym (eqb-suc-suc (length (having e.key (taken_at at es))) 0)) ∙ ap (λ (n : ℕ). cond (eqb n 1) 1 0) (sym one_more))
+        sym (one_of (among e.key (keys (taken_at at es))))
+        ∙ (ap from_bool (among_having e.key (taken_at at es))
+        ∙ (one_if (eqb (length (having e.key (taken_at at es))) 0) ∙ (ap (λ (t : Bool). cond t 1 0) (sym (eqb-suc-suc (length (having e.key (taken_at at es))) 0)) ∙ ap (λ (n : ℕ). cond (eqb n 1) 1 0) (sym one_more))))
 
     pub distinct_taken_at : distinct (keys (taken_at at es)) ≡ distinct (keys es) - cond (eqb (length (having e.key es)) 1) 1 0
     distinct_taken_at = omega (arith, more, ones)

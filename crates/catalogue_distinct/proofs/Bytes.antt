@@ -1,13 +1,14 @@
 -- The bytes of records: where they stand in the places, and how far two records are alike. Assumes nothing.
 use Prim.Native.Nat.{ℕ, zero, suc, ◌+◌, ◌*◌, ◌≤◌, ◌<◌}
 use mathlib.Core.Path.{◌≡◌, refl, sym, ap, ap₂, ◌∙◌, subst}
-use mathlib.Core.Bool.{Bool, true, false, cond}
+use mathlib.Core.Bool.{true}
 use mathlib.Core.List.{List, [], ◌∷◌, ◌++◌}
+use mathlib.Core.Bool.{◌&&◌}
+use lib.Dec.{eqb}
 use native.Mathlib.Numerals.{add-one}
 use native.Mathlib.Omega.{arith}
 use lib.ListN.{length, get_or, take, drop, length-drop}
 use lib.Dec.{T, eqb}
-use borrow.Author.Tests.{eq-eqb, ne_eqb}
 use lib.Seq.{length-take-le, get_or-take, get_or-drop, take-suc, take_all, take-take, take-add, drop-drop}
 use Rattle.catalogue_distinct.specs.Distinct.{same}
 use Rattle.catalogue_distinct.specs.Runs.{record_at}
@@ -82,19 +83,10 @@ equal x y from lx ly c e = sym (take_all 256 x (omega arith)) ∙ (c.alike.befor
 
 -- ---- whether the bytes from a on are those from b on, byte by byte
 
-module _ (places : List ℕ) (a b i : ℕ) (ha : a + 32 ≤ length places) (hb : b + 32 ≤ length places) (h : i < 32) where
-  next : same (take (i + 1) (drop a places)) (take (i + 1) (drop b places))
-      ≡ cond (eqb (get_or places (a + i) 0) (get_or places (b + i) 0)) (same (take i (drop a places)) (take i (drop b places))) false
-  next =
-      ap (λ (n : ℕ). same (take n (drop a places)) (take n (drop b places))) (add-one i)
-      ∙ (same_on (drop a places) (drop b places) i (omega (arith, length-drop a places)) (omega (arith, length-drop b places))
-      ∙ ap₂ (λ (x y : ℕ). cond (eqb x y) (same (take i (drop a places)) (take i (drop b places))) false) (get_or-drop a places i 0) (get_or-drop b places i 0))
-
-  pub same_next : (all : Bool) → get_or places (a + i) 0 ≡ get_or places (b + i) 0 → all ≡ same (take i (drop a places)) (take i (drop b places)) →
-      all ≡ same (take (i + 1) (drop a places)) (take (i + 1) (drop b places))
-  same_next all e s =
-      s ∙ sym (next ∙ ap (λ (t : Bool). cond t (same (take i (drop a places)) (take i (drop b places))) false) (eq-eqb (get_or places (a + i) 0) (get_or places (b + i) 0) e))
-
-  pub differ_next : (get_or places (a + i) 0 ≡ get_or places (b + i) 0 → ⊥) → false ≡ same (take (i + 1) (drop a places)) (take (i + 1) (drop b places))
-  differ_next e =
-      sym (next ∙ ap (λ (t : Bool). cond t (same (take i (drop a places)) (take i (drop b places))) false) (ne_eqb (get_or places (a + i) 0) (get_or places (b + i) 0) e))
+pub same_next : (places : List ℕ) (a b i : ℕ) → a + 32 ≤ length places → b + 32 ≤ length places → i < 32 →
+    same (take (i + 1) (drop a places)) (take (i + 1) (drop b places))
+    ≡ same (take i (drop a places)) (take i (drop b places)) && eqb (get_or places (a + i) 0) (get_or places (b + i) 0)
+same_next places a b i ha hb h =
+    ap (λ (n : ℕ). same (take n (drop a places)) (take n (drop b places))) (add-one i)
+    ∙ same_on (drop a places) (drop b places) i (omega (arith, length-drop a places)) (omega (arith, length-drop b places))
+    ∙ ap₂ (λ (x y : ℕ). same (take i (drop a places)) (take i (drop b places)) && eqb x y) (get_or-drop a places i 0) (get_or-drop b places i 0)

@@ -1,12 +1,14 @@
 -- Strings that are the same are equal; what is among strings put together is among the first or among the others. Assumes nothing.
 use Prim.Native.Nat.{ℕ, zero, suc, ◌<◌}
 use mathlib.Core.Path.{◌≡◌, refl, sym, ap, ◌∙◌, subst}
-use mathlib.Core.Bool.{Bool, true, false, cond}
+use mathlib.Core.Bool.{Bool, true, false, cond, ◌&&◌}
 use mathlib.Core.List.{List, [], ◌∷◌, ◌++◌}
 use mathlib.Core.Logic.{◌⊎◌, inl, inr}
 use native.Mathlib.Omega.{arith}
 use lib.ListN.{length, get_or, take}
 use lib.Dec.{T, eqb, eqb→eq, eqb_refl}
+use Rattle.std.proofs.Common.{nat_eq}
+use Rattle.std.specs.Cmp.Lexicographic.{pointwise}
 use Rattle.catalogue_distinct.specs.Distinct.{same, among}
 
 both_left : (a b : Bool) → T (cond a b false) → T a
@@ -34,21 +36,34 @@ pub same_refl : (a : List ℕ) → T (same a a)
 same_refl [] = tt
 same_refl (x ∷ xs) = both (eqb x x) (same xs xs) (eqb_refl x) (same_refl xs)
 
+-- what `==` of slices answers
+pub same_is : (a b : List ℕ) → pointwise nat_eq a b ≡ same a b
+same_is [] [] = refl
+same_is [] (y ∷ ys) = refl
+same_is (x ∷ xs) [] = refl
+same_is (x ∷ xs) (y ∷ ys) = as_cond (eqb x y) (pointwise nat_eq xs ys) ∙ ap (λ (t : Bool). cond (eqb x y) t false) (same_is xs ys)
+  where
+    as_cond : (p q : Bool) → (p && q) ≡ cond p q false
+    as_cond true q = refl
+    as_cond false q = refl
+
 -- ---- one byte more
 
-apart : (p q r : Bool) → cond p (cond q r false) false ≡ cond q (cond p r false) false
-apart true true r = refl
-apart true false r = refl
-apart false true r = refl
-apart false false r = refl
+apart : (p q r : Bool) → cond p (q && r) false ≡ cond p q false && r
+apart true q r = refl
+apart false q r = refl
 
 pub same_on : (u v : List ℕ) (i : ℕ) → i < length u → i < length v →
-    same (take (suc i) u) (take (suc i) v) ≡ cond (eqb (get_or u i 0) (get_or v i 0)) (same (take i u) (take i v)) false
+    same (take (suc i) u) (take (suc i) v) ≡ same (take i u) (take i v) && eqb (get_or u i 0) (get_or v i 0)
 same_on [] v i p q = absurd (omega arith)
 same_on (a ∷ u) [] i p q = absurd (omega arith)
-same_on (a ∷ u) (b ∷ v) zero p q = refl
+same_on (a ∷ u) (b ∷ v) zero p q = last (eqb a b)
+  where
+    last : (c : Bool) → cond c true false ≡ true && c
+    last true = refl
+    last false = refl
 same_on (a ∷ u) (b ∷ v) (suc i) p q =
-    ap (λ (t : Bool). cond (eqb a b) t false) (same_on u v i (omega arith) (omega arith)) ∙ apart (eqb a b) (eqb (get_or u i 0) (get_or v i 0)) (same (take i u) (take i v))
+    ap (λ (t : Bool). cond (eqb a b) t false) (same_on u v i (omega arith) (omega arith)) ∙ apart (eqb a b) (same (take i u) (take i v)) (eqb (get_or u i 0) (get_or v i 0))
 
 -- ---- among
 

@@ -1,10 +1,13 @@
 -- Parts of a list whose numbers are replaced one by one. Assumes nothing.
-use Prim.Native.Nat.{ℕ, zero, suc, ◌+◌, ◌≤◌, ◌<◌}
+use Prim.Native.Nat.{ℕ, zero, suc, ◌+◌, ◌-◌, ◌≤◌, ◌<◌}
 use mathlib.Core.Path.{◌≡◌, refl, sym, ap, ap₂, ◌∙◌}
-use mathlib.Core.List.{List, [], ◌∷◌, ◌++◌}
+use mathlib.Core.List.{List, [], ◌∷◌, ◌++◌, append_assoc}
 use native.Mathlib.Omega.{arith}
 use lib.ListN.{length, set, take, drop, length-set}
-use lib.Seq.{slice, slice-cons, take-set-le, get_or-set_same, drop-drop, take-append-le}
+use borrow.Rule.Slice.PartMut.{put_mid}
+use Rattle.std.proofs.lemmas.Slice.{between_is}
+use Rattle.lent.specs.Put.{Put}
+use lib.Seq.{slice, slice-cons, take-set-le, get_or-set_same, drop-drop, take-append-le, length-slice, sets, sets-eq}
 
 -- a number before the part
 pub slice_before : (f t : ℕ) (l : List ℕ) (i v : ℕ) → i < f → slice f t (set l i v) ≡ slice f t l
@@ -47,3 +50,23 @@ second_part_lem (x ∷ e) f half b l = go half l (second_part_lem e f)
     go (suc h) q r =
         let n : suc h + b ≡ suc (h + b) = omega arith in
         ap (λ (i : ℕ). slice (suc h) i (x ∷ (e ++ f))) n ∙ r h b (omega arith)
+
+-- ---- a part that is written
+
+pub mid_sets : (i k : ℕ) (l ys : List ℕ) → length ys ≡ k → i + k ≤ length l → put_mid i k l ys ≡ sets l i ys
+mid_sets i k l ys e h =
+    let f : k ≡ length ys = sym e in
+    ap (λ (r : List ℕ). take i l ++ (ys ++ r)) (drop-drop k i l ∙ ap (λ (n : ℕ). drop (i + n) l) f)
+    ∙ (sym (append_assoc (take i l) ys (drop (i + length ys) l)) ∙ sym (sets-eq ys l i (omega arith)))
+
+-- the part from lo to hi of another list
+pub put_part : (to from : List ℕ) (i lo hi k : ℕ) (ys : List ℕ) → k ≡ hi - lo → lo ≤ hi → hi ≤ length from → i + (hi - lo) ≤ length to →
+    ys ≡ take (hi - lo) (drop lo from) → Put to i (slice lo hi from) (put_mid i k to ys) (i + (hi - lo))
+put_part to from i lo hi k ys q l h r e =
+    let s : ys ≡ slice lo hi from = e ∙ between_is from lo hi in
+    let n : length (slice lo hi from) ≡ hi - lo = length-slice lo hi from h in
+    let m : length ys ≡ k = ap length s ∙ (n ∙ sym q) in
+    record {
+      written = mid_sets i k to ys m (omega arith) ∙ ap (sets to i) s;
+      next = omega arith;
+    }

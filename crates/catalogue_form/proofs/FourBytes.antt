@@ -1,12 +1,12 @@
 -- Numbers of four bytes, written and read. Assumes nothing.
 use Prim.Native.Nat.{ℕ, ◌+◌, ◌*◌, ◌/◌, ◌%◌, ◌<◌}
-use mathlib.Core.Path.{◌≡◌}
+use mathlib.Core.Path.{◌≡◌, ap}
+use Rattle.std.specs.Int.{to_be_bytes}
+use Rattle.std.proofs.Common.{w32}
 use mathlib.Core.List.{List, [], ◌∷◌, ◌++◌}
-use native.Mathlib.Nat.{add-zero}
 use native.Mathlib.Omega.{arith}
-use lib.ListN.{get_or, drop, set}
-use lib.Seq.{get_or-drop, sets}
-use native.Mathlib.Numerals.{towards_suc}
+use lib.ListN.{get_or, drop}
+use lib.Seq.{get_or-drop}
 use Rattle.catalogue_form.specs.Form.{big_endian, value}
 
 -- each is a byte
@@ -15,11 +15,6 @@ Bytes l = (i : ℕ) → get_or l i 0 < 256
 
 pub bytes_drop : (n : ℕ) (l : List ℕ) → Bytes l → Bytes (drop n l)
 bytes_drop n l b i = rw get_or-drop (b (n + i))
-
--- the four bytes at a place
-pub value_at : (s : List ℕ) (at : ℕ) →
-    ((get_or s at 0 * 256 + get_or s (at + 1) 0) * 256 + get_or s (at + 2) 0) * 256 + get_or s (at + 3) 0 ≡ value (drop at s)
-value_at s at = rw (get_or-drop at s 0 0, get_or-drop at s 1 0, get_or-drop at s 2 0, get_or-drop at s 3 0, add-zero at)
 
 -- a number's digits in base 256
 digits : (n : ℕ) → ((n / 16777216 * 256 + n / 65536 % 256) * 256 + n / 256 % 256) * 256 + n % 256 ≡ n
@@ -43,7 +38,8 @@ big_endian_value a b c d hb hc hd =
     let last : n % 256 ≡ d = omega arith in
     rw (first, second, third, last)
 
--- four stores
-pub put_four : (s : List ℕ) (at n : ℕ) →
-    set (set (set (set s at (n / 16777216)) (at + 1) (n / 65536 % 256)) (at + 2) (n / 256 % 256)) (at + 3) (n % 256) ≡ sets s at (big_endian n)
-put_four s at n = simp towards_suc
+-- std's four bytes are those
+pub be_bytes : (n : ℕ) → n < 4294967296 → to_be_bytes w32 n ≡ big_endian n
+be_bytes n h =
+    let a : n / 16777216 % 256 ≡ n / 16777216 = omega arith in
+    ap (λ (x : ℕ). x ∷ n / 65536 % 256 ∷ n / 256 % 256 ∷ n % 256 ∷ []) a

@@ -1,7 +1,11 @@
 -- Zeros behind a list, as `padded` puts them and as a loop tests them. Assumes nothing.
 use Prim.Native.Nat.{ℕ, zero, suc, ◌-◌, ◌≤◌}
 use mathlib.Core.Path.{◌≡◌, refl, sym, ap, ap₂, ◌∙◌}
-use mathlib.Core.Bool.{true, and-eq-true_iff}
+use mathlib.Core.Bool.{Bool, true, false, ◌&&◌, and-eq-true_iff}
+use lib.Bits.{bit_or}
+use lib.Dec.{eqb}
+use Rattle.std.specs.List.{fold}
+use Rattle.questions.proofs.CellTable.{or_zero}
 use mathlib.Core.List.{List, [], ◌∷◌, ◌++◌}
 use native.Mathlib.Nat.{not-suc-le-zero, sub-zero, zero-sub, suc-sub-suc}
 use native.Mathlib.Omega.{arith}
@@ -25,6 +29,20 @@ pub zeros_zero : (n : ℕ) → all zero? (replicate n 0) ≡ true
 unfolding all
 zeros_zero zero = refl
 zeros_zero (suc n) = zeros_zero n
+
+and_true : (a : Bool) → a && true ≡ a
+and_true true = refl
+and_true false = refl
+
+and_assoc : (a b c : Bool) → a && (b && c) ≡ a && b && c
+and_assoc true b c = refl
+and_assoc false b c = refl
+
+-- bits that are or-ed are zero where all are
+pub bits_zero : (b : ℕ) (l : List ℕ) → eqb (fold bit_or b l) 0 ≡ eqb b 0 && all zero? l
+unfolding all
+bits_zero b [] = sym (and_true (eqb b 0))
+bits_zero b (x ∷ l) = bits_zero (bit_or b x) l ∙ (ap (λ (t : Bool). t && all zero? l) (or_zero b x) ∙ sym (and_assoc (eqb b 0) (zero? x) (all zero? l)))
 
 pub zero_zeros : (l : List ℕ) → all zero? l ≡ true → l ≡ replicate (length l) 0
 unfolding all

@@ -24,13 +24,7 @@ pub const HEAD: usize = 5;
 fn zero(s: &[u8]) -> bool
     ensures { result ≡ all zero? s.now }
 {
-    let mut bits: u8 = 0;
-    let mut i = 0;
-    while i < s.len() {
-        bits = bits | s[i];
-        i += 1;
-    }
-    bits == 0
+    s.iter().fold(0, |bits, &byte| bits | byte) == 0
 }
 
 /// Whether a place is zero behind its key.
@@ -49,18 +43,13 @@ fn rise(places: &[u8], n: usize) -> bool
     ensures { result ≡ places_hold 0 n places.now }
 {
     let mut least: u64 = 0;
-    let mut i = 0;
-    while i < n {
+    for i in 0..n {
         let at = i * PLACE;
-        let number = numbers::number(places, at) as u64;
-        if number < least {
-            return false;
-        }
-        if !zero_behind(&places[at..at + PLACE]) {
+        let number = u64::from(numbers::number(places, at));
+        if number < least || !zero_behind(&places[at..at + PLACE]) {
             return false;
         }
         least = number + 1;
-        i += 1;
     }
     true
 }

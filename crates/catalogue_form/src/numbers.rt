@@ -8,7 +8,7 @@ pub fn number(s: &[u8], at: usize) -> u32
     requires { at + 4 ≤ length s.now }
     ensures { result ≡ value (drop at s.now) }
 {
-    ((s[at] as u32 * 256 + s[at + 1] as u32) * 256 + s[at + 2] as u32) * 256 + s[at + 3] as u32
+    u32::from_be_bytes([s[at], s[at + 1], s[at + 2], s[at + 3]])
 }
 
 /// Puts a number at a place.
@@ -16,8 +16,5 @@ pub fn put_number(s: &mut [u8], at: usize, n: u32)
     requires { at + 4 ≤ length s.old }
     ensures { s.new ≡ sets s.old at (big_endian n) }
 {
-    s[at] = (n / 16777216) as u8;
-    s[at + 1] = (n / 65536 % 256) as u8;
-    s[at + 2] = (n / 256 % 256) as u8;
-    s[at + 3] = (n % 256) as u8;
+    s[at..at + 4].copy_from_slice(&n.to_be_bytes());
 }

@@ -1,17 +1,16 @@
 -- Entries at their places, looked at one after the other from the front or from the back. Assumes nothing.
 use Prim.Native.Nat.{ℕ, zero, suc, ◌+◌, ◌*◌, ◌≤◌, ◌<◌}
-use mathlib.Core.Path.{◌≡◌, refl, sym, ap, ap₂, subst, ◌∙◌}
-use mathlib.Core.Bool.{Bool, true, false, cond, ◌&&◌}
+use mathlib.Core.Path.{◌≡◌, refl, sym, ap, ◌∙◌}
+use mathlib.Core.Bool.{true, false}
 use mathlib.Core.List.{List, [], ◌∷◌}
 use native.Mathlib.Nat.{not-suc-le-zero, add-zero}
 use native.Mathlib.Numerals.{add-one}
 use native.Mathlib.Omega.{arith}
 use borrow.Author.Tests.{lt-ltb, le-ltb}
-use lib.Dec.{T, eqb}
+use lib.Dec.{eqb}
 use lib.ListN.{length, get_or, take, drop, drop_of_length-le}
-use lib.Seq.{drop-cons, drop-drop, take-take}
+use lib.Seq.{drop-drop, take-take}
 use Rattle.catalogue_distinct.specs.Distinct.{same}
-use Rattle.catalogue_distinct.proofs.Same.{same_eq}
 use Rattle.catalogue_form.specs.Form.{Entry, value, entry_of, entries_of}
 use Rattle.catalogue_form.specs.Entries.{having}
 use Rattle.catalogue_places.specs.Promises.{before, headed, first_number}
@@ -39,6 +38,10 @@ entry_front (x ∷ y ∷ z ∷ []) h b = absurd (omega arith)
 entry_front (x ∷ y ∷ z ∷ w ∷ []) h b = absurd (omega arith)
 entry_front (x ∷ y ∷ z ∷ w ∷ n ∷ r) h b = rw (take-take n 255 r (omega arith))
 
+-- so it has the same key
+pub same_front : (key l : List ℕ) (w : ℕ) → w ≡ 260 → 260 ≤ length l → get_or l 4 0 < 256 → same key (entry_of l).key ≡ same key (entry_of (take w l)).key
+same_front key l w s h b = sym (ap (λ (k : ℕ). same key (entry_of (take k l)).key) s ∙ ap (λ (e : Entry). same key e.key) (entry_front l h b))
+
 -- ---- from the front: the place of a number
 
 module _ (m n : ℕ) (l : List ℕ) where
@@ -61,40 +64,6 @@ module _ (m n : ℕ) (l : List ℕ) where
 
   pub stands_not : (i : ℕ) → n ≤ i → false ≡ headed m (drop i es)
   stands_not i h = rw (drop_of_length-le es {i = i} (rw length_entries h))
-
--- ---- two strings, a byte at a time
-
-same_cons : (x y : ℕ) (k l : List ℕ) → same (x ∷ k) (y ∷ l) ≡ eqb x y && same k l
-same_cons x y k l = go (eqb x y) refl
-  where
-    go : (b : Bool) → eqb x y ≡ b → cond b (same k l) false ≡ b && same k l
-    go true e = refl
-    go false e = refl
-
-and_assoc : (a b c : Bool) → a && (b && c) ≡ a && b && c
-and_assoc true b c = refl
-and_assoc false b c = refl
-
-and_true : (a : Bool) → a && true ≡ a
-and_true true = refl
-and_true false = refl
-
-module _ (a b : List ℕ) (long : length a ≡ length b) (i : ℕ) (good : Bool) (e : same a b ≡ good && same (drop i a) (drop i b)) where
-  pub same_turn : i < length a → same a b ≡ good && eqb (get_or a i 0) (get_or b i 0) && same (drop (i + 1) a) (drop (i + 1) b)
-  same_turn h =
-      let k : i < length b = omega arith in
-      e ∙ (ap₂ (λ (p q : List ℕ). good && same p q) (drop-cons a i 0 h) (drop-cons b i 0 k)
-      ∙ (ap (λ (t : Bool). good && t) (same_cons (get_or a i 0) (get_or b i 0) (drop (suc i) a) (drop (suc i) b)) ∙ rw add-one (and_assoc good _ _)))
-
-  pub same_end : length a ≤ i → good ≡ same a b
-  same_end h = sym (e ∙ rw (drop_of_length-le a {i = i} h, drop_of_length-le b {i = i} (omega arith)) (and_true good))
-
-pub same_not : (a b : List ℕ) → (length a ≡ length b → ⊥) → false ≡ same a b
-same_not a b never = go (same a b) refl
-  where
-    go : (t : Bool) → same a b ≡ t → false ≡ t
-    go true e = absurd (never (ap length (same_eq a b (subst T (sym e) tt))))
-    go false e = refl
 
 -- ---- from the back: the entries that have a key
 

@@ -22,10 +22,6 @@ headed n (e ∷ es) = eqb e.number n
 abbrev pub opened : List ℕ → ℕ → ℕ → List ℕ → List ℕ
 opened s at n carried = paste s at (carried ++ drop at s) (n * 260)
 
--- so many bytes from `at` on are those that stood a place further
-abbrev pub moved_back : List ℕ → ℕ → ℕ → List ℕ
-moved_back s at n = paste s at (drop (at + 260) s) n
-
 -- of n places the one behind so many is away: the others are there, then zeros for the last, and what stood behind
 abbrev pub closed : List ℕ → ℕ → ℕ → List ℕ
 closed s n at = take (at * 260) s ++ (take ((n - 1 - at) * 260) (drop ((at + 1) * 260) s) ++ (replicate 260 0 ++ drop (n * 260) s))

@@ -13,7 +13,8 @@ ghost use Rattle.catalogue_places.specs.Promises.{before, headed, first_number};
 use catalogue_distinct::PLACE;
 use catalogue_form::{HEAD, numbers};
 
-/// The entries that have a key: how many, and the first one's number, 0 where there is none.
+/// The entries that have a key: how many, and the first one's number, 0 where there is none: `arib_catalogue_find` answers
+/// both as they stand here.
 #[derive(Clone, Copy)]
 pub struct Holders {
     pub entries: usize,
@@ -26,14 +27,12 @@ pub fn position(places: &[u8], n: usize, number: u32) -> usize
     requires n_in_bounds { n * 260 ≤ length places.now }
     ensures { result ≡ before number (entries_of n places.now) }
 {
-    let mut i = 0;
-    while i < n {
+    for i in 0..n {
         if numbers::number(places, i * PLACE) >= number {
             return i;
         }
-        i += 1;
     }
-    i
+    n
 }
 
 /// Whether an entry with this number stands behind so many of n.
@@ -42,24 +41,7 @@ pub fn stands(places: &[u8], n: usize, number: u32, at: usize) -> bool
     requires n_in_bounds { n * 260 ≤ length places.now }
     ensures { result ≡ headed number (drop at (entries_of n places.now)) }
 {
-    if at < n {
-        return numbers::number(places, at * PLACE) == number;
-    }
-    false
-}
-
-/// Whether two strings of one length are the same. There is no early way out, so that many bytes are compared at a time.
-fn equal(a: &[u8], b: &[u8]) -> bool
-    requires { length a.now ≡ length b.now }
-    ensures { result ≡ same a.now b.now }
-{
-    let mut good = true;
-    let mut i = 0;
-    while i < a.len() {
-        good = good & (a[i] == b[i]);
-        i += 1;
-    }
-    good
+    at < n && numbers::number(places, at * PLACE) == number
 }
 
 /// Whether the entry of a place has a key.
@@ -68,10 +50,7 @@ fn has(place: &[u8], key: &[u8]) -> bool
     ensures { result ≡ same key.now (entry_of place.now).key }
 {
     let len = place[4] as usize;
-    if key.len() != len {
-        return false;
-    }
-    equal(key, &place[HEAD..HEAD + len])
+    key == &place[HEAD..HEAD + len]
 }
 
 /// The entries, of n, that have a key. They are looked at from the last on, so that the first one's number stays.
@@ -83,9 +62,7 @@ pub fn having(places: &[u8], n: usize, key: &[u8]) -> Holders
 {
     let mut entries = 0;
     let mut number = 0;
-    let mut i = n;
-    while i > 0 {
-        i -= 1;
+    for i in (0..n).rev() {
         let at = i * PLACE;
         if has(&places[at..at + PLACE], key) {
             entries += 1;

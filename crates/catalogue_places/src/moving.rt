@@ -2,51 +2,23 @@
 ghost use Rattle.std.specs.Prelude.{◌≡◌, ◌≤◌, ◌<◌, ◌+◌, ◌*◌, length, replicate};
 ghost use Rattle.std.proofs.lemmas.List.Edits.{sets};
 ghost use Rattle.catalogue_form.specs.Form.{place};
-ghost use Rattle.catalogue_places.specs.Promises.{opened, moved_back, closed};
+ghost use Rattle.catalogue_places.specs.Promises.{opened, closed};
 
 use catalogue_distinct::PLACE;
 use catalogue_form::{HEAD, numbers};
 
-/// Each gets the other's bytes.
-fn exchange(a: &mut [u8], b: &mut [u8])
-    requires { length a.old ≡ length b.old }
-    ensures a_after { a.new ≡ b.old }
-    ensures b_after { b.new ≡ a.old }
-{
-    let mut i = 0;
-    while i < a.len() {
-        let x = a[i];
-        a[i] = b[i];
-        b[i] = x;
-        i += 1;
-    }
-}
-
 /// Moves n - 1 places from `at` on a place further, over the one behind them, and puts the carried one before them.
-pub fn make_room(places: &mut [u8], at: usize, n: usize, carried: &mut [u8])
-    requires carried_len { length carried.old ≡ 260 }
+pub fn make_room(places: &mut [u8], at: usize, n: usize, carried: &[u8])
+    requires carried_len { length carried.now ≡ 260 }
     requires n_in_bounds { at + n * 260 ≤ length places.old }
-    ensures { places.new ≡ opened places.old at n carried.old }
+    ensures { places.new ≡ opened places.old at n carried.now }
 {
-    let mut i = 0;
-    let mut from = at;
-    while i < n {
-        exchange(&mut places[from..from + PLACE], carried);
-        from += PLACE;
-        i += 1;
+    if n == 0 {
+        return;
     }
-}
-
-/// Moves n bytes back by a place, to `at`.
-fn back(places: &mut [u8], at: usize, n: usize)
-    requires { at + n + 260 ≤ length places.old }
-    ensures { places.new ≡ moved_back places.old at n }
-{
-    let mut i = 0;
-    while i < n {
-        places[at + i] = places[at + i + PLACE];
-        i += 1;
-    }
+    let next = at + PLACE;
+    places.copy_within(at..at + (n - 1) * PLACE, next);
+    places[at..next].copy_from_slice(carried);
 }
 
 /// Takes the place behind so many of n away: those behind it move back, and the last one is cleared.
@@ -58,20 +30,8 @@ pub fn close_up(places: &mut [u8], n: usize, at: usize)
 {
     let last = (n - 1) * PLACE;
     let from = at * PLACE;
-    back(places, from, last - from);
-    questions::clear(&mut places[last..last + PLACE], 0);
-}
-
-/// Puts a string at a place.
-fn copy(d: &mut [u8], at: usize, s: &[u8])
-    requires { at + length s.now ≤ length d.old }
-    ensures { d.new ≡ sets d.old at s.now }
-{
-    let mut i = 0;
-    while i < s.len() {
-        d[at + i] = s[i];
-        i += 1;
-    }
+    places.copy_within(from + PLACE..last + PLACE, from);
+    places[last..last + PLACE].fill(0);
 }
 
 /// The place of an entry, written into one that is zero.
@@ -82,5 +42,5 @@ pub fn write(zeros: &mut [u8], number: u32, key: &[u8])
 {
     numbers::put_number(zeros, 0, number);
     zeros[4] = key.len() as u8;
-    copy(zeros, HEAD, key);
+    zeros[HEAD..HEAD + key.len()].copy_from_slice(key);
 }

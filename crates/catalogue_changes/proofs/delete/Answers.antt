@@ -4,23 +4,10 @@ use mathlib.Core.Path.{sym, ap, ap₂, ◌∙◌}
 use mathlib.Core.List.{List, ◌++◌}
 use lib.ListN.{length}
 use Rattle.catalogue_changes.proofs.Stores.{long, few, rest_long, given_long, given_front, given_rest, alone_low, deleted}
+use Rattle.std.specs.Int.{from_bool}
+use Rattle.catalogue_changes.proofs.Keys.{one_if}
 use native.Mathlib.Omega.{arith}
 use Rattle.catalogue_changes.proofs.delete.Goals as goal
-
-pub number-requires : goal.number-requires
-number-requires c =
-    let h = long c.args.store.now c.args.n c.requires.holds in
-    omega (arith, h)
-
-pub slice_bounds-alone-count : goal.slice_bounds-alone-count
-slice_bounds-alone-count c =
-    let h = long c.args.store.now c.args.n c.requires.holds in
-    omega (arith, h)
-
-pub slice_bounds-alone-start : goal.slice_bounds-alone-start
-slice_bounds-alone-start c =
-    let h = long c.args.store.now c.args.n c.requires.holds in
-    omega (arith, h)
 
 pub alone-requires : goal.alone-requires
 alone-requires c =
@@ -34,17 +21,8 @@ alone-requires c =
 
 pub overflow_sub-distinct : goal.overflow_sub-distinct
 overflow_sub-distinct c =
-    omega (arith, c.number.ensures, c.alone.ensures, alone_low c.args.store.now c.args.n c.requires.holds c.args.at c.requires.at_lt_n)
-
-pub slice_bounds-close_up-count : goal.slice_bounds-close_up-count
-slice_bounds-close_up-count c =
-    let h = long c.args.store.now c.args.n c.requires.holds in
-    omega (arith, h)
-
-pub slice_bounds-close_up-start : goal.slice_bounds-close_up-start
-slice_bounds-close_up-start c =
-    let h = long c.args.store.now c.args.n c.requires.holds in
-    omega (arith, h)
+    let one = c.from.ensures ∙ (ap from_bool c.alone.ensures ∙ one_if _) in
+    omega (arith, c.number.ensures, one, alone_low c.args.store.now c.args.n c.requires.holds c.args.at c.requires.at_lt_n)
 
 pub close_up-requires : goal.close_up-requires
 close_up-requires c =
@@ -85,4 +63,4 @@ returns c =
     let h : 8 ≤ length store = omega (arith, long store a.n c.requires.holds) in
     ap (λ (r : List ℕ). c.counts.new.front ++ r) (given_rest store c.close_up.new.places h)
     ∙ deleted store a.n c.requires.holds a.at c.requires.at_lt_n c.counts.ensures
-    (ap₂ (λ (x y : ℕ). x - y) c.number.ensures c.alone.ensures) c.close_up.ensures
+    (ap₂ (λ (x y : ℕ). x - y) c.number.ensures (c.from.ensures ∙ (ap from_bool c.alone.ensures ∙ one_if _))) c.close_up.ensures

@@ -7,23 +7,12 @@ use Rattle.catalogue_form.specs.Form.{Entry}
 use Rattle.catalogue_form.proofs.Places.{length_place}
 use Rattle.catalogue_changes.proofs.Stores.{long, few, rest_long, given_long, given_front, given_rest, rest, count_low, one_low, inserted}
 use Rattle.catalogue_places.specs.Promises.{opened}
+use Rattle.std.specs.Int.{from_bool}
+use Rattle.catalogue_changes.proofs.Keys.{one_of}
+use Rattle.catalogue_distinct.specs.Distinct.{among}
+use Rattle.catalogue_form.specs.Form.{keys, entries_of}
 use native.Mathlib.Omega.{arith}
 use Rattle.catalogue_changes.proofs.insert.Goals as goal
-
-pub number-requires : goal.number-requires
-number-requires c =
-    let h = long c.args.store.now c.args.n c.requires.holds in
-    omega (arith, h)
-
-pub slice_bounds-absent-count : goal.slice_bounds-absent-count
-slice_bounds-absent-count c =
-    let h = long c.args.store.now c.args.n c.requires.holds in
-    omega (arith, h)
-
-pub slice_bounds-absent-start : goal.slice_bounds-absent-start
-slice_bounds-absent-start c =
-    let h = long c.args.store.now c.args.n c.requires.holds in
-    omega (arith, h)
 
 pub absent-requires : goal.absent-requires
 absent-requires c =
@@ -34,17 +23,8 @@ pub overflow_add-distinct : goal.overflow_add-distinct
 overflow_add-distinct c =
     let a = c.args in
     let store = a.store.now in
-    omega (arith, c.number.ensures, c.absent.ensures, count_low store a.n c.requires.holds, one_low store a.n c.requires.holds a.key.now)
-
-pub slice_bounds-make_room-count : goal.slice_bounds-make_room-count
-slice_bounds-make_room-count c =
-    let h = long c.args.store.now c.args.n c.requires.holds in
-    omega (arith, h)
-
-pub slice_bounds-make_room-start : goal.slice_bounds-make_room-start
-slice_bounds-make_room-start c =
-    let h = long c.args.store.now c.args.n c.requires.holds in
-    omega (arith, h)
+    let one = c.from.ensures ∙ (ap from_bool c.absent.ensures ∙ one_of (among a.key.now (keys (entries_of a.n (rest store a.n c.requires.holds))))) in
+    omega (arith, c.number.ensures, one, count_low store a.n c.requires.holds, one_low store a.n c.requires.holds a.key.now)
 
 pub make_room-requires : goal.make_room-requires
 make_room-requires c =
@@ -82,5 +62,5 @@ returns c =
     let room = ap (λ (l : List ℕ). opened (rest store a.n c.requires.holds) (a.at * 260) (a.n - a.at + 1) l) c.write.ensures in
     ap (λ (r : List ℕ). c.counts.new.front ++ r) (given_rest store c.make_room.new.places h)
     ∙ inserted store a.n c.requires.holds a.at e c.requires.n_bound c.requires.at_le_n c.counts.ensures
-    (ap₂ (λ (x y : ℕ). x + y) c.number.ensures c.absent.ensures)
+    (ap₂ (λ (x y : ℕ). x + y) c.number.ensures (c.from.ensures ∙ (ap from_bool c.absent.ensures ∙ one_of _)))
     (c.make_room.ensures ∙ room)

@@ -1,12 +1,8 @@
 -- `alike` meets its contract: what was looked at is the same so far. Assumes nothing.
-use Prim.Native.Nat.{◌-◌, ◌≤◌}
 use mathlib.Core.Path.{◌≡◌}
 use lib.ListN.{take, drop}
 use Rattle.catalogue_distinct.specs.Distinct.{same}
 use Rattle.catalogue_distinct.proofs.alike.Given as goal
 
 abbrev pub invariant-loop-i : goal.invariant-loop-i
-invariant-loop-i l = (l.i ≤ 32) × (l.all ≡ same (take l.i (drop l.a l.places)) (take l.i (drop l.b l.places)))
-
-abbrev pub decreases-loop-i : goal.decreases-loop-i
-decreases-loop-i l = 32 - l.i
+invariant-loop-i l = l.all ≡ same (take l.i (drop l.a l.places)) (take l.i (drop l.b l.places))

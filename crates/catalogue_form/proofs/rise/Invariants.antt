@@ -6,7 +6,4 @@ use Rattle.catalogue_form.specs.Promises.{places_hold}
 use Rattle.catalogue_form.proofs.rise.Given as goal
 
 abbrev pub invariant-loop-i : goal.invariant-loop-i
-invariant-loop-i l = (l.i ≤ l.n) × ((l.least ≤ 0x100000000) × (places_hold 0 l.n l.places ≡ places_hold l.least (l.n - l.i) (drop (l.i * 260) l.places)))
-
-abbrev pub decreases-loop-i : goal.decreases-loop-i
-decreases-loop-i l = l.n - l.i
+invariant-loop-i l = ((l.least ≤ 0x100000000) × (places_hold 0 l.n l.places ≡ places_hold l.least (l.n - l.i) (drop (l.i * 260) l.places)))

@@ -6,7 +6,4 @@ use Rattle.catalogue_places.proofs.Looking.{Counted}
 use Rattle.catalogue_places.proofs.having.Given as goal
 
 abbrev pub invariant-loop-i : goal.invariant-loop-i
-invariant-loop-i l = (l.i ≤ l.n) × ((l.entries + l.i ≤ l.n) × Counted l.key (drop l.i (entries_of l.n l.places)) l.entries l.number)
-
-abbrev pub decreases-loop-i : goal.decreases-loop-i
-decreases-loop-i l = l.i
+invariant-loop-i l = (l.entries + l.i ≤ l.n) × Counted l.key (drop l.i (entries_of l.n l.places)) l.entries l.number
