@@ -1,11 +1,17 @@
 -- The clean call, from what the decoder's steps leave. Assumes nothing.
 use Prim.Native.Nat.{ℕ, zero, suc, ◌≤◌, ◌<◌}
-use mathlib.Core.Path.{◌≡◌, refl, sym, ap, ◌∙◌}
+use mathlib.Core.Path.{◌≡◌, refl, sym, ap, ◌∙◌, subst}
 use mathlib.Core.Bool.{Bool, true, false, cond}
 use mathlib.Core.List.{List, [], ◌∷◌}
 use mathlib.Core.Logic.{inl, inr}
 use native.Mathlib.Omega.{arith}
+use borrow.Author.Tests.{ne_eqb}
+use lib.Dec.{eqb}
 use lib.ListN.{length}
+use Rattle.std.specs.Prelude.{Ok, Err}
+use Rattle.questions.specs.declared.refusal.Refusal.{Refusal}
+use Rattle.questions.specs.Refusal.{number_of, place_of}
+use Rattle.questions.proofs.Refusals.{some_number}
 use Rattle.issues.specs.Issue.{Issue}
 use Rattle.decode_output.specs.declared.Out.{Out}
 use Rattle.decode_output.specs.Output.{release}
@@ -21,8 +27,7 @@ use Rattle.decode_outer.specs.declared.Reached.{Reached}
 use Rattle.decode_outer.specs.Promises.{TopRan}
 use Rattle.decode_outer.proofs.Start.{enough_end, ran_start}
 use Rattle.clean.specs.Clean.{is_empty, clean, Outcome, outcome_of, outcome}
-use Rattle.clean.specs.Promises.{verdict_of, Answered}
-use Rattle.clean.specs.declared.CleanAnswer.TheVariants.{Yes, No, Refused}
+use Rattle.clean.specs.Promises.{CleanAnswer, Answered}
 
 -- ---- the answer
 
@@ -42,37 +47,41 @@ module _ (c : Lent) where
   failed_as q z = ap (λ (n : ℕ). outcome_of n c) z
 
   -- the answer by how many issues there are
-  pub answered : refusal c ≡ 0 → (n : ℕ) → n ≡ length (reading c).out.issues → Answered c (verdict_of n)
+  pub answered : refusal c ≡ 0 → (n : ℕ) → n ≡ length (reading c).out.issues → Answered c (Ok (eqb n 0))
   unfolding is_empty
   answered z n e = go n (reading c).out.issues refl e
     where
       o : outcome c ≡ record { refused = 0; clean = cond (clean c) 1 0 }
       o = passed_as z
 
-      said : (b : Bool) → clean c ≡ b → (outcome c).clean ≡ cond b 1 0
-      said b q = ap (λ (x : Outcome). x.clean) o ∙ ap (λ (b : Bool). cond b 1 0) q
+      by : (b : Bool) → clean c ≡ b → Answered c (Ok b)
+      by b q = record {
+        number = sym (ap (λ (x : Outcome). x.refused) o);
+        case = λ k. ap Ok (sym q);
+        place = refl;
+        said = sym (ap (λ (x : Outcome). x.clean) o ∙ ap (λ (b : Bool). cond b 1 0) q);
+      }
 
-      go : (n : ℕ) (l : List Issue) → (reading c).out.issues ≡ l → n ≡ length l → Answered c (verdict_of n)
-      go zero [] q h =
-          let w : clean c ≡ true = clean_as [] q in
-          record { number = sym (ap (λ (x : Outcome). x.refused) o); case = λ k. sym (ap (λ (b : Bool). cond b Yes No) w); place = refl; said = sym (said true w) }
-      go (suc n) (i ∷ l) q h =
-          let w : clean c ≡ false = clean_as (i ∷ l) q in
-          record { number = sym (ap (λ (x : Outcome). x.refused) o); case = λ k. sym (ap (λ (b : Bool). cond b Yes No) w); place = refl; said = sym (said false w) }
+      go : (n : ℕ) (l : List Issue) → (reading c).out.issues ≡ l → n ≡ length l → Answered c (Ok (eqb n 0))
+      go zero [] q h = by true (clean_as [] q)
+      go (suc n) (i ∷ l) q h = by (eqb (suc n) 0) (clean_as (i ∷ l) q ∙ sym (ne_eqb (suc n) 0 (λ k. omega (arith, k))))
       go zero (i ∷ l) q h = absurd (omega (arith, h))
       go (suc n) [] q h = absurd (omega (arith, h))
 
   -- one of questions 1 to 3 fails
-  pub refused : (q : ℕ) → refusal c ≡ q → 0 < q → Answered c (Refused q 0)
-  refused zero e h = absurd (omega arith)
-  refused (suc q) e h =
-      let o = failed_as q e in
-      record {
-        number = sym (ap (λ (x : Outcome). x.refused) o);
-        case = λ k. absurd (omega (arith, k));
-        place = refl;
-        said = sym (ap (λ (x : Outcome). x.clean) o);
-      }
+  pub refused : (e : Refusal) {r : CleanAnswer} → r ≡ Err e → number_of e ≡ refusal c → place_of e ≡ 0 → Answered c r
+  refused e w n p = subst (λ (r : CleanAnswer). Answered c r) (sym w) (go (number_of e) refl)
+    where
+      go : (q : ℕ) → number_of e ≡ q → Answered c (Err e)
+      go zero y = absurd (omega (arith, some_number e, y))
+      go (suc q) y =
+          let o = failed_as q (sym n ∙ y) in
+          record {
+            number = y ∙ sym (ap (λ (x : Outcome). x.refused) o);
+            case = λ k. absurd (omega (arith, y, k));
+            place = p;
+            said = sym (ap (λ (x : Outcome). x.clean) o);
+          }
 
 -- ---- from the start, by all steps and the release of the marks
 
@@ -97,7 +106,7 @@ module _ (cells : List ℕ) (initial width : ℕ) (input t i : List ℕ) (x : Co
   read = refl
 
   -- an issue before the end
-  pub answered_no : 0 < r.decoder.core.out.issues → Answered (lent cells initial width input) No
+  pub answered_no : 0 < r.decoder.core.out.issues → Answered (lent cells initial width input) (Ok false)
   answered_no h = some (reading (lent cells initial width input)).out.issues refl (later (has ran))
     where
       has : Ran → 1 ≤ length ends.out.issues
@@ -108,13 +117,15 @@ module _ (cells : List ℕ) (initial width : ℕ) (input t i : List ℕ) (x : Co
       later k = rw read (has_later (issues_only_grow.released ends) k)
 
       some : (l : List Issue) → (reading (lent cells initial width input)).out.issues ≡ l → 1 ≤ length (reading (lent cells initial width input)).out.issues
-          → Answered (lent cells initial width input) No
+          → Answered (lent cells initial width input) (Ok false)
       some [] q k = absurd (omega (arith, k, ap length q))
-      some (x ∷ l) q k = answered (lent cells initial width input) z (suc (length l)) (sym (ap length q))
+      some (x ∷ l) q k =
+          subst (λ (b : Bool). Answered (lent cells initial width input) (Ok b)) (ne_eqb (suc (length l)) 0 (λ e. omega (arith, e)))
+          (answered (lent cells initial width input) z (suc (length l)) (sym (ap length q)))
 
   -- none before it: the marks that wait there bring one
   pub answered_end : {o : Out} {i₂ : List ℕ} → r.decoder.core.out.issues ≤ 0 → output.Wrote 0 1 release r.decoder.core.out t₁ i₁ o t₁ i₂
-      → Answered (lent cells initial width input) (verdict_of o.issues)
+      → Answered (lent cells initial width input) (Ok (eqb o.issues 0))
   unfolding writes
   answered_end {o = o} {i₂ = i₂} h flush = answered (lent cells initial width input) z o.issues (count ran)
     where

@@ -2,36 +2,18 @@
 // "Clean or not", and 01, "The questions, put in this order".
 #![tactic(auto)]
 
-pub mod values;
-
 ghost use Rattle.std.specs.Prelude.{◌≡◌, length};
 ghost use Rattle.questions.specs.Questions.{first_refusal};
 ghost use Rattle.reading.specs.WithoutBuffers.{lent};
-ghost use Rattle.clean.specs.Promises.{verdict_of, Answered};
+ghost use Rattle.clean.specs.Promises.{Answered};
 
-/// What a clean call answers: whether there is no issue, or the number of the first question that it fails, with its place.
-#[derive(Clone, Copy)]
-pub enum CleanAnswer {
-    Yes,
-    No,
-    Refused { number: u32, place: usize },
-}
-
-/// The answer, by how many issues there are.
-fn verdict(issues: u32) -> CleanAnswer
-    ensures { result ≡ verdict_of issues }
-{
-    if issues == 0 {
-        return CleanAnswer::Yes;
-    }
-    CleanAnswer::No
-}
+use questions::refusal::Refusal;
 
 /// The answer where questions 1 to 3 were put and passed: the decoder's own steps, up to the first issue. Nothing is
 /// written, since there is no room.
-fn clean_checked(cells: &[u16], initial: u32, width: u32, input: &[u8]) -> CleanAnswer
+fn clean_checked(cells: &[u16], initial: u32, width: u32, input: &[u8]) -> bool
     requires { first_refusal cells.now initial width 65535 (length input.now) ≡ 0 }
-    ensures { Answered (lent cells.now initial width input.now) result }
+    ensures { Answered (lent cells.now initial width input.now) (Ok result) }
 {
     let mut text = [0u8; 0];
     let mut issues = [0u32; 0];
@@ -40,22 +22,17 @@ fn clean_checked(cells: &[u16], initial: u32, width: u32, input: &[u8]) -> Clean
     let w = decode_outer::top(cells, input, 0, input.len(), none, &mut text, &mut issues);
     let out = w.decoder.core.out;
     if out.issues > 0 {
-        return CleanAnswer::No;
+        return false;
     }
     let flushed = decode_output::flush_dangling(out, &mut issues);
-    verdict(flushed.issues)
+    flushed.issues == 0
 }
 
-/// Whether a string of the eight-unit code is read without an issue.
-pub fn clean(cells: &[u16], initial: u32, width: u32, input: &[u8]) -> CleanAnswer
+/// Whether a string of the eight-unit code is read without an issue, or the first question that fails. The options are as
+/// wide as a C caller's: question 2 asks them of `arib_clean` too.
+pub fn clean(cells: &[u16], initial: u32, width: u32, input: &[u8]) -> Result<bool, Refusal>
     ensures { Answered (lent cells.now initial width input.now) result }
 {
-    let q = questions::first(cells, initial, width, questions::DECODE_LIMIT, input.len());
-    if q > 0 {
-        return CleanAnswer::Refused {
-            number: q,
-            place: 0,
-        };
-    }
-    clean_checked(cells, initial, width, input)
+    questions::first(cells, initial, width, questions::DECODE_LIMIT, input.len())?;
+    Ok(clean_checked(cells, initial, width, input))
 }

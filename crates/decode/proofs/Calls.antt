@@ -16,9 +16,12 @@ use Rattle.reading.specs.State.{State}
 use Rattle.reading.specs.Call.{Lent, Outcome, reading, text_bytes, issue_list, fits, refusal, outcome_of, outcome}
 use Rattle.decode_read.specs.declared.Counts.{Counts}
 use Rattle.decode_read.specs.Promises.{Counted, Read}
-use Rattle.decode.specs.declared.call.Answer.{Answer}
-use Rattle.decode.specs.declared.call.Answer.TheVariants.{Decoded}
-use Rattle.decode.specs.Answers.{fits_in, number_of, place_of, text_of, issues_of, charged_of, private_use_of, lent, Refuses, Answers, Answered}
+use Rattle.questions.specs.declared.refusal.Refusal.{Refusal}
+use Rattle.questions.specs.declared.refusal.Refusal.TheVariants.{BufferTooSmall, IssuesTooMany}
+use Rattle.questions.specs.Refusal as refusals
+use Rattle.questions.proofs.Refusals.{some_number}
+use Rattle.std.specs.Prelude.{Ok, Err}
+use Rattle.decode.specs.Answers.{Answer, fits_in, number_of, place_of, text_of, issues_of, charged_of, private_use_of, lent, Refuses, Answers, Answered}
 
 -- ---- the answer, from what was written
 
@@ -29,14 +32,14 @@ module _ (s : State) (t₀ i₀ : List ℕ) (n : Counts) (t i : List ℕ) (h : C
   as_many : length i ≡ length i₀
   as_many = ap length h.listed ∙ length-sets i₀ 0 (issues_numbers s.out.issues)
 
-  refusing : (q : ℕ) (r : Answer) (t' i' : List ℕ)
-      → fits_in (length (utf8s s.out.text)) (length (issues_numbers s.out.issues)) (length t₀) (length i₀) ≡ suc q → Refuses (suc q) t i r t' i'
-      → Answers s (length t₀) (length i₀) r t' i'
-  refusing q r t' i' e v = record {
-    number = ap number_of v.answer ∙ sym e;
-    place = ap place_of v.answer;
-    case = λ z. absurd (omega (arith, sym (ap number_of v.answer) ∙ z));
-    accepted = λ z. absurd (omega (arith, sym (ap number_of v.answer) ∙ z));
+  refusing : (e : Refusal) (r : Answer) (t' i' : List ℕ)
+      → fits_in (length (utf8s s.out.text)) (length (issues_numbers s.out.issues)) (length t₀) (length i₀) ≡ refusals.number_of e → refusals.place_of e ≡ 0
+      → Refuses e t i r t' i' → Answers s (length t₀) (length i₀) r t' i'
+  refusing e r t' i' q p v = record {
+    number = ap number_of v.answer ∙ sym q;
+    place = ap place_of v.answer ∙ p;
+    case = λ z. absurd (omega (arith, some_number e, sym (ap number_of v.answer) ∙ z));
+    accepted = λ z. absurd (omega (arith, some_number e, sym (ap number_of v.answer) ∙ z));
     refused = λ z. (
       ap text_of v.answer,
       ap issues_of v.answer,
@@ -48,24 +51,24 @@ module _ (s : State) (t₀ i₀ : List ℕ) (n : Counts) (t i : List ℕ) (h : C
   }
 
   -- the text does not fit
-  pub finish_8 : (r : Answer) (t' i' : List ℕ) → length t < n.text → Refuses 8 t i r t' i' → Answers s (length t₀) (length i₀) r t' i'
+  pub finish_8 : (r : Answer) (t' i' : List ℕ) → length t < n.text → Refuses BufferTooSmall t i r t' i' → Answers s (length t₀) (length i₀) r t' i'
   unfolding fits_in
   finish_8 r t' i' k v =
       let p : length t₀ < length (utf8s s.out.text) = omega (arith, k, h.text, as_long) in
-      refusing 7 r t' i' (rw (lt-leb _ _ p)) v
+      refusing BufferTooSmall r t' i' (rw (lt-leb _ _ p)) refl v
 
   -- the issues do not fit
-  pub finish_9 : (r : Answer) (t' i' : List ℕ) → n.text ≤ length t → length i < n.issues * numbers → Refuses 9 t i r t' i'
+  pub finish_9 : (r : Answer) (t' i' : List ℕ) → n.text ≤ length t → length i < n.issues * numbers → Refuses IssuesTooMany t i r t' i'
       → Answers s (length t₀) (length i₀) r t' i'
   unfolding fits_in
   finish_9 r t' i' k l v =
       let p : length (utf8s s.out.text) ≤ length t₀ = omega (arith, k, h.text, as_long) in
       let q : length i₀ < length (issues_numbers s.out.issues) = omega (arith, l, h.issues, as_many, length_numbers s.out.issues) in
-      refusing 8 r t' i' (rw (le-leb _ _ p, lt-leb _ _ q)) v
+      refusing IssuesTooMany r t' i' (rw (le-leb _ _ p, lt-leb _ _ q)) refl v
 
   -- both fit
   pub finish_0 : (t' i' : List ℕ) → n.text ≤ length t → n.issues * numbers ≤ length i → t' ≡ cleared t n.text → i' ≡ cleared i (n.issues * numbers)
-      → Answers s (length t₀) (length i₀) (Decoded n.text n.issues n.charged n.private_use) t' i'
+      → Answers s (length t₀) (length i₀) (Ok n) t' i'
   unfolding fits_in
   finish_0 t' i' k l x y =
       let p : length (utf8s s.out.text) ≤ length t₀ = omega (arith, k, h.text, as_long) in
@@ -129,24 +132,27 @@ answered c r t i z v = go (fits_in (length (utf8s (reading c).out.text)) (length
         }
 
 -- one of questions 1 to 3 fails
-pub refused : (c : Lent) (q : ℕ) (r : Answer) (ti ii t i : List ℕ) → first_refusal c.cells c.initial c.width decode_limit (length c.input) ≡ q → 0 < q
-    → length ti ≡ c.text_room → length ii ≡ c.issue_room → Refuses q ti ii r t i → Answered c r t i
+pub refused : (c : Lent) (e : Refusal) (r : Answer) (ti ii t i : List ℕ) → refusals.number_of e ≡ first_refusal c.cells c.initial c.width decode_limit (length c.input)
+    → refusals.place_of e ≡ 0 → length ti ≡ c.text_room → length ii ≡ c.issue_room → Refuses e ti ii r t i → Answered c r t i
 unfolding outcome refusal outcome_of
-refused c zero r ti ii t i z k a b v = absurd (omega arith)
-refused c (suc q) r ti ii t i z k a b v =
-    let f : refusal c ≡ suc q = rw z in
-    let x : outcome c ≡ outcome_of (suc q) c = ap (λ (n : ℕ). outcome_of n c) f in
-    record {
-      number = ap number_of v.answer ∙ sym (ap (λ (y : Outcome). y.refused) x);
-      case = λ y. absurd (omega (arith, sym (ap number_of v.answer) ∙ y));
-      place = ap place_of v.answer;
-      counted = ap text_of v.answer ∙ sym (ap (λ (y : Outcome). y.text) x);
-      reported = ap issues_of v.answer ∙ sym (ap (λ (y : Outcome). y.issues) x);
-      charged = ap charged_of v.answer ∙ sym (ap (λ (y : Outcome). y.charged) x);
-      private_use = ap private_use_of v.answer ∙ sym (ap (λ (y : Outcome). y.private_use) x);
-      written = v.text ∙ ap (λ (n : ℕ). padded n []) a ∙ sym (ap (λ (y : Outcome). y.text_buffer) x);
-      listed = v.issues ∙ ap (λ (n : ℕ). padded n []) b ∙ sym (ap (λ (y : Outcome). y.issue_buffer) x);
-    }
+refused c e r ti ii t i z p a b v = go (refusals.number_of e) refl
+  where
+    go : (q : ℕ) → refusals.number_of e ≡ q → Answered c r t i
+    go zero y = absurd (omega (arith, some_number e, y))
+    go (suc q) y =
+        let f : refusal c ≡ suc q = rw (sym z ∙ y) in
+        let x : outcome c ≡ outcome_of (suc q) c = ap (λ (n : ℕ). outcome_of n c) f in
+        record {
+          number = ap number_of v.answer ∙ y ∙ sym (ap (λ (y : Outcome). y.refused) x);
+          case = λ w. absurd (omega (arith, some_number e, sym (ap number_of v.answer) ∙ w));
+          place = ap place_of v.answer ∙ p;
+          counted = ap text_of v.answer ∙ sym (ap (λ (y : Outcome). y.text) x);
+          reported = ap issues_of v.answer ∙ sym (ap (λ (y : Outcome). y.issues) x);
+          charged = ap charged_of v.answer ∙ sym (ap (λ (y : Outcome). y.charged) x);
+          private_use = ap private_use_of v.answer ∙ sym (ap (λ (y : Outcome). y.private_use) x);
+          written = v.text ∙ ap (λ (n : ℕ). padded n []) a ∙ sym (ap (λ (y : Outcome). y.text_buffer) x);
+          listed = v.issues ∙ ap (λ (n : ℕ). padded n []) b ∙ sym (ap (λ (y : Outcome). y.issue_buffer) x);
+        }
 
 -- from the reading to the answer
 pub checked : (cells : List ℕ) (initial width : ℕ) (input : List ℕ) {t i : List ℕ} {n : Counts} {t₁ i₁ : List ℕ} (a : Answer) {t₂ i₂ : List ℕ}

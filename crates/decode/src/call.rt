@@ -8,35 +8,20 @@ ghost use Rattle.decode.specs.Answers.{lent, Refuses, Answers, Answered};
 
 use decode_read::Counts;
 use issues::NUMBERS;
-
-/// What a decoding call answers: the text's bytes, the issues, the charge and the private-use
-/// characters, or the number of the first question that it fails, with its place.
-#[derive(Clone, Copy)]
-pub enum Answer {
-    Decoded {
-        text: usize,
-        issues: usize,
-        charged: usize,
-        private_use: usize,
-    },
-    Refused {
-        number: u32,
-        place: usize,
-    },
-}
+use questions::refusal::Refusal;
 
 /// Refuses: both buffers are filled with zero.
-pub fn refuse(number: u32, text: &mut [u8], issues: &mut [u32]) -> Answer
-    ensures { Refuses number text.old issues.old result text.new issues.new }
+pub fn refuse(refusal: Refusal, text: &mut [u8], issues: &mut [u32]) -> Result<Counts, Refusal>
+    ensures { Refuses refusal text.old issues.old result text.new issues.new }
 {
     questions::clear(text, 0);
-    questions::clear32(issues, 0);
-    Answer::Refused { number, place: 0 }
+    questions::clear(issues, 0);
+    Err(refusal)
 }
 
-/// What was counted and written, as the answer: too little room is refused with 8 or 9, else what is
+/// What was counted and written, as the answer: too little room for the text or the issues is refused, else what is
 /// left of the buffers is zero.
-pub fn finish(counts: Counts, text: &mut [u8], issues: &mut [u32]) -> Answer
+pub fn finish(counts: Counts, text: &mut [u8], issues: &mut [u32]) -> Result<Counts, Refusal>
     requires { counts.issues ≤ 0x10000000000 }
     ensures { (s : State) (t₀ i₀ : List ℕ) → Counted s t₀ i₀ counts text.old issues.old →
         Answers s (length t₀) (length i₀) result text.new issues.new }
@@ -44,19 +29,14 @@ pub fn finish(counts: Counts, text: &mut [u8], issues: &mut [u32]) -> Answer
     let n = counts.text;
     let k = counts.issues;
     if n > text.len() {
-        return refuse(8, text, issues);
+        return refuse(Refusal::BufferTooSmall, text, issues);
     }
     if k * NUMBERS > issues.len() {
-        return refuse(9, text, issues);
+        return refuse(Refusal::IssuesTooMany, text, issues);
     }
     questions::clear(text, n);
-    questions::clear32(issues, k * NUMBERS);
-    Answer::Decoded {
-        text: n,
-        issues: k,
-        charged: counts.charged,
-        private_use: counts.private_use,
-    }
+    questions::clear(issues, k * NUMBERS);
+    Ok(counts)
 }
 
 /// Decodes where questions 1 to 3 were put and passed: for whoever reads many strings with one cell
@@ -68,7 +48,7 @@ pub fn decode_checked(
     input: &[u8],
     text: &mut [u8],
     issues: &mut [u32],
-) -> Answer
+) -> Result<Counts, Refusal>
     requires { first_refusal cells.now initial width 65535 (length input.now) ≡ 0 }
     ensures { Answered (lent cells.now initial width input.now text.old issues.old) result text.new issues.new }
 {
@@ -76,7 +56,8 @@ pub fn decode_checked(
     finish(counts, text, issues)
 }
 
-/// Decodes a string of the eight-unit code: `decode_with`.
+/// Decodes a string of the eight-unit code: the text's bytes, the issues, the charge and the private-use characters, or the
+/// first question that fails. The options are as wide as a C caller's: question 2 asks them of `arib_decode` too.
 pub fn decode_with(
     cells: &[u16],
     initial: u32,
@@ -84,14 +65,13 @@ pub fn decode_with(
     input: &[u8],
     text: &mut [u8],
     issues: &mut [u32],
-) -> Answer
+) -> Result<Counts, Refusal>
     ensures { Answered (lent cells.now initial width input.now text.old issues.old) result text.new issues.new }
 {
-    let q = questions::first(cells, initial, width, questions::DECODE_LIMIT, input.len());
-    if q > 0 {
-        return refuse(q, text, issues);
+    match questions::first(cells, initial, width, questions::DECODE_LIMIT, input.len()) {
+        Ok(()) => decode_checked(cells, initial, width, input, text, issues),
+        Err(refusal) => refuse(refusal, text, issues),
     }
-    decode_checked(cells, initial, width, input, text, issues)
 }
 
 /// The part of the input that an unknown escape is; a start and length that leave the input get the

@@ -14,19 +14,21 @@ use Rattle.utf8.proofs.Texts.{scalars_utf8s}
 use Rattle.questions.specs.Questions.{first_refusal, decode_limit}
 use Rattle.questions.specs.Buffer.{padded}
 use Rattle.questions.proofs.Buffers.{take_padded}
-use Rattle.questions.proofs.Refusals.{passed}
+use Rattle.questions.proofs.Refusals.{some_number, passed}
 use Rattle.reading.specs.Call as decoding
-use Rattle.decode.specs.declared.call.Answer.{Answer}
-use Rattle.decode.specs.declared.call.Answer.TheVariants.{Decoded, Refused}
+use Rattle.std.specs.Prelude.{Ok, Err}
+use Rattle.questions.specs.declared.refusal.Refusal.{Refusal}
+use Rattle.questions.specs.declared.refusal.Refusal.TheVariants.{PrivateUse}
+use Rattle.questions.specs.Refusal as refusals
+use Rattle.decode_read.specs.declared.Counts.{Counts}
 use Rattle.decode.specs.Answers as decode
-use Rattle.key.specs.declared.KeyAnswer.{KeyAnswer}
-use Rattle.key.specs.declared.KeyAnswer.TheVariants as key
+use Rattle.decode.specs.Answers.{Answer}
 use Rattle.key.specs.Key.{Lent, decoding_of, reading, text_bytes, key_bytes, question_of, eleventh, refusal, Outcome, outcome_of, outcome}
 use Rattle.laws_scalars.proofs.Scalars.{text_scalars, accepted_call}
 use Rattle.key_text.specs.KeyText.{key_char, kept, key_text}
 use Rattle.key_text.specs.Promises.{Removed}
 use Rattle.key_text.proofs.Characters.{no_longer, first_bytes}
-use Rattle.key.specs.Promises.{Decodes, lent, Answered, FromText}
+use Rattle.key.specs.Promises.{KeyAnswer, Decodes, lent, Answered, FromText}
 
 -- ---- the buffer
 
@@ -45,11 +47,6 @@ drop_padded zero (v ∷ vs) h = absurd (omega arith)
 drop_padded (suc n) (v ∷ vs) h = drop_padded n vs (omega arith) ∙ ap (λ (k : ℕ). padded k []) (let e : n - length vs ≡ suc n - suc (length vs) = omega arith in e)
 
 -- ---- the answer
-
--- which case an answer is
-abbrev variant : Answer → ℕ
-variant (Decoded text issues charge private) = 0
-variant (Refused q place) = 1
 
 -- a key has no more bytes than its text
 key_shorter : (cs : List ℕ) → length (utf8s (key_text cs)) ≤ length (utf8s cs)
@@ -90,7 +87,7 @@ module _ (c : Lent) where
   passed_0 = accepted_call (decoding_of c)
 
   -- what was accepted
-  module _ (text issues charge private : ℕ) (b : List ℕ) (d : Decodes c (Decoded text issues charge private) b) where
+  module _ (x : Counts) (b : List ℕ) (d : Decodes c (Ok x) b) where
     accepted : number ≡ 0
     accepted = sym number_of ∙ sym d.answered.number
 
@@ -98,23 +95,23 @@ module _ (c : Lent) where
     unfolding decoding.outcome_of text_bytes reading decoding.text_bytes
     written = d.answered.written ∙ ap (λ (o : decoding.Outcome). o.text_buffer) (decoded_as 0 accepted)
 
-    counted : text ≡ length (text_bytes c)
+    counted : x.text ≡ length (text_bytes c)
     unfolding decoding.outcome_of text_bytes reading decoding.text_bytes
     counted = d.answered.counted ∙ ap (λ (o : decoding.Outcome). o.text) (decoded_as 0 accepted)
 
-    charges : charge ≡ (reading c).charged
+    charges : x.charged ≡ (reading c).charged
     unfolding decoding.outcome_of reading
     charges = d.answered.charged ∙ ap (λ (o : decoding.Outcome). o.charged) (decoded_as 0 accepted)
 
-    privates : private ≡ private_use (reading c).out.text
+    privates : x.private_use ≡ private_use (reading c).out.text
     unfolding decoding.outcome_of reading
     privates = d.answered.private_use ∙ ap (λ (o : decoding.Outcome). o.private_use) (decoded_as 0 accepted)
 
     -- the text, and its key
-    text_part : take text b ≡ text_bytes c
+    text_part : take x.text b ≡ text_bytes c
     text_part = ap₂ take counted written ∙ take_padded c.room (text_bytes c) (passed_0 accepted).1
 
-    key_part : utf8s (key_text (scalars (take text b))) ≡ key_bytes c
+    key_part : utf8s (key_text (scalars (take x.text b))) ≡ key_bytes c
     unfolding key_bytes text_bytes
     key_part = ap (λ (l : List ℕ). utf8s (key_text (scalars l))) text_part ∙ ap (λ (l : List ℕ). utf8s (key_text l)) (scalars_utf8s (reading c).out.text (d.scalars (passed_0 accepted).0))
 
@@ -122,14 +119,14 @@ module _ (c : Lent) where
     unfolding key_bytes text_bytes
     key_fits = key_shorter (reading c).out.text
 
-    buffer_as : (part : List ℕ) → part ≡ padded (length (text_bytes c)) (key_bytes c) → part ++ drop text b ≡ padded c.room (key_bytes c)
+    buffer_as : (part : List ℕ) → part ≡ padded (length (text_bytes c)) (key_bytes c) → part ++ drop x.text b ≡ padded c.room (key_bytes c)
     buffer_as part e =
         let h : length (text_bytes c) ≤ c.room = (passed_0 accepted).1 in
         let n : length (text_bytes c) + (c.room - length (text_bytes c)) ≡ c.room = omega arith in
         ap₂ ◌++◌ e (ap₂ drop counted written ∙ drop_padded c.room (text_bytes c) h)
         ∙ (padded_more (length (text_bytes c)) (c.room - length (text_bytes c)) (key_bytes c) key_fits ∙ ap (λ (m : ℕ). padded m (key_bytes c)) n)
 
-    pub keyed : private ≡ 0 → (len : ℕ) (part : List ℕ) → Removed (take text b) len part → Answered c (key.Keyed len charge) (part ++ drop text b)
+    pub keyed : x.private_use ≡ 0 → (len : ℕ) (part : List ℕ) → Removed (take x.text b) len part → Answered c (Ok (record { len = len; charged = x.charged })) (part ++ drop x.text b)
     unfolding outcome_of eleventh
     keyed n len part r =
         let o = outcome_0 accepted 0 (rw (sym privates, n)) in
@@ -144,10 +141,10 @@ module _ (c : Lent) where
         }
 
     -- it has private-use characters
-    pub refused_11 : (private ≡ 0 → ⊥) → (z : List ℕ) → z ≡ padded c.room [] → Answered c (key.Refused 11 0) z
+    pub refused_11 : (x.private_use ≡ 0 → ⊥) → (z : List ℕ) → z ≡ padded c.room [] → Answered c (Err PrivateUse) z
     unfolding outcome_of eleventh
     refused_11 n z e =
-        let o = outcome_0 accepted 11 (rw (sym privates, ne_eqb private 0 n)) in
+        let o = outcome_0 accepted 11 (rw (sym privates, ne_eqb x.private_use 0 n)) in
         record {
           number = sym (ap (λ (x : Outcome). x.refused) o);
           case = λ y. absurd (omega arith);
@@ -158,66 +155,56 @@ module _ (c : Lent) where
         }
 
     -- the text lies in the buffer
-    pub inside : text ≤ length b
+    pub inside : x.text ≤ length b
     inside = omega (arith, counted, (passed_0 accepted).1, d.room)
 
-  -- what was refused
-  module _ (q place : ℕ) (b : List ℕ) (d : Decodes c (Refused q place) b) where
-    same : number ≡ q
+  -- what was refused, by the decoding with e and by the key with k
+  module _ (e k : Refusal) (b : List ℕ) (d : Decodes c (Err e) b) (v : refusals.number_of k ≡ question_of (refusals.number_of e)) (p : refusals.place_of k ≡ refusals.place_of e) where
+    same : number ≡ refusals.number_of e
     same = sym number_of ∙ sym d.answered.number
 
-    -- a refusal has a number
-    some_number : q ≡ 0 → ⊥
-    some_number e = omega (arith, ap variant (d.answered.case e))
-
-    module _ (n : ℕ) (e : q ≡ suc n) where
+    module _ (n : ℕ) (f : refusals.number_of e ≡ suc n) where
       cleared : b ≡ padded c.room []
       unfolding decoding.outcome_of
-      cleared = d.answered.written ∙ ap (λ (o : decoding.Outcome). o.text_buffer) (decoded_as (suc n) (same ∙ e))
+      cleared = d.answered.written ∙ ap (λ (o : decoding.Outcome). o.text_buffer) (decoded_as (suc n) (same ∙ f))
 
-      refused_more : (m : ℕ) → question_of q ≡ suc m → Answered c (key.Refused (question_of q) place) b
+      refused_more : (m : ℕ) → refusals.number_of k ≡ suc m → Answered c (Err k) b
       unfolding outcome_of
-      refused_more m f =
-          let o : outcome c ≡ outcome_of (suc m) c = outcome_as n (same ∙ e) ∙ ap (λ (k : ℕ). outcome_of k c) (ap question_of (sym e) ∙ f) in
+      refused_more m g =
+          let o : outcome c ≡ outcome_of (suc m) c = outcome_as n (same ∙ f) ∙ ap (λ (k : ℕ). outcome_of k c) (ap question_of (sym f) ∙ sym v ∙ g) in
           record {
-            number = f ∙ sym (ap (λ (x : Outcome). x.refused) o);
-            case = λ z. absurd (omega (arith, f, z));
-            place = d.answered.place;
+            number = g ∙ sym (ap (λ (x : Outcome). x.refused) o);
+            case = λ z. absurd (omega (arith, g, z));
+            place = p ∙ d.answered.place;
             counted = sym (ap (λ (x : Outcome). x.len) o);
             charged = sym (ap (λ (x : Outcome). x.charged) o);
             written = cleared ∙ sym (ap (λ (x : Outcome). x.buffer) o);
           }
 
-      refused_suc : Answered c (key.Refused (question_of q) place) b
-      refused_suc = go (eqb q 9) refl
-        where
-          go : (t : Bool) → eqb q 9 ≡ t → Answered c (key.Refused (question_of q) place) b
-          go true p = refused_more 9 (ap (λ (u : Bool). cond u 10 q) p)
-          go false p = refused_more n (ap (λ (u : Bool). cond u 10 q) p ∙ e)
-
-    pub refused : Answered c (key.Refused (question_of q) place) b
-    refused = go q refl
+    pub refused : Answered c (Err k) b
+    refused = go (refusals.number_of e) (refusals.number_of k) refl refl
       where
-        go : (n : ℕ) → q ≡ n → Answered c (key.Refused (question_of q) place) b
-        go zero e = absurd (some_number e)
-        go (suc n) e = refused_suc n e
+        go : (n m : ℕ) → refusals.number_of e ≡ n → refusals.number_of k ≡ m → Answered c (Err k) b
+        go zero m f g = absurd (omega (arith, some_number e, f))
+        go (suc n) zero f g = absurd (omega (arith, some_number k, g))
+        go (suc n) (suc m) f g = refused_more n f m g
 
 -- ---- the same of an answer that is known by an equation
 
 module _ (c : Lent) (r : Answer) (b : List ℕ) (d : Decodes c r b) where
-  pub keyed_as : (text issues charge private : ℕ) (k : KeyAnswer) (z : List ℕ) → r ≡ Decoded text issues charge private → FromText text charge private b k z → Answered c k z
-  keyed_as text issues charge private k z e f = f c issues (subst (λ (x : Answer). Decodes c x b) e d)
+  pub keyed_as : (x : Counts) (k : KeyAnswer) (z : List ℕ) → r ≡ Ok x → FromText x b k z → Answered c k z
+  keyed_as x k z e f = f c (subst (λ (y : Answer). Decodes c y b) e d)
 
-  pub refused_as : (q place : ℕ) (k : KeyAnswer) → r ≡ Refused q place → k ≡ key.Refused (question_of q) place → Answered c k b
-  refused_as q place k e f = subst (λ (x : KeyAnswer). Answered c x b) (sym f) (refused c q place b (subst (λ (x : Answer). Decodes c x b) e d))
+  pub refused_as : (e k : Refusal) → r ≡ Err e → refusals.number_of k ≡ question_of (refusals.number_of e) → refusals.place_of k ≡ refusals.place_of e → Answered c (Err k) b
+  refused_as e k f v p = refused c e k b (subst (λ (x : Answer). Decodes c x b) f d) v p
 
   -- the text lies in the buffer
   pub text_inside : decode.text_of r ≤ length b
   text_inside = go r refl
     where
       go : (x : Answer) → r ≡ x → decode.text_of x ≤ length b
-      go (Decoded text issues charge private) e = inside c text issues charge private b (subst (λ (y : Answer). Decodes c y b) e d)
-      go (Refused q place) e = omega arith
+      go (Ok x) e = inside c x b (subst (λ (y : Answer). Decodes c y b) e d)
+      go (Err x) e = omega arith
 
 -- ---- a key lies in the buffer
 

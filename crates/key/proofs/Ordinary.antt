@@ -1,6 +1,6 @@
 -- No key has a private-use character: specs/Laws.antt states it. Assumes nothing.
 use Prim.Native.Nat.{ℕ, zero, suc}
-use mathlib.Core.Path.{◌≡◌, refl, sym, ap, ◌∙◌}
+use mathlib.Core.Path.{◌≡◌, refl}
 use mathlib.Core.Bool.{Bool, true, false, cond, ◌||◌}
 use mathlib.Core.List.{List, [], ◌∷◌}
 use mathlib.Core.Option.{none, some}
@@ -11,9 +11,8 @@ use Rattle.base.proofs.Tests.{either}
 use Rattle.private_use.specs.PrivateUse.{is_private_use, private_use}
 use Rattle.private_use.proofs.Laws.{first_none, rest_none, none_more}
 use Rattle.tables_onebyte.specs.OneByte.{alphanumeric_table, fullwidth_of}
-use Rattle.reading.specs.Call as decoding
-use Rattle.key_text.specs.KeyText.{halfwidth_in, halfwidth_of, key_char, kept, key_text}
-use Rattle.key.specs.Key.{Lent, decoding_of, reading, question_of, eleventh, refusal, outcome_of, outcome}
+use Rattle.key_text.specs.KeyText.{halfwidth_in, halfwidth_of, kept, key_text}
+use Rattle.key.specs.Key.{reading, eleventh, refusal, outcome_of, outcome}
 use Rattle.key.specs.Laws.{KeyOrdinary}
 use Rattle.key.proofs.Calls.{decoded}
 

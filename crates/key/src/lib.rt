@@ -2,68 +2,60 @@
 // "The questions, put in this order", and request 6, "Private-use characters".
 #![tactic(auto)]
 
-pub mod values;
-
 ghost use Rattle.std.specs.Prelude.{◌≡◌, ◌≤◌, length};
 ghost use Rattle.questions.specs.Questions.{first_refusal};
+ghost use Rattle.questions.specs.Refusal.{number_of, place_of};
 ghost use Rattle.decode.specs.Answers.{text_of};
 ghost use Rattle.key.specs.Key.{Lent, question_of};
 ghost use Rattle.key.specs.Promises.{lent, Decodes, Answered, FromText};
 
-use decode::call::Answer;
+use decode_read::Counts;
+use questions::refusal::Refusal;
 
-/// The numbers that issues may take: decoding then refuses with 9 where there is an issue.
+/// The numbers that issues may take: decoding then refuses where there is an issue.
 const ISSUES: usize = 0;
 
-/// What a key call answers: the key's bytes and the charge, or the number of the first question that it fails, with its
-/// place.
-#[derive(Clone, Copy)]
-pub enum KeyAnswer {
-    Keyed { len: usize, charged: usize },
-    Refused { number: u32, place: usize },
+/// What a title is keyed with: the key's bytes and the charge.
+#[derive(Clone, Copy, Debug, PartialEq, Eq)]
+pub struct Keyed {
+    pub len: usize,
+    pub charged: usize,
 }
 
 /// A decoding's refusal as a key's.
-fn refuse(number: u32, place: usize) -> KeyAnswer
-    ensures { result ≡ KeyAnswer.Refused (question_of number) place }
+fn question(refusal: Refusal) -> Refusal
+    ensures number { number_of result ≡ question_of (number_of refusal) }
+    ensures place { place_of result ≡ place_of refusal }
 {
-    match number {
-        9 => KeyAnswer::Refused { number: 10, place },
-        _ => KeyAnswer::Refused { number, place },
+    match refusal {
+        Refusal::IssuesTooMany => Refusal::HasIssues,
+        other => other,
     }
 }
 
-/// The key of a text that was decoded into the buffer. One with private-use characters is refused with 11.
-fn from_text(text: usize, charged: usize, private_use: usize, buffer: &mut [u8]) -> KeyAnswer
-    requires { text ≤ length buffer.old }
-    ensures { FromText text charged private_use buffer.old result buffer.new }
+/// The key of a text that was decoded into the buffer. One with private-use characters is refused.
+fn from_text(decoded: Counts, buffer: &mut [u8]) -> Result<Keyed, Refusal>
+    requires { decoded.text ≤ length buffer.old }
+    ensures { FromText decoded buffer.old result buffer.new }
 {
-    if private_use > 0 {
+    if decoded.private_use > 0 {
         questions::clear(buffer, 0);
-        return KeyAnswer::Refused {
-            number: 11,
-            place: 0,
-        };
+        return Err(Refusal::PrivateUse);
     }
-    KeyAnswer::Keyed {
-        len: key_text::remove(&mut buffer[..text]),
-        charged,
-    }
+    Ok(Keyed {
+        len: key_text::remove(&mut buffer[..decoded.text]),
+        charged: decoded.charged,
+    })
 }
 
 /// The key of what was decoded into the buffer.
-fn finish(r: Answer, buffer: &mut [u8]) -> KeyAnswer
-    requires { text_of r ≤ length buffer.old }
-    ensures { (c : Lent) → Decodes c r buffer.old → Answered c result buffer.new }
+fn finish(answer: Result<Counts, Refusal>, buffer: &mut [u8]) -> Result<Keyed, Refusal>
+    requires { text_of answer ≤ length buffer.old }
+    ensures { (c : Lent) → Decodes c answer buffer.old → Answered c result buffer.new }
 {
-    match r {
-        Answer::Decoded {
-            text,
-            issues: _,
-            charged,
-            private_use,
-        } => from_text(text, charged, private_use, buffer),
-        Answer::Refused { number, place } => refuse(number, place),
+    match answer {
+        Ok(decoded) => from_text(decoded, buffer),
+        Err(refusal) => Err(question(refusal)),
     }
 }
 
@@ -74,7 +66,7 @@ pub fn key_checked(
     width: u32,
     input: &[u8],
     buffer: &mut [u8],
-) -> KeyAnswer
+) -> Result<Keyed, Refusal>
     requires { first_refusal cells.now initial width 65535 (length input.now) ≡ 0 }
     ensures { Answered (lent cells.now initial width input.now buffer.old) result buffer.new }
 {
@@ -83,8 +75,15 @@ pub fn key_checked(
     finish(r, buffer)
 }
 
-/// The key of a string of the eight-unit code.
-pub fn key(cells: &[u16], initial: u32, width: u32, input: &[u8], buffer: &mut [u8]) -> KeyAnswer
+/// The key of a string of the eight-unit code, or the first question that fails. The options are as wide as a C caller's:
+/// question 2 asks them of `arib_key` too.
+pub fn key(
+    cells: &[u16],
+    initial: u32,
+    width: u32,
+    input: &[u8],
+    buffer: &mut [u8],
+) -> Result<Keyed, Refusal>
     ensures { Answered (lent cells.now initial width input.now buffer.old) result buffer.new }
 {
     let mut issues = [0u32; ISSUES];

@@ -11,7 +11,7 @@ use Rattle.utf8.specs.declared.Sequence.TheVariants.{Scalar}
 use Rattle.utf8.specs.Utf8.{utf8s, sequence, scalars}
 use Rattle.utf8.proofs.Reading.{sequence_begins}
 use Rattle.utf8.proofs.Texts.{sequence_least, sequence_within, scalars_next}
-use Rattle.questions.specs.Buffer.{padded, cleared}
+use Rattle.questions.specs.Buffer.{padded, cleared_to, cleared}
 use Rattle.key_text.specs.KeyText.{key_char, kept, key_text}
 use Rattle.key_text.specs.Promises.{Removed}
 use Rattle.key_text.proofs.Characters.{no_longer, first_bytes}
@@ -74,7 +74,7 @@ turned t₀ t at to c n m e p = rw (p.written, p.next) (turn t₀ t at to c n m 
 -- ---- the end
 
 cleared_take : (l : List ℕ) (j : ℕ) → cleared l j ≡ padded (length l) (take j l)
-unfolding cleared padded
+unfolding cleared_to padded
 cleared_take [] j = refl
 cleared_take (x ∷ l) zero = ap (λ (r : List ℕ). 0 ∷ r) (cleared_take l zero)
 cleared_take (x ∷ l) (suc j) = ap (λ (r : List ℕ). x ∷ r) (cleared_take l j)

@@ -5,13 +5,14 @@ use mathlib.Core.Path.{◌≡◌, refl, sym, ap, ◌∙◌}
 use mathlib.Core.Bool.{Bool, true, false, not, ◌&&◌, and-eq-true_iff}
 use mathlib.Core.List.{List, [], ◌∷◌, ◌++◌}
 use native.Mathlib.Nat.{not-suc-le-zero}
-use native.Mathlib.Numerals.{add-one}
 use native.Mathlib.Omega.{arith}
 use borrow.Author.Tests.{ltb-true, ltb-false, leb-true, leb-false, le-leb, eqb-true, eqb-false, eq-eqb, ne_eqb, not-true}
 use lib.Bits.{bit_or, or_add_and, and_le_l, and_le_r}
 use lib.Dec.{leb, ltb, eqb}
-use lib.ListN.{length, get_or, take, drop, length-drop, take-append-drop, drop_of_length-le, get_or-eq_default}
-use lib.Seq.{drop-cons, drop-drop, take_all, get_or-take, get_or-drop}
+use lib.ListN.{length, get_or, take, drop, length-drop, take-append-drop, get_or-eq_default}
+use Rattle.std.specs.Prelude.{map, fold}
+use denote.Bor.{Bor}
+use lib.Seq.{drop-drop, take_all, get_or-take, get_or-drop}
 use Rattle.questions.specs.Questions.{all, scalar, zero?, rows, cell_count, no_surrogate, empty_rows, cells_hold}
 
 -- ---- Tests of one cell
@@ -37,7 +38,7 @@ or_zero a b = go (eqb a 0) (eqb b 0) refl refl
 zero_scalar : (x : ℕ) → zero? x ≡ true → scalar x ≡ true
 zero_scalar x h = rw (eqb-true x 0 h)
 
--- ---- The loops
+-- ---- The folds over a part of the table
 
 and_assoc : (a b c : Bool) → a && (b && c) ≡ a && b && c
 and_assoc true b c = refl
@@ -47,17 +48,25 @@ and_true : (a : Bool) → a && true ≡ a
 and_true true = refl
 and_true false = refl
 
+-- what the lent cells hold
+scalars_from : (cells : List (Bor ℕ)) (b : Bool) → fold (λ good x. good && scalar x.now) b cells ≡ b && all scalar (map (λ x. x.now) cells)
+unfolding all
+scalars_from [] b = sym (and_true b)
+scalars_from (x ∷ t) b = scalars_from t (b && scalar x.now) ∙ sym (and_assoc b (scalar x.now) (all scalar (map (λ x. x.now) t)))
+
+pub fold_scalars : (cells : List (Bor ℕ)) (t : List ℕ) → map (λ x. x.now) cells ≡ t → fold (λ good x. good && scalar x.now) true cells ≡ all scalar t
+fold_scalars cells t e = scalars_from cells true ∙ ap (all scalar) e
+
+bits_from : (t : List ℕ) (b : ℕ) → eqb (fold (λ bits x. bit_or bits x) b t) 0 ≡ eqb b 0 && all zero? t
+unfolding all
+bits_from [] b = sym (and_true (eqb b 0))
+bits_from (x ∷ t) b =
+    bits_from t (bit_or b x) ∙ ap (λ (c : Bool). c && all zero? t) (or_zero b x) ∙ sym (and_assoc (eqb b 0) (zero? x) (all zero? t))
+
+pub fold_bits : (t : List ℕ) → eqb (fold (λ bits x. bit_or bits x) 0 t) 0 ≡ all zero? t
+fold_bits t = bits_from t 0
+
 module _ (f : ℕ → Bool) where
-  -- one more number
-  pub turn : (t : List ℕ) (i : ℕ) (b : Bool) → i < length t → all f t ≡ b && all f (drop i t) → all f t ≡ b && f (get_or t i 0) && all f (drop (i + 1) t)
-  unfolding all
-  turn t i b h e = e ∙ rw (add-one, drop-cons t i 0) (and_assoc b (f (get_or t i 0)) (all f (drop (suc i) t)))
-
-  -- none is left
-  pub end : (t : List ℕ) (i : ℕ) (b : Bool) → length t ≤ i → all f t ≡ b && all f (drop i t) → b ≡ all f t
-  unfolding all
-  end t i b h e = sym (e ∙ rw (drop_of_length-le t h) (and_true b))
-
   all_append : (s t : List ℕ) → all f (s ++ t) ≡ all f s && all f t
   unfolding all
   all_append [] t = refl

@@ -1,12 +1,34 @@
--- What a call knows where none of questions 1, 2 and 3 refused it. Assumes nothing.
-use Prim.Native.Nat.{ℕ, ◌≤◌}
+-- Numbers of refusals, and what a call knows where none of questions 1, 2 and 3 refused it. Assumes nothing.
+use Prim.Native.Nat.{ℕ, ◌≤◌, ◌<◌}
 use mathlib.Core.Path.{◌≡◌, refl}
 use mathlib.Core.Bool.{Bool, true, false, cond, ◌&&◌}
 use mathlib.Core.List.{List}
 use native.Mathlib.Omega.{arith}
 use borrow.Author.Tests.{leb-true}
 use lib.Dec.{leb}
+use Rattle.questions.specs.declared.refusal.Refusal.{Refusal}
+use Rattle.questions.specs.declared.refusal.Refusal.TheVariants as refusals
+use Rattle.questions.specs.Refusal.{number_of}
 use Rattle.questions.specs.Questions.{cells_hold, first_refusal}
+
+-- a refusal has a number
+pub some_number : (e : Refusal) → 0 < number_of e
+some_number refusals.CellTable = omega arith
+some_number refusals.Options = omega arith
+some_number refusals.TooLong = omega arith
+some_number (refusals.IllFormed place) = omega arith
+some_number (refusals.NoBase place) = omega arith
+some_number (refusals.Unencodable place) = omega arith
+some_number refusals.StoreTooSmall = omega arith
+some_number refusals.BufferTooSmall = omega arith
+some_number refusals.IssuesTooMany = omega arith
+some_number refusals.HasIssues = omega arith
+some_number refusals.PrivateUse = omega arith
+some_number refusals.CatalogueMismatch = omega arith
+some_number refusals.KeyTooLong = omega arith
+some_number refusals.CatalogueFull = omega arith
+some_number refusals.BookmarkMismatch = omega arith
+some_number refusals.BookmarkPlace = omega arith
 
 pub record Passed (t : List ℕ) (initial width limit len : ℕ) : Type 0 where
   pub table : cells_hold t ≡ true

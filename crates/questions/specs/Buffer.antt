@@ -7,8 +7,12 @@ padded zero vs = []
 padded (suc n) [] = 0 ∷ padded n []
 padded (suc n) (v ∷ vs) = v ∷ padded n vs
 
+-- the list with the value z from place j on
+unfoldable pub cleared_to : {X : Type 0} → X → List X → ℕ → List X
+cleared_to z [] j = []
+cleared_to z (x ∷ l) zero = z ∷ cleared_to z l zero
+cleared_to z (x ∷ l) (suc j) = x ∷ cleared_to z l j
+
 -- the list with zeros from place j on
-unfoldable pub cleared : List ℕ → ℕ → List ℕ
-cleared [] j = []
-cleared (x ∷ l) zero = 0 ∷ cleared l zero
-cleared (x ∷ l) (suc j) = x ∷ cleared l j
+abbrev pub cleared : List ℕ → ℕ → List ℕ
+cleared = cleared_to 0

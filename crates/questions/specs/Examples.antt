@@ -1,7 +1,7 @@
 -- Cases of the definitions, computed.
 use Rattle.std.specs.Prelude.{ℕ, ◌≡◌, refl, true, false, List, [], ◌∷◌, map, set, replicate}
 use Rattle.questions.specs.Questions.{all, cells_hold, first_refusal, decode_limit, encode_limit}
-use Rattle.questions.specs.Buffer.{padded, cleared}
+use Rattle.questions.specs.Buffer.{padded, cleared_to, cleared}
 
 unfoldable zeros : List ℕ
 zeros = replicate 8836 0
@@ -33,5 +33,5 @@ unfolding zeros first_refusal cells_hold all
 refusals = refl
 
 buffers : (padded 4 (7 ∷ 8 ∷ []) ≡ 7 ∷ 8 ∷ 0 ∷ 0 ∷ []) × (cleared (7 ∷ 8 ∷ 9 ∷ []) 1 ≡ 7 ∷ 0 ∷ 0 ∷ [])
-unfolding padded cleared
+unfolding padded cleared_to
 buffers = (refl, refl)

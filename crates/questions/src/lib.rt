@@ -6,7 +6,10 @@ pub mod refusal;
 
 ghost use Rattle.std.specs.Prelude.{◌≡◌};
 ghost use Rattle.questions.specs.Questions.{all, scalar, zero?, cells_hold, options_hold, first_refusal};
-ghost use Rattle.questions.specs.Buffer.{cleared};
+ghost use Rattle.questions.specs.Refusal.{refused, refused_at};
+ghost use Rattle.questions.specs.Buffer.{cleared_to};
+
+use refusal::Refusal;
 
 /// The most bytes that decoding and a key take.
 pub const DECODE_LIMIT: usize = 65535;
@@ -17,31 +20,27 @@ pub const ENCODE_LIMIT: usize = 7281;
 /// The cell table has 94 rows of 94 cells.
 pub const CELLS: usize = 8836;
 
-/// Whether no cell of a part of the table is a surrogate, D800 to DFFF. There is no early way out, so that eight cells
-/// are tested at a time; so in `empty`.
+/// Whether a cell is no surrogate.
+#[tactic(auto, using(crate::proofs::CellTable::scalar_is))]
+fn is_scalar(x: u16) -> bool
+    ensures { result ≡ scalar x }
+{
+    x / 0x800 != 0x1B
+}
+
+/// Whether no cell of a part of the table is a surrogate, D800 to DFFF. It is a `fold`, with no early way out, so that
+/// eight cells are tested at a time; so is `empty`.
 fn scalars(t: &[u16]) -> bool
     ensures { result ≡ all scalar t.now }
 {
-    let mut good = true;
-    let mut i = 0;
-    while i < t.len() {
-        good = good & (t[i] / 0x800 != 0x1B);
-        i += 1;
-    }
-    good
+    t.iter().fold(true, |good, x| good & is_scalar(*x))
 }
 
 /// Whether every cell of a part of the table is zero.
 fn empty(t: &[u16]) -> bool
     ensures { result ≡ all zero? t.now }
 {
-    let mut bits: u16 = 0;
-    let mut i = 0;
-    while i < t.len() {
-        bits = bits | t[i];
-        i += 1;
-    }
-    bits == 0
+    t.iter().fold(0u16, |bits, x| bits | *x) == 0
 }
 
 /// Question 1. Rows 9 to 15 are the cells from 752 to 1409, rows 85 to 94 those from 7896 on: what is zero there is no
@@ -62,40 +61,55 @@ pub fn options(initial: u32, width: u32) -> bool
     (initial <= 1) & (width <= 1)
 }
 
-/// The first of questions 1, 2 and 3 that is answered no, or 0.
-pub fn first(t: &[u16], initial: u32, width: u32, limit: usize, len: usize) -> u32
-    ensures { result ≡ first_refusal t.now initial width limit len }
+/// The first of questions 1, 2 and 3 that is answered no, as a refusal.
+#[tactic(auto, unfolding(crate::specs::Questions::first_refusal))]
+pub fn first(t: &[u16], initial: u32, width: u32, limit: usize, len: usize) -> Result<(), Refusal>
+    ensures number { refused result ≡ first_refusal t.now initial width limit len }
+    ensures place { refused_at result ≡ 0 }
 {
     if !cells(t) {
-        return 1;
+        return Err(Refusal::CellTable);
     }
     if !options(initial, width) {
-        return 2;
+        return Err(Refusal::Options);
     }
     if limit < len {
-        return 3;
+        return Err(Refusal::TooLong);
     }
-    0
+    Ok(())
+}
+
+/// The numbers of lent buffers: bytes of text and key, and the numbers of issues and store.
+pub trait Zero: Copy {
+    ghost ZERO: { Self };
+
+    const ZERO: Self;
+
+    // A copy is the same number: what `fill` asks.
+    ghost copied: { (x : Self) → Self.is_infallible x × ((y : Self) → Self.is_clone x y → y ≡ x) };
+}
+
+impl Zero for u8 {
+    ghost ZERO = { 0 };
+
+    const ZERO: u8 = 0;
+
+    ghost copied = { λ _. (tt, λ _ e. e) };
+}
+
+impl Zero for u32 {
+    ghost ZERO = { 0 };
+
+    const ZERO: u32 = 0;
+
+    ghost copied = { λ _. (tt, λ _ e. e) };
 }
 
 /// Zeros in `d` from `from` on.
-pub fn clear(d: &mut [u8], from: usize)
-    ensures { d.new ≡ cleared d.old from }
+pub fn clear<T: Zero>(d: &mut [T], from: usize)
+    ensures { d.new ≡ cleared_to T.ZERO d.old from }
 {
-    let mut j = from;
-    while j < d.len() {
-        d[j] = 0;
-        j += 1;
-    }
-}
-
-/// The same for issues and the search store.
-pub fn clear32(d: &mut [u32], from: usize)
-    ensures { d.new ≡ cleared d.old from }
-{
-    let mut k = from;
-    while k < d.len() {
-        d[k] = 0;
-        k += 1;
+    if from < d.len() {
+        d[from..].fill(T::ZERO);
     }
 }

@@ -18,14 +18,13 @@ pub fn report(counts: &mut [usize], place: usize, numbers: &[usize])
     ensures { counts.new ≡ fronted counts.old (place ∷ numbers.now) }
 {
     put(counts, 0, place);
-    let mut i = 0;
-    while i < numbers.len() {
-        put(counts, 1 + i, numbers[i]);
-        i += 1;
+    for (i, x) in numbers.iter().enumerate() {
+        put(counts, 1 + i, *x);
     }
 }
 
 /// Where the part of an unknown escape begins in an input of so many bytes.
+#[tactic(auto, unfolding(crate::specs::Counts::escape_start))]
 pub fn escape_start(size: usize, start: usize, len: usize) -> usize
     ensures { result ≡ escape_start size start len }
 {

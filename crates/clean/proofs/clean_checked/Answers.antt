@@ -1,12 +1,9 @@
 -- `clean_checked`: all steps up to the first issue, the release of the marks, and the answer.
-use mathlib.Core.Path.{sym, subst}
 use native.Mathlib.Omega.{arith}
 use lib.ListN.{length}
 use Rattle.questions.proofs.Refusals.{passed}
 use Rattle.decode_outer.proofs.Start.{outside_start, room_end}
 use Rattle.reading.specs.WithoutBuffers.{lent, refusal}
-use Rattle.clean.specs.Promises.{Answered}
-use Rattle.clean.specs.declared.CleanAnswer.{CleanAnswer}
 use Rattle.clean.proofs.Calls.{answered_no, answered_end}
 use Rattle.clean.proofs.clean_checked.Goals as goal
 
@@ -34,8 +31,6 @@ unfolding refusal
 returns c =
     let a = c.args in
     let short = (passed a.cells.now a.initial a.width 65535 (length a.input.now) c.requires).within in
-    let v =
     answered_end a.cells.now a.initial a.width a.input.now _ _ _ _ c.top-w.result _ _ c.requires short c.start-start.ensures c.undefined-none.ensures
     c.top-w.ensures
-    c.if-out-gt0.false (c.flush_dangling-flushed.ensures _) in
-    subst (λ (r : CleanAnswer). Answered (lent a.cells.now a.initial a.width a.input.now) r) (sym c.verdict.ensures) v
+    c.if-out-gt0.false (c.flush_dangling-flushed.ensures _)

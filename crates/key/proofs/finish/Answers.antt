@@ -7,11 +7,11 @@ use Rattle.key.proofs.finish.Goals as goal
 
 pub from_text-requires : goal.from_text-requires
 from_text-requires c =
-    omega (arith, ap text_of c.in-Decoded.is, c.requires)
+    omega (arith, ap text_of c.in-Ok.is, c.requires)
 
-pub returns-in-Decoded : goal.returns-in-Decoded
-returns-in-Decoded c =
-    λ l d. keyed_as l _ _ d _ _ _ _ _ _ c.in-Decoded.is c.from_text.ensures
+pub returns-in-Ok : goal.returns-in-Ok
+returns-in-Ok c =
+    λ l d. keyed_as l _ _ d _ _ _ c.in-Ok.is c.from_text.ensures
 
-pub returns-in-Refused : goal.returns-in-Refused
-returns-in-Refused c = λ l d. refused_as l _ _ d _ _ _ c.in-Refused.is c.refuse.ensures
+pub returns-in-Err : goal.returns-in-Err
+returns-in-Err c = λ l d. refused_as l _ _ d _ _ c.in-Err.is c.question.ensures.number c.question.ensures.place

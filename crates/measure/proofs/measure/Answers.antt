@@ -1,11 +1,15 @@
 -- `measure`: a question that fails refuses; else the reading answers.
-use mathlib.Core.Path.{sym}
+use mathlib.Core.Path.{◌≡◌}
+use borrow.Author.Rules.{rules}
+use Rattle.std.specs.Prelude.{Err}
 use Rattle.reading.specs.WithoutBuffers.{lent, refusal}
 use Rattle.measure.proofs.Calls.{refused}
 use Rattle.measure.proofs.measure.Goals as goal
 
-pub returns-then-q-gt0 : goal.returns-then-q-gt0
+pub returns-in_err-first : goal.returns-in_err-first
 unfolding refusal
-returns-then-q-gt0 c =
+returns-in_err-first c =
     let a = c.args in
-    refused (lent a.cells.now a.initial a.width a.input.now) _ (sym c.first-q.ensures) c.if-q-gt0.true
+    let e = c.in_err-first.field-0.0 in
+    let is : c.from_residual.result ≡ Err e = search rules in
+    refused (lent a.cells.now a.initial a.width a.input.now) e is c.in_err-first.ensures.number c.in_err-first.ensures.place

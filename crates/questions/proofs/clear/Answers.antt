@@ -1,21 +1,14 @@
--- `questions::clear` meets its contract: clearing what is left of the list is clearing the whole from `from`. Assumes nothing.
-use mathlib.Core.Path.{refl, sym, ◌∙◌}
-use native.Mathlib.Omega.{arith}
-use lib.ListN.{length-set}
-use Rattle.questions.proofs.Buffers.{clear_turn, clear_end}
+-- `questions::clear` meets its contract: the part from `from` on is filled. Assumes nothing.
+use mathlib.Core.Path.{sym}
+use Rattle.questions.proofs.Buffers.{filled, clear_end}
 use Rattle.questions.proofs.clear.Goals as goal
 
-pub loop-j-init : goal.loop-j-init
-loop-j-init c = (refl, refl)
+pub fill-requires : goal.fill-requires
+fill-requires g c = (g.met.T.Zero.copied _).0
 
-pub loop-j-smaller : goal.loop-j-smaller
-loop-j-smaller c = simp length-set (omega arith)
+pub returns-then-from-d : goal.returns-then-from-d
+returns-then-from-d g c =
+    filled _ _ _ _ _ c.if-from-d.true c.ZERO.ensures (c.fill.ensures.after (g.met.T.Zero.copied _).1)
 
-pub loop-j-preserved : goal.loop-j-preserved
-loop-j-preserved c = (
-  simp length-set c.loop-j.invariant.0,
-  clear_turn c.loop-j.d c.loop-j.j c.loop-j-test.true ∙ c.loop-j.invariant.1,
-)
-
-pub returns : goal.returns
-returns c = sym (clear_end _ _ c.loop-j-test.false) ∙ c.loop-j.invariant.1
+pub returns-else-from-d : goal.returns-else-from-d
+returns-else-from-d g c = sym (clear_end _ _ _ c.if-from-d.false)

@@ -1,16 +1,14 @@
--- `questions::empty` meets its contract: the bits are zero where every cell so far is. Assumes nothing.
-use mathlib.Core.Path.{refl}
-use borrow.Author.Rules.{rules}
+-- `questions::empty` meets its contract. Assumes nothing.
+use mathlib.Core.Path.{◌≡◌, ap, ◌∙◌}
+use Prim.Native.Nat.{ℕ}
 use lib.Dec.{eqb}
-use Rattle.questions.specs.Questions.{zero?}
-use Rattle.questions.proofs.CellTable.{or_zero, turn, end}
+use lib.Bits.{bit_or}
+use borrow.Author.Rules.{rules}
+use Rattle.std.specs.List.{fold}
+use Rattle.questions.proofs.CellTable.{fold_bits}
 use Rattle.questions.proofs.empty.Goals as goal
 
-pub loop-i-init : goal.loop-i-init
-loop-i-init c = (search rules, refl)
-
-pub loop-i-preserved : goal.loop-i-preserved
-loop-i-preserved c = (search rules, rw or_zero (turn zero? _ _ (eqb c.loop-i.bits 0) c.loop-i-test.true c.loop-i.invariant.1))
-
 pub returns : goal.returns
-returns c = end zero? _ _ _ c.loop-i-test.false c.loop-i.invariant.1
+returns c =
+    let folded : c.fold.result ≡ fold (λ bits x. bit_or bits x) 0 c.args.t.now = search rules in
+    ap (λ (n : ℕ). eqb n 0) folded ∙ fold_bits c.args.t.now

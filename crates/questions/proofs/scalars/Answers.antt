@@ -1,15 +1,15 @@
--- `questions::scalars` meets its contract: what was tested and what is left make up the whole. Assumes nothing.
-use mathlib.Core.Path.{refl}
+-- `questions::scalars` meets its contract. Assumes nothing.
+use mathlib.Core.Path.{◌≡◌, refl, ◌∙◌}
+use mathlib.Core.Bool.{◌&&◌}
 use borrow.Author.Rules.{rules}
+use Rattle.std.specs.Prelude.{map}
 use Rattle.questions.specs.Questions.{scalar}
-use Rattle.questions.proofs.CellTable.{scalar_is, turn, end}
+use Rattle.questions.proofs.CellTable.{fold_scalars}
 use Rattle.questions.proofs.scalars.Goals as goal
 
-pub loop-i-init : goal.loop-i-init
-loop-i-init c = (search rules, refl)
-
-pub loop-i-preserved : goal.loop-i-preserved
-loop-i-preserved c = (search rules, rw scalar_is (turn scalar _ _ c.loop-i.good c.loop-i-test.true c.loop-i.invariant.1))
-
 pub returns : goal.returns
-returns c = end scalar _ _ _ c.loop-i-test.false c.loop-i.invariant.1
+returns c =
+    let r = c.fold.ensures.runs in
+    let folded = r.3 (λ good x. good && scalar x.now) (λ x y z f h. (refl, search rules)) in
+    let items : map (λ y. y.now) r.0.items ≡ c.args.t.now = search rules in
+    folded ∙ fold_scalars _ _ items

@@ -1,9 +1,13 @@
 -- `decode_with`: a question that fails refuses; else the decoding answers.
-use mathlib.Core.Path.{refl, sym}
-use Rattle.decode.proofs.Calls.{refused}
+use mathlib.Core.Path.{refl, sym, ap, ◌∙◌}
+use Rattle.questions.specs.Refusal.{refused, refused_at}
+use Rattle.decode.proofs.Calls as calls
 use Rattle.decode.proofs.call.decode_with.Goals as goal
 
-pub returns-then-q-gt0 : goal.returns-then-q-gt0
-returns-then-q-gt0 c =
+pub decode_checked-requires : goal.decode_checked-requires
+decode_checked-requires c = sym c.in-Ok.ensures.number
+
+pub returns-in-Err : goal.returns-in-Err
+returns-in-Err c =
     let a = c.args in
-    refused _ _ _ a.text.now a.issues.now _ _ (sym c.first-q.ensures) c.if-q-gt0.true refl refl c.refuse.ensures
+    calls.refused _ _ _ a.text.now a.issues.now _ _ c.in-Err.ensures.number c.in-Err.ensures.place refl refl c.refuse.ensures

@@ -12,4 +12,4 @@ returns-then-k-issues c =
 
 pub returns : goal.returns
 returns c =
-    λ s t₀ i₀ h. finish_0 s t₀ i₀ _ _ _ h _ _ c.if-n-text.false c.if-k-issues.false c.clear.ensures c.clear32.ensures
+    λ s t₀ i₀ h. finish_0 s t₀ i₀ _ _ _ h _ _ c.if-n-text.false c.if-k-issues.false c.clear.ensures c.clear-2.ensures

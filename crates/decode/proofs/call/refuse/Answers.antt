@@ -5,4 +5,4 @@ use Rattle.decode.proofs.call.refuse.Goals as goal
 
 pub returns : goal.returns
 returns c =
-    record { answer = refl; text = c.clear.ensures ∙ clear_all _; issues = c.clear32.ensures ∙ clear_all _ }
+    record { answer = refl; text = c.clear.ensures ∙ clear_all _; issues = c.clear-2.ensures ∙ clear_all _ }
