@@ -1,12 +1,14 @@
 -- What the tests of a bookmark's numbers say, and what passes them. Assumes nothing.
 use Prim.Native.Nat.{ℕ, ◌+◌, ◌-◌, ◌≤◌, ◌<◌}
-use mathlib.Core.Path.{◌≡◌}
+use mathlib.Core.Path.{◌≡◌, ap}
 use mathlib.Core.Bool.{true}
 use mathlib.Core.List.{List}
 use borrow.Author.Tests.{leb-true, le-leb, eqb-true, eq-eqb}
 use lib.Dec.{leb}
 use lib.ListN.{length, take, drop, get_or}
 use Rattle.tables.specs.Kanji.{non_spacing, has_character}
+use Rattle.tables.specs.Marks.{mark_test}
+use Rattle.tables.specs.declared.MarkTest.{MarkTest}
 use Rattle.reading.specs.Macros.{end_of, limit}
 use Rattle.bookmark_form.specs.Form.{settings_hold, counts_hold, marks_hold, body_holds, bodies_hold, resumable}
 use Rattle.bookmark_form.proofs.Below.{and_left, and_right, and_both, below_at, below_all}
@@ -70,6 +72,10 @@ counts_hold_lem input l h =
     (and_both (le-leb _ _ h.1) (and_both (le-leb _ _ h.2) (and_both (le-leb _ _ h.3) (le-leb _ _ h.4))))
 
 -- ---- marks
+
+-- what a test of a character says
+pub marked : (c : ℕ) {r : MarkTest} → r ≡ mark_test c → r.mark ≡ has_character non_spacing c
+marked c e = ap (λ (t : MarkTest). t.mark) e
 
 pub marks_known : (l : List ℕ) → marks_hold l ≡ true → (k : ℕ) → k < get_or l 10 0 → has_character non_spacing (get_or l (12 + k) 0) ≡ true
 unfolding marks_hold

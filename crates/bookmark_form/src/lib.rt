@@ -17,6 +17,31 @@ pub const NAMES: usize = 16;
 
 pub const SIZE: usize = 287;
 
+// Where its numbers stand, as specs/Numbers.antt orders them: the place, the sets of G0 to G3, GL and GR, whether the size
+// is narrow, the repeat that waits, how many marks do, the marks, the macro starts and lengths by code, the charge and the
+// length of the text.
+const PLACE: usize = 1;
+
+const SETS: usize = 2;
+
+const ELEMENTS: usize = 6;
+
+const NARROW: usize = 8;
+
+const REPEAT: usize = 9;
+
+const WAITING: usize = 10;
+
+const MARKS: usize = 12;
+
+const STARTS: usize = 28;
+
+const LENS: usize = 156;
+
+const CHARGED: usize = 284;
+
+const TEXT: usize = 285;
+
 /// The most bytes of text before a bookmark: what is written behind it still has a position of 32 bits.
 const TEXT_LIMIT: u32 = 0x7FFFFFFF;
 
@@ -24,17 +49,7 @@ const TEXT_LIMIT: u32 = 0x7FFFFFFF;
 pub fn is_store(store: &[u32]) -> bool
     ensures { result ≡ is_store store.now }
 {
-    if store.len() != NAMES * SIZE {
-        return false;
-    }
-    let mut name = 0;
-    while name < NAMES {
-        if store[name * SIZE] > 1 {
-            return false;
-        }
-        name += 1;
-    }
-    true
+    store.len() == NAMES * SIZE && (0..NAMES).all(|name| store[name * SIZE] <= 1)
 }
 
 /// Whether sets, elements and size are a state's.
@@ -42,25 +57,9 @@ fn settings_hold(l: &[u32]) -> bool
     requires { length l.now ≡ 287 }
     ensures { result ≡ settings_hold l.now }
 {
-    if l[2] > 31 {
-        return false;
-    }
-    if l[3] > 31 {
-        return false;
-    }
-    if l[4] > 31 {
-        return false;
-    }
-    if l[5] > 31 {
-        return false;
-    }
-    if l[6] > 3 {
-        return false;
-    }
-    if l[7] > 3 {
-        return false;
-    }
-    l[8] <= 1
+    l[SETS..ELEMENTS].iter().all(|&set| set <= 31)
+        && l[ELEMENTS..NARROW].iter().all(|&element| element <= 3)
+        && l[NARROW] <= 1
 }
 
 /// Whether place and counts are within their bounds.
@@ -68,19 +67,11 @@ fn counts_hold(input: usize, l: &[u32]) -> bool
     requires { (input ≤ 65535) × (length l.now ≡ 287) }
     ensures { (b : List ℕ) → length b ≡ input → result ≡ counts_hold b l.now }
 {
-    if l[1] as usize > input {
-        return false;
-    }
-    if l[9] > 63 {
-        return false;
-    }
-    if l[10] > 16 {
-        return false;
-    }
-    if l[284] as usize > input * 64 + 4096 {
-        return false;
-    }
-    l[285] <= TEXT_LIMIT
+    l[PLACE] as usize <= input
+        && l[REPEAT] <= 63
+        && l[WAITING] <= 16
+        && l[CHARGED] as usize <= input * 64 + 4096
+        && l[TEXT] <= TEXT_LIMIT
 }
 
 /// Whether the waiting marks are of the seven.
@@ -88,25 +79,17 @@ fn marks_hold(l: &[u32]) -> bool
     requires { (length l.now ≡ 287) × (get_or l.now 10 0 ≤ 16) }
     ensures { result ≡ marks_hold l.now }
 {
-    let n = l[10] as usize;
-    let mut k = 0;
-    while k < n {
-        if !tables::is_non_spacing(l[12 + k]).mark {
-            return false;
-        }
-        k += 1;
-    }
-    true
+    let end = MARKS + l[WAITING] as usize;
+    l[MARKS..end]
+        .iter()
+        .all(|&mark| tables::is_non_spacing(mark).mark)
 }
 
 /// A start without the 1 that is added to it.
 pub fn start_of(number: u32) -> usize
     ensures { result ≡ number - 1 }
 {
-    if number == 0 {
-        return 0;
-    }
-    number as usize - 1
+    number.saturating_sub(1) as usize
 }
 
 /// Whether a body lies in the input, and no definition ends in it.
@@ -126,12 +109,10 @@ fn bodies_hold(input: &[u8], l: &[u32]) -> bool
     requires { length l.now ≡ 287 }
     ensures { result ≡ bodies_hold input.now l.now }
 {
-    let mut code = 0;
-    while code < 128 {
-        if !body_holds(input, start_of(l[28 + code]), l[156 + code] as usize) {
+    for code in 0..128 {
+        if !body_holds(input, start_of(l[STARTS + code]), l[LENS + code] as usize) {
             return false;
         }
-        code += 1;
     }
     true
 }

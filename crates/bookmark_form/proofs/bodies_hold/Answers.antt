@@ -1,7 +1,7 @@
 -- `bodies_hold` meets its contract. The invariant: the bodies so far lie in the input, and no definition ends in them. Assumes nothing.
 use Prim.Native.Nat.{ℕ, ◌+◌, ◌-◌}
 use mathlib.Core.Path.{◌≡◌, sym, ap, ◌∙◌}
-use mathlib.Core.Bool.{Bool, true}
+use mathlib.Core.Bool.{Bool}
 use mathlib.Core.List.{List}
 use native.Mathlib.Omega.{arith}
 use lib.ListN.{get_or}
@@ -15,11 +15,7 @@ held : (input l : List ℕ) (code start : ℕ) {r b : Bool} → start ≡ get_or
 held input l code start e q h = sym (ap (λ (n : ℕ). body_holds input n (get_or l (156 + code) 0)) e) ∙ (sym q ∙ h)
 
 pub loop-code-init : goal.loop-code-init
-loop-code-init c = (below_none _, omega arith)
-
-pub overflow_cast-l : goal.overflow_cast-l
-overflow_cast-l c =
-    omega (arith, c.type_inv.l (156 + c.loop-code.code))
+loop-code-init c = below_none _
 
 pub body_holds-requires : goal.body_holds-requires
 body_holds-requires c = (
@@ -35,13 +31,10 @@ returns-then-not-body_holds c =
     (held c.args.input.now c.args.l.now c.loop-code.code _ c.start_of.ensures c.body_holds.ensures c.if-not-body_holds.true)
 
 pub loop-code-preserved : goal.loop-code-preserved
-loop-code-preserved c = (
-  below_true c.loop-code.code _ c.loop-code.invariant.0
-      (held c.args.input.now c.args.l.now c.loop-code.code _ c.start_of.ensures c.body_holds.ensures c.if-not-body_holds.false),
-  omega (arith, c.loop-code-test.true),
-)
+loop-code-preserved c =
+    below_true c.loop-code.code _ c.loop-code.invariant
+    (held c.args.input.now c.args.l.now c.loop-code.code _ c.start_of.ensures c.body_holds.ensures c.if-not-body_holds.false)
 
 pub returns : goal.returns
 unfolding bodies_hold
-returns c =
-    sym (below_here 128 c.loop-code.code _ c.loop-code.invariant.0 (omega (arith, c.loop-code.invariant.1, c.loop-code-test.false)))
+returns c = sym (below_here 128 c.loop-code.code _ c.loop-code.invariant (omega arith))
