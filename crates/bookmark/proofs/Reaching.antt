@@ -18,7 +18,7 @@ use Rattle.reading.specs.Between.{before}
 use Rattle.reading.specs.WithoutBuffers as unbuffered
 use Rattle.decode_state.specs.declared.Core.{Core}
 use Rattle.decode_state.specs.declared.Decoder.{Decoder}
-use Rattle.decode_state.specs.Promises.{start_of, undefined, Holds}
+use Rattle.decode_state.specs.Promises.{start_of, undefined, view, Holds}
 use Rattle.decode_outer.specs.declared.Reached.{Reached}
 use Rattle.decode_outer.specs.Promises.{steps_from, ReachesOrCut, TopRan}
 use Rattle.decode_outer.proofs.Start.{end_start, enough_end, issues_end, reached_start}
@@ -47,13 +47,13 @@ store_long store h = eqb-true (length store) 4592 (both (eqb (length store) 4592
 module _ (cells : List ℕ) (initial width : ℕ) (input : List ℕ) {place : ℕ} {t i : List ℕ} {x : Core} {d : Decoder} {r : Reached} {t' i' : List ℕ}
     (short : length input ≤ 65535) (e : x ≡ start_of initial width 0xFFFFFFFF) (q : d ≡ undefined x) (top : TopRan cells input 0 place d t i r t' i') where
   -- the steps lead to the first that begins at the place or behind it; they are not cut, since there are not enough issues
-  pub reaches : Holds (given cells width input) t i (before (given cells width input) initial place).state r.decoder t' i'
+  pub reaches : Holds (given cells width input) t i (before (given cells width input) initial place).state (view r.decoder) t' i'
       × (r.at ≡ (before (given cells width input) initial place).at)
   unfolding before
   reaches = go (reached_start input initial width 0xFFFFFFFF short e q top)
     where
       go : ReachesOrCut (given cells width input) t i (steps_from 0 place (given cells width input) (start initial)) r.at r.decoder t' i'
-          → Holds (given cells width input) t i (steps_from 0 place (given cells width input) (start initial)).state r.decoder t' i'
+          → Holds (given cells width input) t i (steps_from 0 place (given cells width input) (start initial)).state (view r.decoder) t' i'
           × (r.at ≡ (steps_from 0 place (given cells width input) (start initial)).at)
       go (inl h) = h
       go (inr c) = absurd (omega (arith, enough_end input initial width 0xFFFFFFFF short e q top, issues_end input initial width 0xFFFFFFFF short e q top, c.ends))

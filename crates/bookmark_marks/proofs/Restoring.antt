@@ -1,5 +1,5 @@
 -- The loop of `restore`: the first k of a bookmark's marks wait. Assumes nothing.
-use Prim.Native.Nat.{ℕ, zero, suc, ◌+◌, ◌*◌, ◌≤◌, ◌<◌}
+use Prim.Native.Nat.{ℕ, zero, suc, ◌+◌, ◌-◌, ◌*◌, ◌≤◌, ◌<◌}
 use mathlib.Core.Path.{◌≡◌, refl, sym, ap, subst, ◌∙◌}
 use mathlib.Core.Bool.{Bool, true, false, and-eq-true_iff}
 use mathlib.Core.List.{List, [], ◌∷◌, ◌++◌}
@@ -8,7 +8,7 @@ use native.Mathlib.Omega.{arith}
 use borrow.Author.Tests.{eqb-true, eqb-false}
 use lib.Dec.{eqb}
 use lib.ListN.{length, take, drop, get_or, length-drop}
-use lib.Seq.{take-suc, get_or-drop, length-sets}
+use lib.Seq.{take-suc, get_or-take, get_or-drop, length-take-le, length-sets}
 use Rattle.private_use.specs.PrivateUse.{is_private_use, private_use}
 use Rattle.private_use.proofs.Laws.{count_append, count_ordinary}
 use Rattle.tables.specs.Kanji.{non_spacing, has_character}
@@ -46,6 +46,21 @@ mark_held l h = below (get_or l 10 0) (λ k. has_character non_spacing (get_or l
 pub mark_ordinary : (m : ℕ) → has_character non_spacing m ≡ true → is_private_use m ≡ false
 unfolding is_private_use
 mark_ordinary = of_each (λ m. is_private_use m ≡ false) non_spacing (refl, (refl, (refl, (refl, (refl, (refl, (refl, tt)))))))
+
+-- the part of the numbers that has the marks
+abbrev pub marks_of : List ℕ → List ℕ
+marks_of l = take (12 + get_or l 10 0 - 12) (drop 12 l)
+
+pub length_marks : (l : List ℕ) → length l ≡ 287 → get_or l 10 0 ≤ 16 → length (marks_of l) ≡ get_or l 10 0
+length_marks l h k =
+    let e : 12 + get_or l 10 0 - 12 ≡ get_or l 10 0 = omega arith in
+    length-take-le (12 + get_or l 10 0 - 12) (drop 12 l) (omega (arith, length-drop 12 l)) ∙ e
+
+pub mark_at : (l : List ℕ) (k : ℕ) → k < get_or l 10 0 → get_or (marks_of l) k 0 ≡ get_or l (12 + k) 0
+mark_at l k h = get_or-take (12 + get_or l 10 0 - 12) (drop 12 l) k 0 (omega arith) ∙ get_or-drop 12 l k 0
+
+pub mark_kept : (l : List ℕ) → marks_hold l ≡ true → (k : ℕ) → k < get_or l 10 0 → is_private_use (get_or (marks_of l) k 0) ≡ false
+mark_kept l h k p = rw (mark_at l k p) (mark_ordinary (get_or l (12 + k) 0) (mark_held l h k p))
 
 -- ---- the loop
 

@@ -34,15 +34,13 @@ pub fn count(waiting: u64) -> usize
     ensures { (result ≡ length (unpacked 16 waiting [])) × (result ≤ 16) }
 {
     let mut w = waiting;
-    let mut n: usize = 0;
-    while n < MARKS {
+    for n in 0..MARKS {
         if w == 0 {
             return n;
         }
-        w = w / 8;
-        n += 1;
+        w /= 8;
     }
-    n
+    MARKS
 }
 
 /// The waiting marks of a number, and zeros behind them.
@@ -51,11 +49,9 @@ pub fn unpack(waiting: u64) -> [u32; 16]
 {
     let mut marks = [0u32; 16];
     let mut w = waiting;
-    let mut n = count(waiting);
-    while n > 0 {
-        n -= 1;
-        marks[n] = mark_of(w % 8);
-        w = w / 8;
+    for k in (0..count(waiting)).rev() {
+        marks[k] = mark_of(w % 8);
+        w /= 8;
     }
     marks
 }
@@ -68,10 +64,8 @@ pub fn restore(l: &[u32], text: &mut [u8]) -> Out
 {
     let n = l[10] as usize;
     let mut out = decode_output::start();
-    let mut k = 0;
-    while k < n {
-        out = decode_output::mark(out, l[12 + k], 0, text);
-        k += 1;
+    for mark in &l[12..12 + n] {
+        out = decode_output::mark(out, *mark, 0, text);
     }
     out.first = l[11];
     out.repeat = l[9];

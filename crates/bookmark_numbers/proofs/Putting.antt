@@ -1,20 +1,24 @@
 -- A bookmark's numbers, put one part after the other. Assumes nothing.
-use Prim.Native.Nat.{ℕ, zero, suc, ◌+◌, ◌≤◌}
+use Prim.Native.Nat.{ℕ, zero, suc, ◌+◌, ◌-◌, ◌≤◌}
 use mathlib.Core.Path.{◌≡◌, refl, sym, ap, ◌∙◌}
 use mathlib.Core.Bool.{Bool, true, false, cond}
 use native.Mathlib.Numerals.{add-one}
 use native.Mathlib.Omega.{arith}
 use mir.Val.{bool_byte}
 use mathlib.Core.List.{List, [], ◌∷◌, ◌++◌, map, append_assoc}
-use lib.ListN.{length, get_or, get_or-map}
+use lib.ListN.{length, take, drop, get_or, get_or-map}
+use lib.Seq.{sets-eq}
+use borrow.Rule.Slice.PartMut.{put_mid}
+use Rattle.std.proofs.lemmas.Slice.{put_mid-paste}
+use Rattle.std.proofs.lemmas.List.Edits.{paste_all}
+use Rattle.lent.specs.Put.{Put}
 use Rattle.base.specs.Lists.{All}
 use Rattle.tables.specs.Kanji.{non_spacing, has_character}
 use Rattle.questions.specs.Buffer.{padded}
 use Rattle.decode_output.proofs.Held.{held_waiting}
 use Rattle.reading.specs.State.{Given, State}
 use Rattle.decode_state.specs.declared.Core.{Core}
-use Rattle.decode_state.specs.declared.Decoder.{Decoder}
-use Rattle.decode_state.specs.Promises.{Holds}
+use Rattle.decode_state.specs.Promises.{Whole, Holds}
 use Rattle.bookmark_form.specs.Numbers.{plus_one, numbers}
 use Rattle.bookmark_marks.specs.Marks.{unpacked}
 use Rattle.bookmark_marks.proofs.Packing.{unpacked_packed}
@@ -28,13 +32,25 @@ unfolding plus_one
 plus_some zero h = absurd (h refl)
 plus_some (suc n) h = add-one (suc n)
 
+pub length_plus : (s : List ℕ) → length (map plus_one s) ≡ length s
+length_plus [] = refl
+length_plus (x ∷ s) = ap suc (length_plus s)
+
 pub plus_at : (s : List ℕ) (i : ℕ) → get_or (map plus_one s) i 0 ≡ plus_one (get_or s i 0)
 unfolding plus_one
 plus_at s i = get_or-map plus_one s i 0
 
-pub length_plus : (s : List ℕ) → length (map plus_one s) ≡ length s
-length_plus [] = refl
-length_plus (x ∷ s) = ap suc (length_plus s)
+-- numbers copied into a part
+pub put_copied : (l xs : List ℕ) (n : ℕ) {ys : List ℕ} → n + length xs ≤ length l → ys ≡ xs → Put l n xs (put_mid n (n + length xs - n) l ys) (n + length xs)
+put_copied l xs n {ys} h e =
+    let k : length xs ≡ n + length xs - n = omega arith in
+    record {
+      written =
+          put_mid-paste n (n + length xs - n) l ys xs (length xs) e k refl
+          ∙ paste_all l n xs (length xs) refl
+          ∙ sym (sets-eq xs l n h ∙ append_assoc (take n l) xs (drop (n + length xs) l));
+      next = refl;
+    }
 
 -- whether the size is narrow, as a number
 pub byte : (u : Bool) → bool_byte u ≡ cond u 1 0
@@ -56,7 +72,7 @@ fronts place core =
     1 ∷ place ∷ (core.sets ++ (core.gl ∷ core.gr ∷ cond core.narrow 1 0 ∷ core.out.repeat ∷ length (unpacked 16 core.out.waiting []) ∷ core.out.first ∷ []))
 
 -- the numbers of the state that the decoder holds, in the parts in which they are put
-pub numbers_parts : (place : ℕ) {g : Given} {t₀ i₀ t i : List ℕ} {s : State} {d : Decoder} → Holds g t₀ i₀ s d t i → All (λ m. has_character non_spacing m ≡ true) s.out.marks
+pub numbers_parts : (place : ℕ) {g : Given} {t₀ i₀ t i : List ℕ} {s : State} {d : Whole} → Holds g t₀ i₀ s d t i → All (λ m. has_character non_spacing m ≡ true) s.out.marks
     → length s.out.marks ≤ 16
     → numbers place s ≡ (((fronts place d.core ++ padded 16 (unpacked 16 d.core.out.waiting [])) ++ map plus_one d.starts) ++ d.lens)
     ++ (d.core.charged ∷ d.core.out.len ∷ d.core.out.issues ∷ [])

@@ -6,18 +6,16 @@ ghost use Rattle.lent.specs.Put.{Put};
 ghost use Rattle.bookmark_form.specs.Numbers.{plus_one};
 ghost use Rattle.bookmark_form.specs.Form.{resumable};
 ghost use Rattle.bookmark_marks.specs.Marks.{unpacked};
+ghost use Rattle.decode_state.specs.Promises.{starts_of, lens_of};
 ghost use Rattle.bookmark_numbers.specs.Promises.{Stored, Restored};
 
-use decode_state::{Core, Decoder};
+use decode_state::{Core, Decoder, Extent};
 
 /// A start plus 1, 0 for none.
 fn plus_one(start: u16) -> u32
     ensures { result ≡ plus_one start }
 {
-    if start == 0 {
-        return 0;
-    }
-    start as u32 + 1
+    if start == 0 { 0 } else { start as u32 + 1 }
 }
 
 /// Writes numbers from the place `at` on, and answers the place behind them.
@@ -25,38 +23,23 @@ fn put_all(store: &mut [u32], at: usize, s: &[u32]) -> usize
     requires { at + length s.now ≤ length store.old }
     ensures { Put store.old at s.now store.new result }
 {
-    let mut i = 0;
-    while i < s.len() {
-        store[at + i] = s[i];
-        i += 1;
-    }
-    at + i
+    let end = at + s.len();
+    store[at..end].copy_from_slice(s);
+    end
 }
 
-/// Writes the starts of macro bodies, each plus 1.
-fn put_starts(store: &mut [u32], at: usize, s: &[u16]) -> usize
-    requires { at + length s.now ≤ length store.old }
-    ensures { Put store.old at (map plus_one s.now) store.new result }
+/// The starts of macro bodies, each plus 1.
+fn starts(macros: &[Extent; 128]) -> [u32; 128]
+    ensures { result ≡ map plus_one (starts_of macros.now) }
 {
-    let mut i = 0;
-    while i < s.len() {
-        store[at + i] = plus_one(s[i]);
-        i += 1;
-    }
-    at + i
+    macros.map(|body| plus_one(body.start))
 }
 
-/// Writes their lengths.
-fn put_lens(store: &mut [u32], at: usize, s: &[u16]) -> usize
-    requires { at + length s.now ≤ length store.old }
-    ensures { Put store.old at s.now store.new result }
+/// Their lengths.
+fn lens(macros: &[Extent; 128]) -> [u32; 128]
+    ensures { result ≡ lens_of macros.now }
 {
-    let mut i = 0;
-    while i < s.len() {
-        store[at + i] = s[i] as u32;
-        i += 1;
-    }
-    at + i
+    macros.map(|body| body.len as u32)
 }
 
 /// The numbers before the marks.
@@ -94,35 +77,27 @@ pub fn put(store: &mut [u32], at: usize, place: u32, d: Decoder) -> usize
     let mut n = put_all(store, at, &front);
     let marks = bookmark_marks::unpack(out.waiting);
     n = put_all(store, n, &marks);
-    n = put_starts(store, n, &d.starts);
-    n = put_lens(store, n, &d.lens);
+    n = put_all(store, n, &starts(&d.macros));
+    n = put_all(store, n, &lens(&d.macros));
     let back = [core.charged, out.len as u32, out.issues];
     put_all(store, n, &back)
 }
 
-/// The macro bodies of a bookmark.
-#[derive(Clone, Copy)]
-pub struct Bodies {
-    pub starts: [u16; 128],
-    pub lens: [u16; 128],
-}
-
-/// Reads them; each lies in an input.
-fn read_bodies(l: &[u32]) -> Bodies
+/// Reads the macro bodies of a bookmark; each lies in an input.
+fn read_bodies(l: &[u32]) -> [Extent; 128]
     requires l_len { length l.now ≡ 287 }
     requires by_index { (code : ℕ) → code < 128 → (get_or l.now (28 + code) 0 - 1 ≤ 65535) × (get_or l.now (156 + code) 0 ≤ 65535) }
-    ensures starts { result.starts ≡ map (λ (n : ℕ). n - 1) (take 128 (drop 28 l.now)) }
-    ensures lens { result.lens ≡ take 128 (drop 156 l.now) }
+    ensures starts { starts_of result ≡ map (λ (n : ℕ). n - 1) (take 128 (drop 28 l.now)) }
+    ensures lens { lens_of result ≡ take 128 (drop 156 l.now) }
 {
-    let mut starts = [0u16; 128];
-    let mut lens = [0u16; 128];
-    let mut code = 0;
-    while code < 128 {
-        starts[code] = bookmark_form::start_of(l[28 + code]) as u16;
-        lens[code] = l[156 + code] as u16;
-        code += 1;
+    let mut macros = [Extent { start: 0, len: 0 }; 128];
+    for code in 0..128 {
+        macros[code] = Extent {
+            start: bookmark_form::start_of(l[28 + code]) as u16,
+            len: l[156 + code] as u16,
+        };
     }
-    Bodies { starts, lens }
+    macros
 }
 
 /// The decoder at the state that numbers say, for a reading of the input: nothing is written yet but the marks that wait.
@@ -143,8 +118,6 @@ pub fn decoder(input: &[u8], width: u32, l: &[u32], text: &mut [u8]) -> Decoder
         charged: l[284],
         out,
     };
-    let bodies = read_bodies(l);
-    let starts = bodies.starts;
-    let lens = bodies.lens;
-    Decoder { core, starts, lens }
+    let macros = read_bodies(l);
+    Decoder { core, macros }
 }

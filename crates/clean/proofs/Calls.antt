@@ -22,7 +22,7 @@ use Rattle.reading.specs.WithoutBuffers.{Lent, lent, reading, refusal}
 use Rattle.laws_reading.proofs.Reading.{issues_only_grow, has_later}
 use Rattle.decode_state.specs.declared.Core.{Core}
 use Rattle.decode_state.specs.declared.Decoder.{Decoder}
-use Rattle.decode_state.specs.Promises.{start_of, undefined, HoldsOrCut}
+use Rattle.decode_state.specs.Promises.{start_of, undefined, view, HoldsOrCut}
 use Rattle.decode_outer.specs.declared.Reached.{Reached}
 use Rattle.decode_outer.specs.Promises.{TopRan}
 use Rattle.decode_outer.proofs.Start.{enough_end, ran_start}
@@ -92,7 +92,7 @@ module _ (cells : List ℕ) (initial width : ℕ) (input t i : List ℕ) (x : Co
   ends = run (given cells width input) 4 input 0 0 (start initial)
 
   abbrev Ran : Type 0
-  Ran = HoldsOrCut (given cells width input) t i ends r.decoder t₁ i₁
+  Ran = HoldsOrCut (given cells width input) t i ends (view r.decoder) t₁ i₁
 
   ran : Ran
   ran = ran_start input initial width 1 short e begins top

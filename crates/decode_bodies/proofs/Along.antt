@@ -18,8 +18,7 @@ use Rattle.laws_reading.specs.Reading.{Grows}
 use Rattle.laws_reading.proofs.Reading.{same, issues_only_grow, has_later}
 use Rattle.decode_output.specs.declared.Out.{Out}
 use Rattle.decode_state.specs.declared.Core.{Core}
-use Rattle.decode_state.specs.declared.Decoder.{Decoder}
-use Rattle.decode_state.specs.Promises.{whole, Holds, Goes, Stretch, Ends, Cut, HoldsOrCut, TakenOrCut}
+use Rattle.decode_state.specs.Promises.{Whole, whole, Holds, Goes, Stretch, Ends, Cut, HoldsOrCut, TakenOrCut}
 use Rattle.decode_state.proofs.Steps.{drop_one, goes_none, goes_on, goes_end, until_one, until_all}
 use Rattle.decode_bodies.specs.declared.Place.{Place}
 use Rattle.decode_bodies.specs.Promises.{below, step_in, Ready, Grown, Ran, RanStep}
@@ -39,7 +38,7 @@ run_steps g (suc left) b base origin s = refl
 -- ---- issues are only appended to
 
 -- as many as the struct counts
-has_counted : {g : Given} {t₀ i₀ : List ℕ} {s : State} {d : Decoder} {t i : List ℕ} {n : ℕ} → Holds g t₀ i₀ s d t i → n ≤ d.core.out.issues → n ≤ length s.out.issues
+has_counted : {g : Given} {t₀ i₀ : List ℕ} {s : State} {d : Whole} {t i : List ℕ} {n : ℕ} → Holds g t₀ i₀ s d t i → n ≤ d.core.out.issues → n ≤ length s.out.issues
 has_counted h k = omega (arith, k, ap (λ (o : Out). o.issues) h.out.state)
 
 below_grows : (g : Given) (left : ℕ) → Grows (below g left)
@@ -77,7 +76,7 @@ abbrev pub steps_to : ℕ → ℕ → ℕ → List ℕ → ℕ → ℕ → Given
 steps_to left base origin b to j g = until g left (below g left) base origin to (drop j b) j 0
 
 -- from the byte j of b to its byte j₁ by such steps
-pub record Along (cells input : List ℕ) (left base origin : ℕ) (b : List ℕ) (to j : ℕ) (d : Decoder) (t i : List ℕ) (j₁ : ℕ) (d₁ : Decoder) (t₁ i₁ : List ℕ) : Type 0 where
+pub record Along (cells input : List ℕ) (left base origin : ℕ) (b : List ℕ) (to j : ℕ) (d : Whole) (t i : List ℕ) (j₁ : ℕ) (d₁ : Whole) (t₁ i₁ : List ℕ) : Type 0 where
   pub past : j ≤ j₁
   pub within : j₁ ≤ length b
   pub grown : Grown (limit input) (j₁ - j) d.core d₁.core
@@ -86,13 +85,13 @@ pub record Along (cells input : List ℕ) (left base origin : ℕ) (b : List ℕ
   pub as_many : length i₁ ≡ length i
 
 -- all of them, or to an issue that ends the reading
-pub record Went (cells input : List ℕ) (left base origin : ℕ) (b : List ℕ) (to j : ℕ) (d : Decoder) (t i : List ℕ) (j₁ : ℕ) (d₁ : Decoder) (t₁ i₁ : List ℕ) : Type 0 where
+pub record Went (cells input : List ℕ) (left base origin : ℕ) (b : List ℕ) (to j : ℕ) (d : Whole) (t i : List ℕ) (j₁ : ℕ) (d₁ : Whole) (t₁ i₁ : List ℕ) : Type 0 where
   pub does : (g : Given) → g.cells ≡ cells → g.input ≡ input → (t₀ i₀ : List ℕ) (s : State) → Holds g t₀ i₀ s d t i
       → (Holds g t₀ i₀ (steps_to left base origin b to j g s).state d₁ t₁ i₁ × (j₁ ≡ (steps_to left base origin b to j g s).at))
       ⊎ Cut d₁.core (steps_to left base origin b to j g s).state
   pub grown : Grown (limit input) (length b - j) d.core d₁.core
 
-module _ {cells input : List ℕ} {left base origin : ℕ} {b : List ℕ} {to j : ℕ} {d : Decoder} {t i : List ℕ} where
+module _ {cells input : List ℕ} {left base origin : ℕ} {b : List ℕ} {to j : ℕ} {d : Whole} {t i : List ℕ} where
   pub along_start : {e : ℕ} → j ≤ length b → Ready (limit input) e d.core → Along cells input left base origin b to j d t i j d t i
   along_start k h = record {
     past = omega arith;
@@ -103,7 +102,7 @@ module _ {cells input : List ℕ} {left base origin : ℕ} {b : List ℕ} {to j 
     as_many = refl;
   }
 
-  module _ {j₁ : ℕ} {d₁ : Decoder} {t₁ i₁ : List ℕ} where
+  module _ {j₁ : ℕ} {d₁ : Whole} {t₁ i₁ : List ℕ} where
     -- plain steps
     pub along_stretch : {j₂ : ℕ} {c₂ : Core} {t₂ i₂ : List ℕ} → Along cells input left base origin b to j d t i j₁ d₁ t₁ i₁
         → Stretch cells base origin b to j₁ d₁.core t₁ i₁ j₂ c₂ t₂ i₂ → length t₂ ≡ length t₁ → length i₂ ≡ length i₁
@@ -121,7 +120,7 @@ module _ {cells input : List ℕ} {left base origin : ℕ} {b : List ℕ} {to j 
           as_many = m ∙ w.as_many;
         }
 
-    module _ {u : ℕ} {d₂ : Decoder} {t₂ i₂ : List ℕ} (w : Along cells input left base origin b to j d t i j₁ d₁ t₁ i₁) (before : j₁ < to) (h : j₁ < length b)
+    module _ {u : ℕ} {d₂ : Whole} {t₂ i₂ : List ℕ} (w : Along cells input left base origin b to j d t i j₁ d₁ t₁ i₁) (before : j₁ < to) (h : j₁ < length b)
         (v : RanStep cells input b j₁ (step_from left base origin b j₁) d₁ t₁ i₁ u d₂ t₂ i₂) where
       -- the step at which they stopped, where the reading goes on
       pub along_step : (Ends d₂.core.enough d₂.core.out.issues → ⊥) → length t₂ ≡ length t₁ → length i₂ ≡ length i₁
@@ -169,8 +168,25 @@ module _ {cells input : List ℕ} {left base origin : ℕ} {b : List ℕ} {to j 
       grown = grown_more (length b - j) (omega (arith, w.past, w.within)) w.grown;
     }
 
+-- the same byte in other words
+pub along_to : {cells input : List ℕ} {left base origin : ℕ} {b : List ℕ} {to j : ℕ} {d : Whole} {t i : List ℕ} {j₁ j₂ : ℕ} {d₁ : Whole} {t₁ i₁ : List ℕ}
+    → j₁ ≡ j₂ → Along cells input left base origin b to j d t i j₁ d₁ t₁ i₁ → Along cells input left base origin b to j d t i j₂ d₁ t₁ i₁
+along_to {cells} {input} {left} {base} {origin} {b} {to} {j} {d} {t} {i} {d₁ = d₁} {t₁} {i₁} e w = subst (λ (k : ℕ). Along cells input left base origin b to j d t i k d₁ t₁ i₁) e w
+
+-- where the steps are over: at their end, or at an issue that ends the reading
+pub along_over : {cells input : List ℕ} {left base origin : ℕ} {b : List ℕ} {to j : ℕ} {d : Whole} {t i : List ℕ} {j₁ : ℕ} {d₁ : Whole} {t₁ i₁ : List ℕ}
+    → Along cells input left base origin b to j d t i j₁ d₁ t₁ i₁ → (to ≤ j₁) ⊎ Ends d₁.core.enough d₁.core.out.issues
+    → Went cells input left base origin b to j d t i j₁ d₁ t₁ i₁
+along_over w (inl h) = along_end w h
+along_over {cells} {input} {left} {base} {origin} {b} {to} {j} {d} {t} {i} {j₁} {d₁} {t₁} {i₁} w (inr e) = record {
+  does = λ g x y t₀ i₀ s k.
+      let p = w.goes g x y t₀ i₀ s k in
+      inr (record { ends = e; has = subst (λ (z : Between). d₁.core.enough ≤ length z.state.out.issues) (p.1.1 to (omega arith)) (until_grows g left base origin to (drop j₁ b) j₁ 0 p.0 _ (has_counted p.1.0 e)) });
+  grown = grown_more (length b - j) (omega (arith, w.past, w.within)) w.grown;
+}
+
 -- the whole of a body
-pub went_all : {cells input : List ℕ} {left base origin : ℕ} {b : List ℕ} {d : Decoder} {t i : List ℕ} {j₁ : ℕ} {d₁ : Decoder} {t₁ i₁ : List ℕ}
+pub went_all : {cells input : List ℕ} {left base origin : ℕ} {b : List ℕ} {d : Whole} {t i : List ℕ} {j₁ : ℕ} {d₁ : Whole} {t₁ i₁ : List ℕ}
     → Went cells input left base origin b (length b) 0 d t i j₁ d₁ t₁ i₁ → Ran cells input (length b) (λ g. run g left b base origin) d t i d₁ t₁ i₁
 went_all {left = left} {base} {origin} {b} {d} {t} {i} {j₁} {d₁} {t₁} {i₁} w = record {
   does = λ g x y t₀ i₀ s k. all g t₀ i₀ s (w.does g x y t₀ i₀ s k);
@@ -194,27 +210,15 @@ inside_offset : (at j : ℕ) → offset (at + 1) j ≡ at
 unfolding offset
 inside_offset at j = rw (add-one at)
 
-pub inside_step : {cells input b : List ℕ} {d : Decoder} {t i : List ℕ} {u : ℕ} {d' : Decoder} {t' i' : List ℕ} (p : Place) (j : ℕ)
+pub inside_step : {cells input b : List ℕ} {d : Whole} {t i : List ℕ} {u : ℕ} {d' : Whole} {t' i' : List ℕ} (p : Place) (j : ℕ)
     → RanStep cells input b j (step_in b j p) d t i u d' t' i' → RanStep cells input b j (step_from p.left p.base (p.at + 1) b j) d t i u d' t' i'
 inside_step {b = b} p j v =
     step_as (λ g s h. ap (λ (at : ℕ). step g p.left (below g p.left) (get_or b j 0) (drop (j + 1) b) (p.base + j) at s) (inside_offset p.at j)) v
 
 -- outside every body it is the byte's own
-pub outside_step : {cells input : List ℕ} {d : Decoder} {t i : List ℕ} {u : ℕ} {d' : Decoder} {t' i' : List ℕ} (left j : ℕ)
+pub outside_step : {cells input : List ℕ} {d : Whole} {t i : List ℕ} {u : ℕ} {d' : Whole} {t' i' : List ℕ} (left j : ℕ)
     → RanStep cells input input j (λ g. step g left (below g left) (get_or input j 0) (drop (j + 1) input) j j) d t i u d' t' i'
     → RanStep cells input input j (step_from left 0 0 input j) d t i u d' t' i'
 unfolding offset
 outside_step {input = input} left j v =
     step_as (λ g s h. ap (λ (place : ℕ). step g left (below g left) (get_or input j 0) (drop (j + 1) input) place j s) (zero-add j)) v
-
--- ---- no step behind an issue that ends the reading: the one that there would be leaves as many
-
-pub ended_step : {cells input b : List ℕ} {d : Decoder} {t i : List ℕ} (left x : ℕ) (rest : List ℕ) (place at j : ℕ) → Ready (limit input) 1 d.core → j < length b
-    → Ends d.core.enough d.core.out.issues → RanStep cells input b j (λ g. step g left (below g left) x rest place at) d t i 1 d t i
-ended_step left x rest place at j r h e = record {
-  does = λ g c y t₀ i₀ s k.
-      inr (record { ends = e; has = has_later (issues_only_grow.step g left (below g left) (below_grows g left) x rest place at s) (has_counted k e) });
-  some = omega arith;
-  most = omega (arith, h);
-  grown = grown_same r 1;
-}

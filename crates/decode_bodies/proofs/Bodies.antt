@@ -1,6 +1,6 @@
 -- `run_body`, `run_macro`, `char1` and `graphic` of the definition, by case.
 use Prim.Native.Nat.{ℕ, suc, ◌+◌, ◌-◌, ◌%◌, ◌≤◌, ◌<◌}
-use mathlib.Core.Path.{◌≡◌, refl, sym, ◌∙◌, subst}
+use mathlib.Core.Path.{◌≡◌, refl, sym, ap₂, ◌∙◌, subst}
 use mathlib.Core.Bool.{Bool, true, false, ◌&&◌, false≢true}
 use mathlib.Core.List.{List}
 use native.Mathlib.Omega.{arith}
@@ -9,14 +9,15 @@ use borrow.Author.Tests.{eq-eqb, ne_eqb, lt-ltb, le-ltb, leb-true}
 use lib.Dec.{leb}
 use lib.ListN.{length, take, drop, get_or, length-drop}
 use lib.Seq.{length-take-le}
+use Rattle.std.proofs.Math.ListN.{get_or-map}
 use Rattle.sets.specs.Sets.{bytes_per_char}
 use Rattle.issues.specs.declared.IssueKind.TheVariants.{UndefinedMacro, MacroLimit}
 use Rattle.reading.specs.State.{Given, State, took, issue, charge}
 use Rattle.reading.specs.Characters.{char1, graphic, graphic_of}
 use Rattle.reading.specs.Macros.{Run, run_macro, run_body, builtin, limit}
 use Rattle.reading.specs.Steps.{run}
-use Rattle.decode_state.specs.declared.Decoder.{Decoder}
-use Rattle.decode_state.specs.Promises.{whole, HoldsOrCut}
+use Rattle.decode_state.specs.declared.Extent.{Extent}
+use Rattle.decode_state.specs.Promises.{starts_of, lens_of, Whole, whole, HoldsOrCut}
 use Rattle.decode_state.proofs.Lift.{holds_charged, with_charged}
 use Rattle.decode_macros.specs.Promises.{Built}
 use Rattle.decode_macros.proofs.Laws.{builtin_bare}
@@ -53,16 +54,16 @@ module _ (g : Given) (left : ℕ) (R : Run) (body : List ℕ) (base at : ℕ) (s
   body_runs h k = rw (ne_eqb left 0 h, le-ltb _ _ k)
 
 -- the length of a body is charged
-abbrev charging : Decoder → ℕ → Decoder
+abbrev charging : Whole → ℕ → Whole
 charging d n = whole (with_charged d.core (d.core.charged + n)) d.starts d.lens
 
 -- the place one deeper
 abbrev pub deeper : Place → Place
 deeper p = record { base = p.base; at = p.at; left = p.left - 1 }
 
-module _ (cells input body : List ℕ) (p : Place) (d : Decoder) (t i : List ℕ) where
+module _ (cells input body : List ℕ) (p : Place) (d : Whole) (t i : List ℕ) where
   -- a body that runs: its length is charged, and it runs one deeper
-  pub ran_body : {d' : Decoder} {t' i' : List ℕ} → (p.left ≡ 0 → ⊥) → d.core.charged + length body ≤ limit input
+  pub ran_body : {d' : Whole} {t' i' : List ℕ} → (p.left ≡ 0 → ⊥) → d.core.charged + length body ≤ limit input
       → Ran cells input (length body) (λ g. run g (p.left - 1) body p.base (p.at + 1)) (charging d (length body)) t i d' t' i'
       → Ran cells input 1 (λ g. run_body g p.left (below g p.left) body p.base p.at) d t i d' t' i'
   ran_body {d' = d'} {t' = t'} {i' = i'} h k v = record {
@@ -111,6 +112,25 @@ body_inside {input} {starts} {lens} code start end h k p q =
       short = omega (arith, e, k.within code, h, p, q);
       bare = rw (← n, p) (k.bare code);
     }
+
+-- the body of a code as the struct has it
+abbrev pub extent : List Extent → ℕ → Extent
+extent macros code = get_or macros code (record { start = 0; len = 0 })
+
+pub start_at : (macros : List Extent) (code : ℕ) → get_or (starts_of macros) code 0 ≡ (extent macros code).start
+start_at macros code = get_or-map (λ (e : Extent). e.start) macros code (record { start = 0; len = 0 })
+
+pub len_at : (macros : List Extent) (code : ℕ) → get_or (lens_of macros) code 0 ≡ (extent macros code).len
+len_at macros code = get_or-map (λ (e : Extent). e.len) macros code (record { start = 0; len = 0 })
+
+pub extent_within : {input : List ℕ} (macros : List Extent) (code : ℕ) → Inside input (starts_of macros) (lens_of macros)
+    → (extent macros code).start + (extent macros code).len ≤ length input
+extent_within macros code h = omega (arith, h.within code, start_at macros code, len_at macros code)
+
+pub extent_body : {input : List ℕ} (macros : List Extent) (code : ℕ) → length input ≤ 65535 → Inside input (starts_of macros) (lens_of macros)
+    → Body (take ((extent macros code).start + (extent macros code).len - (extent macros code).start) (drop (extent macros code).start input))
+extent_body macros code h k =
+    body_inside code _ _ h k (sym (start_at macros code)) (sym (ap₂ (λ (a b : ℕ). a + b) (start_at macros code) (len_at macros code)))
 
 -- ---- a built-in body
 

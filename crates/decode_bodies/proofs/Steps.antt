@@ -9,15 +9,14 @@ use lib.ListN.{length}
 use Rattle.reading.specs.State.{Given, State, Step, took}
 use Rattle.reading.specs.Macros.{Run, limit}
 use Rattle.decode_state.specs.declared.Core.{Core}
-use Rattle.decode_state.specs.declared.Decoder.{Decoder}
 use Rattle.decode_state.specs.declared.Stepped.{Stepped}
-use Rattle.decode_state.specs.Promises.{whole, Holds, HoldsOrCut, TakenOrCut, TookOver}
+use Rattle.decode_state.specs.Promises.{Whole, whole, Holds, HoldsOrCut, TakenOrCut, TookOver}
 use Rattle.decode_characters.specs.Promises.{Did}
 use Rattle.decode_bodies.specs.Promises.{Ran, RanStep}
 use Rattle.decode_bodies.proofs.Room.{kept_grown}
 
 -- what a state that a decoder holds has in common with it
-pub record Alike (d : Decoder) (s : State) : Type 0 where
+pub record Alike (d : Whole) (s : State) : Type 0 where
   pub sets : s.sets ≡ d.core.sets
   pub gl : s.gl ≡ d.core.gl
   pub gr : s.gr ≡ d.core.gr
@@ -25,19 +24,19 @@ pub record Alike (d : Decoder) (s : State) : Type 0 where
   pub starts : s.starts ≡ d.starts
   pub lens : s.lens ≡ d.lens
 
-pub alike : {g : Given} {t₀ i₀ : List ℕ} {s : State} {d : Decoder} {t i : List ℕ} → Holds g t₀ i₀ s d t i → Alike d s
+pub alike : {g : Given} {t₀ i₀ : List ℕ} {s : State} {d : Whole} {t i : List ℕ} → Holds g t₀ i₀ s d t i → Alike d s
 alike h = record {
-  sets = sym (ap (λ (d : Decoder). d.core.sets) h.state);
-  gl = sym (ap (λ (d : Decoder). d.core.gl) h.state);
-  gr = sym (ap (λ (d : Decoder). d.core.gr) h.state);
-  charged = sym (ap (λ (d : Decoder). d.core.charged) h.state);
-  starts = sym (ap (λ (d : Decoder). d.starts) h.state);
-  lens = sym (ap (λ (d : Decoder). d.lens) h.state);
+  sets = sym (ap (λ (d : Whole). d.core.sets) h.state);
+  gl = sym (ap (λ (d : Whole). d.core.gl) h.state);
+  gr = sym (ap (λ (d : Whole). d.core.gr) h.state);
+  charged = sym (ap (λ (d : Whole). d.core.charged) h.state);
+  starts = sym (ap (λ (d : Whole). d.starts) h.state);
+  lens = sym (ap (λ (d : Whole). d.lens) h.state);
 }
 
-module _ {cells input : List ℕ} {d : Decoder} {t i : List ℕ} where
+module _ {cells input : List ℕ} {d : Whole} {t i : List ℕ} where
   -- a function that agrees with f at the states that are held goes as f
-  pub ran_as : {e : ℕ} {f f' : Given → State → State} {d' : Decoder} {t' i' : List ℕ}
+  pub ran_as : {e : ℕ} {f f' : Given → State → State} {d' : Whole} {t' i' : List ℕ}
       → ((g : Given) → g.input ≡ input → (s : State) → Alike d s → f' g s ≡ f g s) → Ran cells input e f d t i d' t' i' → Ran cells input e f' d t i d' t' i'
   ran_as {d' = d'} {t' = t'} {i' = i'} p v = record {
     does = λ g x y t₀ i₀ s h. subst (λ (z : State). HoldsOrCut g t₀ i₀ z d' t' i') (sym (p g y s (alike h))) (v.does g x y t₀ i₀ s h);
@@ -45,7 +44,7 @@ module _ {cells input : List ℕ} {d : Decoder} {t i : List ℕ} where
   }
 
   -- the same of a step
-  pub step_as : {b : List ℕ} {j u : ℕ} {f f' : Given → State → Step} {d' : Decoder} {t' i' : List ℕ} → ((g : Given) (s : State) → Alike d s → f' g s ≡ f g s)
+  pub step_as : {b : List ℕ} {j u : ℕ} {f f' : Given → State → Step} {d' : Whole} {t' i' : List ℕ} → ((g : Given) (s : State) → Alike d s → f' g s ≡ f g s)
       → RanStep cells input b j f d t i u d' t' i' → RanStep cells input b j f' d t i u d' t' i'
   step_as {u = u} {d' = d'} {t' = t'} {i' = i'} p v = record {
     does = λ g x y t₀ i₀ s h. subst (λ (z : Step). TakenOrCut g t₀ i₀ z u d' t' i') (sym (p g s (alike h))) (v.does g x y t₀ i₀ s h);
@@ -75,7 +74,7 @@ module _ {cells input : List ℕ} {d : Decoder} {t i : List ℕ} where
       }
 
   -- one byte
-  pub one_step : {b : List ℕ} {j : ℕ} {f : Given → State → State} {d' : Decoder} {t' i' : List ℕ} → j < length b → Ran cells input 1 f d t i d' t' i'
+  pub one_step : {b : List ℕ} {j : ℕ} {f : Given → State → State} {d' : Whole} {t' i' : List ℕ} → j < length b → Ran cells input 1 f d t i d' t' i'
       → RanStep cells input b j (λ g s. took 1 (f g s)) d t i 1 d' t' i'
   one_step h v = record {
     does = λ g x y t₀ i₀ s k. ⊎_elim (λ q. inl (q, refl)) (λ q. inr q) (v.does g x y t₀ i₀ s k);
@@ -85,7 +84,7 @@ module _ {cells input : List ℕ} {d : Decoder} {t i : List ℕ} where
   }
 
   -- one byte more, before a character
-  pub shift_step : {b : List ℕ} {j u : ℕ} {f : Given → State → Step} {d' : Decoder} {t' i' : List ℕ} → RanStep cells input b (j + 1) f d t i u d' t' i'
+  pub shift_step : {b : List ℕ} {j u : ℕ} {f : Given → State → Step} {d' : Whole} {t' i' : List ℕ} → RanStep cells input b (j + 1) f d t i u d' t' i'
       → RanStep cells input b j (λ g s. record { used = suc (f g s).used; to = (f g s).to }) d t i (u + 1) d' t' i'
   shift_step {u = u} v = record {
     does = λ g x y t₀ i₀ s k. ⊎_elim (λ q. inl (q.0, rw (add-one u) (ap suc q.1))) (λ q. inr q) (v.does g x y t₀ i₀ s k);

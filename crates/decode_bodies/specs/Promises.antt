@@ -5,8 +5,8 @@ use Rattle.reading.specs.State.{Given, State, Step}
 use Rattle.reading.specs.Macros.{Run, end_of, limit}
 use Rattle.reading.specs.Steps.{step, run}
 use Rattle.decode_state.specs.declared.Core.{Core}
-use Rattle.decode_state.specs.declared.Decoder.{Decoder}
-use Rattle.decode_state.specs.Promises.{Holds, DoesOrCut, TakenOrCut}
+use Rattle.decode_state.specs.declared.Extent.{Extent}
+use Rattle.decode_state.specs.Promises.{starts_of, lens_of, Whole, Holds, DoesOrCut, TakenOrCut}
 use Rattle.decode_bodies.specs.declared.Place.{Place}
 
 -- to run a body one deeper, where `left` more may be opened
@@ -46,11 +46,11 @@ pub record Ready (n e : ℕ) (c : Core) : Type 0 where
   pub room : output.Room (n - c.charged + e) (n - c.charged + e) c.out
 
 -- what a function of the cycle is given that takes e bytes at p
-pub record Opens (input starts lens : List ℕ) (p : Place) (e : ℕ) (c : Core) : Type 0 where
+pub record Opens (input : List ℕ) (macros : List Extent) (p : Place) (e : ℕ) (c : Core) : Type 0 where
   pub input_short : length input ≤ 65535
   pub base : p.base ≤ 65535
   pub at : p.at < 65535
-  pub inside : Inside input starts lens
+  pub inside : Inside input (starts_of macros) (lens_of macros)
   pub ready : Ready (limit input) e c
 
 -- ---- what it gives
@@ -67,12 +67,12 @@ pub record Grown (n e : ℕ) (c r : Core) : Type 0 where
   pub issues : r.out.issues + (n - r.charged) ≤ c.out.issues + (n - c.charged + e)
 
 -- from d, t, i to d', t', i' as f goes, e bytes on, or to an issue that ends the reading, where f has as many
-pub record Ran (cells input : List ℕ) (e : ℕ) (f : Given → State → State) (d : Decoder) (t i : List ℕ) (d' : Decoder) (t' i' : List ℕ) : Type 0 where
+pub record Ran (cells input : List ℕ) (e : ℕ) (f : Given → State → State) (d : Whole) (t i : List ℕ) (d' : Whole) (t' i' : List ℕ) : Type 0 where
   pub does : (g : Given) → g.cells ≡ cells → g.input ≡ input → DoesOrCut g (f g) d t i d' t' i'
   pub grown : Grown (limit input) e d.core d'.core
 
 -- the same of a step that takes u bytes, at the byte j of b
-pub record RanStep (cells input b : List ℕ) (j : ℕ) (f : Given → State → Step) (d : Decoder) (t i : List ℕ) (u : ℕ) (d' : Decoder) (t' i' : List ℕ) : Type 0 where
+pub record RanStep (cells input b : List ℕ) (j : ℕ) (f : Given → State → Step) (d : Whole) (t i : List ℕ) (u : ℕ) (d' : Whole) (t' i' : List ℕ) : Type 0 where
   pub does : (g : Given) → g.cells ≡ cells → g.input ≡ input → (t₀ i₀ : List ℕ) (s : State) → Holds g t₀ i₀ s d t i → TakenOrCut g t₀ i₀ (f g s) u d' t' i'
   pub some : 1 ≤ u
   pub most : j + u ≤ length b

@@ -8,15 +8,23 @@ ghost use Rattle.control.specs.Codes.{MACRO};
 ghost use Rattle.reading.specs.Macros.{Run, run_macro, run_body, macro_cmd};
 ghost use Rattle.reading.specs.Characters.{graphic, char1};
 ghost use Rattle.reading.specs.Steps.{run};
-ghost use Rattle.decode_state.specs.Promises.{whole, MayTake, TookOver};
-ghost use Rattle.decode_steps.specs.Promises.{StopAt};
+ghost use Rattle.decode_state.specs.Promises.{over, MayTake, TookOver};
+ghost use Rattle.decode_steps.specs.Promises.{StopsAt};
 ghost use Rattle.decode_bodies.specs.Promises.{below, Body, Opens, Ran, RanStep, step_in};
 
 use control::MACRO;
 use decode_macros::Command;
-use decode_state::{Core, Stepped};
-use decode_steps::{Source, Stop};
+use decode_state::{Core, Extent, Stepped};
+use decode_steps::{Source, Stop, Stretched};
 use issues::IssueKind;
+
+/// What a reading is over while bodies run, lent: the cell table, the input, and the macros by code.
+#[derive(Clone, Copy)]
+pub struct Inputs<'a> {
+    pub cells: &'a [u16],
+    pub input: &'a [u8],
+    pub macros: &'a [Extent; 128],
+}
 
 /// Where a body runs.
 #[derive(Clone, Copy)]
@@ -32,27 +40,24 @@ pub struct Place {
 /// Runs a body one deeper, unless four are open or it charges too much.
 #[cycle(char1_graphic_run_run_body_run_macro_turn)]
 fn run_body<'a>(
-    cells: &[u16],
-    input: &[u8],
+    inputs: Inputs<'a>,
     body: &[u8],
     p: Place,
     s: Core,
-    starts: &'a [u16; 128],
-    lens: &'a [u16; 128],
     text: &mut [u8],
     issues: &mut [u32],
 ) -> Core
-    requires opens { Opens input.now starts.now lens.now p 1 s }
+    requires opens { Opens inputs.input.now inputs.macros.now p 1 s }
     requires body { Body body.now }
-    ensures { Ran cells.now input.now 1 (λ g. run_body g p.left (below g p.left) body.now p.base p.at)
-        (whole s starts.now lens.now) text.old issues.old (whole result starts.now lens.now) text.new
+    ensures { Ran inputs.entry.cells.now inputs.entry.input.now 1 (λ g. run_body g p.left (below g p.left) body.now p.base p.at)
+        (over s inputs.entry.macros.now) text.old issues.old (over result inputs.entry.macros.now) text.new
         issues.new }
 {
     if p.left == 0 {
         return decode_characters::report(p.at, IssueKind::MacroLimit, s, issues);
     }
     let after = s.charged as usize + body.len();
-    if after > input.len() * 64 + 4096 {
+    if after > inputs.input.len() * 64 + 4096 {
         return decode_characters::report(p.at, IssueKind::MacroLimit, s, issues);
     }
     if body.len() == 0 {
@@ -65,57 +70,45 @@ fn run_body<'a>(
         at: p.at,
         left: p.left - 1,
     };
-    run(cells, input, body, deeper, t, starts, lens, text, issues)
+    run(inputs, body, deeper, t, text, issues)
 }
 
 /// A macro character: the body that was defined, else the built-in one. §7.1.1.6, Table 7-18.
 #[cycle(char1_graphic_run_run_body_run_macro_turn)]
 pub fn run_macro<'a>(
-    cells: &[u16],
-    input: &[u8],
+    inputs: Inputs<'a>,
     code: usize,
     p: Place,
     s: Core,
-    starts: &'a [u16; 128],
-    lens: &'a [u16; 128],
     text: &mut [u8],
     issues: &mut [u32],
 ) -> Core
-    requires opens { Opens input.now starts.now lens.now p 1 s }
+    requires opens { Opens inputs.input.now inputs.macros.now p 1 s }
     requires code_bound { code < 128 }
-    ensures { Ran cells.now input.now 1 (λ g. run_macro g p.left (below g p.left) code p.at)
-        (whole s starts.now lens.now) text.old issues.old (whole result starts.now lens.now) text.new
+    ensures { Ran inputs.entry.cells.now inputs.entry.input.now 1 (λ g. run_macro g p.left (below g p.left) code p.at)
+        (over s inputs.entry.macros.now) text.old issues.old (over result inputs.entry.macros.now) text.new
         issues.new }
 {
-    let start = starts[code] as usize;
+    let body = inputs.macros[code];
+    let start = body.start as usize;
     if start > 0 {
-        let end = start + lens[code] as usize;
+        let end = start + body.len as usize;
         let q = Place {
             base: start as u32,
             at: p.at,
             left: p.left,
         };
-        return run_body(
-            cells,
-            input,
-            &input[start..end],
-            q,
-            s,
-            starts,
-            lens,
-            text,
-            issues,
-        );
+        return run_body(inputs, &inputs.input[start..end], q, s, text, issues);
     }
-    let mut body = [0u8; 19];
-    let n = decode_macros::default_macro(&mut body, code);
+    let mut bytes = [0u8; 19];
+    let n = decode_macros::default_macro(&mut bytes, code);
     if n > 0 {
         let q = Place {
             base: 0,
             at: p.at,
             left: p.left,
         };
-        run_body(cells, input, &body[..n], q, s, starts, lens, text, issues)
+        run_body(inputs, &bytes[..n], q, s, text, issues)
     } else {
         decode_characters::report(p.at, IssueKind::UndefinedMacro(code as u8), s, issues)
     }
@@ -125,48 +118,39 @@ pub fn run_macro<'a>(
 /// `decode_characters`.
 #[cycle(char1_graphic_run_run_body_run_macro_turn)]
 fn char1<'a>(
-    cells: &[u16],
-    input: &[u8],
+    inputs: Inputs<'a>,
     c: u8,
     p: Place,
     s: Core,
-    starts: &'a [u16; 128],
-    lens: &'a [u16; 128],
     text: &mut [u8],
     issues: &mut [u32],
 ) -> Core
-    requires opens { Opens input.now starts.now lens.now p 1 s }
+    requires opens { Opens inputs.input.now inputs.macros.now p 1 s }
     requires c_bound { c < 128 }
-    ensures { Ran cells.now input.now 1 (λ g. char1 g p.left (below g p.left) 15 c p.at)
-        (whole s starts.now lens.now) text.old issues.old (whole result starts.now lens.now) text.new
+    ensures { Ran inputs.entry.cells.now inputs.entry.input.now 1 (λ g. char1 g p.left (below g p.left) 15 c p.at)
+        (over s inputs.entry.macros.now) text.old issues.old (over result inputs.entry.macros.now) text.new
         issues.new }
 {
-    run_macro(cells, input, c as usize, p, s, starts, lens, text, issues)
+    run_macro(inputs, c as usize, p, s, text, issues)
 }
 
-/// A character at the byte i of b, through a code element that has the macro set.
+/// A character x through a code element that has the macro set, wherever it stands: a step of one byte.
 #[cycle(char1_graphic_run_run_body_run_macro_turn)]
 pub fn graphic<'a>(
-    cells: &[u16],
-    input: &[u8],
-    b: &[u8],
-    i: usize,
+    inputs: Inputs<'a>,
+    x: u8,
     p: Place,
     s: Core,
-    starts: &'a [u16; 128],
-    lens: &'a [u16; 128],
     text: &mut [u8],
     issues: &mut [u32],
-) -> Stepped
-    requires opens { Opens input.now starts.now lens.now p 1 s }
-    requires i_in_bounds { i < length b.now }
-    ensures { (e : ℕ) → get_or s.sets e 0 ≡ 15 → RanStep cells.now input.now b.now i
-        (λ g. graphic g p.left (below g p.left) e (get_or b.now i 0) (drop (i + 1) b.now) p.at)
-        (whole s starts.now lens.now) text.old issues.old result.used (whole result.core starts.now lens.now)
+) -> Core
+    requires opens { Opens inputs.input.now inputs.macros.now p 1 s }
+    ensures { (e : ℕ) (b : List ℕ) (i : ℕ) → get_or s.sets e 0 ≡ 15 → i < length b → get_or b i 0 ≡ x →
+        RanStep inputs.entry.cells.now inputs.entry.input.now b i (λ g. graphic g p.left (below g p.left) e x (drop (i + 1) b) p.at)
+        (over s inputs.entry.macros.now) text.old issues.old 1 (over result inputs.entry.macros.now)
         text.new issues.new }
 {
-    let core = char1(cells, input, b[i] % 128, p, s, starts, lens, text, issues);
-    Stepped { used: 1, core }
+    char1(inputs, x % 128, p, s, text, issues)
 }
 
 /// MACRO inside a body: no definition ends there, so it is cut or malformed.
@@ -192,61 +176,52 @@ fn macro_cmd(b: &[u8], i: usize, at: u32, s: Core, issues: &mut [u32]) -> Steppe
     }
 }
 
-/// The step at which plain steps stopped, at the byte i of a body; none behind an issue that ends the reading.
+/// The step at which plain steps stopped.
 #[cycle(char1_graphic_run_run_body_run_macro_turn)]
 fn turn<'a>(
-    cells: &[u16],
-    input: &[u8],
+    inputs: Inputs<'a>,
     b: &[u8],
-    i: usize,
+    f: Stretched,
     stop: Stop,
     p: Place,
-    s: Core,
-    starts: &'a [u16; 128],
-    lens: &'a [u16; 128],
     text: &mut [u8],
     issues: &mut [u32],
 ) -> Stepped
-    requires opens { Opens input.now starts.now lens.now p 1 s }
+    requires opens { Opens inputs.input.now inputs.macros.now p 1 f.core }
     requires body { Body b.now }
-    requires i_in_bounds { i < length b.now }
-    requires stop_at { StopAt stop b.now (length b.now) i s }
-    ensures { RanStep cells.now input.now b.now i (step_in b.now i p) (whole s starts.now lens.now)
-        text.old issues.old result.used (whole result.core starts.now lens.now) text.new issues.new }
+    requires stops_at { StopsAt stop b.now f.at f.core }
+    ensures { RanStep inputs.entry.cells.now inputs.entry.input.now b.now f.at (step_in b.now f.at p) (over f.core inputs.entry.macros.now)
+        text.old issues.old result.used (over result.core inputs.entry.macros.now) text.new issues.new }
 {
+    let i = f.at;
+    let s = f.core;
     match stop {
-        Stop::Char(_) => graphic(cells, input, b, i, p, s, starts, lens, text, issues),
+        Stop::Char(_) => {
+            let core = graphic(inputs, b[i], p, s, text, issues);
+            Stepped { used: 1, core }
+        }
         Stop::Shifted(_) => {
-            let r = graphic(cells, input, b, i + 1, p, s, starts, lens, text, issues);
-            let core = r.core;
-            Stepped {
-                used: r.used + 1,
-                core,
-            }
+            let core = graphic(inputs, b[i + 1], p, s, text, issues);
+            Stepped { used: 2, core }
         }
         Stop::Macro => macro_cmd(b, i, p.at, s, issues),
-        Stop::Issue => Stepped { used: 1, core: s },
-        Stop::End => Stepped { used: 1, core: s },
     }
 }
 
 /// All steps of a body, up to an issue that ends the reading.
 #[cycle(char1_graphic_run_run_body_run_macro_turn)]
 fn run<'a>(
-    cells: &[u16],
-    input: &[u8],
+    inputs: Inputs<'a>,
     b: &[u8],
     p: Place,
     core: Core,
-    starts: &'a [u16; 128],
-    lens: &'a [u16; 128],
     text: &mut [u8],
     issues: &mut [u32],
 ) -> Core
-    requires opens { Opens input.now starts.now lens.now p (length b.now) core }
+    requires opens { Opens inputs.input.now inputs.macros.now p (length b.now) core }
     requires body { Body b.now }
-    ensures { Ran cells.now input.now (length b.now) (λ g. run g p.left b.now p.base (p.at + 1))
-        (whole core starts.now lens.now) text.old issues.old (whole result starts.now lens.now) text.new
+    ensures { Ran inputs.entry.cells.now inputs.entry.input.now (length b.now) (λ g. run g p.left b.now p.base (p.at + 1))
+        (over core inputs.entry.macros.now) text.old issues.old (over result inputs.entry.macros.now) text.new
         issues.new }
 {
     let mut s = core;
@@ -258,18 +233,15 @@ fn run<'a>(
             origin,
             to: b.len(),
         };
-        let f = decode_steps::plain(cells, b, i, o, s, text, issues);
-        i = f.at;
-        s = f.core;
-        if i >= b.len() {
-            return s;
-        }
-        let stop = f.stop;
-        let r = turn(cells, input, b, i, stop, p, s, starts, lens, text, issues);
+        let f = decode_steps::plain(inputs.cells, b, i, o, s, text, issues);
+        let Some(stop) = f.stop else {
+            return f.core;
+        };
+        let r = turn(inputs, b, f, stop, p, text, issues);
         if decode_state::ended(r.core.enough, r.core.out.issues) {
             return r.core;
         }
-        i += r.used;
+        i = f.at + r.used;
         s = r.core;
     }
 }

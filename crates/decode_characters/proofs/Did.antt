@@ -9,9 +9,8 @@ use Rattle.decode_output.specs.Output.{Output}
 use Rattle.decode_output.specs.Promises as output
 use Rattle.reading.specs.State.{Given, State, Step, took, writes}
 use Rattle.decode_state.specs.declared.Core.{Core}
-use Rattle.decode_state.specs.declared.Decoder.{Decoder}
 use Rattle.decode_state.specs.declared.Stepped.{Stepped}
-use Rattle.decode_state.specs.Promises.{whole, Holds, MayTake, TookOver}
+use Rattle.decode_state.specs.Promises.{Whole, whole, Holds, MayTake, TookOver}
 use Rattle.decode_state.proofs.Lift.{with_out, holds_writes}
 use Rattle.decode_characters.specs.Promises.{Did}
 
@@ -73,7 +72,7 @@ pub took_shifted : {cells b : List ℕ} {j : ℕ} {f f' : Given → State → St
     → TookOver cells b (j + 1) f s t i r t' i' → TookOver cells b j f' s t i (record { used = r.used + 1; core = r.core }) t' i'
 took_shifted {s = s} {t} {i} {r} {t'} {i'} q d =
     let sets : (g : Given) (starts lens t₀ i₀ : List ℕ) (x : State) → Holds g t₀ i₀ x (whole s starts lens) t i → s.sets ≡ x.sets =
-    λ g starts lens t₀ i₀ x k. ap (λ (y : Decoder). y.core.sets) k.state in
+    λ g starts lens t₀ i₀ x k. ap (λ (y : Whole). y.core.sets) k.state in
     let a = d.some in
     let b = d.within in
     record {

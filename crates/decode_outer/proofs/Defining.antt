@@ -1,6 +1,6 @@
 -- Macros that are defined and run outside every body.
-use Prim.Native.Nat.{ℕ, zero, suc, ◌+◌, ◌≤◌, ◌<◌}
-use mathlib.Core.Path.{◌≡◌, refl, sym, ap, ◌∙◌, subst}
+use Prim.Native.Nat.{ℕ, zero, suc, ◌+◌, ◌-◌, ◌≤◌, ◌<◌}
+use mathlib.Core.Path.{◌≡◌, refl, sym, ap, ap₂, ◌∙◌, subst}
 use mathlib.Core.Bool.{Bool, true, false, cond, true≢false, false≢true}
 use mathlib.Core.List.{List, [], ◌∷◌}
 use mathlib.Core.Logic.{inl, inr, ⊎_elim}
@@ -8,21 +8,22 @@ use native.Mathlib.Decide.{ℕ_discrete}
 use native.Mathlib.Omega.{arith}
 use lib.ListN.{length, drop, get_or, set, replicate, length-set}
 use lib.Seq.{get_or-set_other, get_or-set_same}
+use Rattle.std.proofs.lemmas.List.{map-set}
 use Rattle.reading.specs.State.{Given, State, Step, define}
 use Rattle.reading.specs.Macros.{run_macro, defined, macro_cmd, end_of}
-use Rattle.decode_state.specs.declared.Core.{Core}
 use Rattle.decode_state.specs.declared.Decoder.{Decoder}
-use Rattle.decode_state.specs.Promises.{whole, Holds, Does}
+use Rattle.decode_state.specs.declared.Extent.{Extent}
+use Rattle.decode_state.specs.Promises.{starts_of, lens_of, whole, view, Holds, Does}
 use Rattle.decode_macros.specs.declared.Command.{Command}
 use Rattle.decode_macros.specs.declared.Command.TheVariants.{Ends}
 use Rattle.decode_macros.specs.Promises.{Defined, commanded}
 use Rattle.decode_macros.proofs.Laws.{defined_fits, defined_bare}
-use Rattle.decode_bodies.specs.Promises.{below, body_at, Inside, Ran, RanStep}
+use Rattle.decode_bodies.specs.Promises.{below, body_at, Inside, RanStep}
 use Rattle.decode_bodies.proofs.Room.{grown_same}
 use Rattle.decode_bodies.proofs.Steps.{Alike, step_as, shift_step}
 use Rattle.decode_bodies.proofs.Commands.{Means}
-use Rattle.decode_outer.specs.declared.Outer.{Outer}
-use Rattle.decode_outer.specs.Promises.{Outside, Executed, OuterStep}
+use Rattle.decode_outer.specs.declared.Reached.{Reached}
+use Rattle.decode_outer.specs.Promises.{Outside, Executed, OuterStep, defining}
 
 -- ---- the macros
 
@@ -66,110 +67,119 @@ unfolding end_of
 inside_start input = record { starts_count = refl; lens_count = refl; within = λ c. omega (arith, zeros_at 128 c); bare = λ c. rw (zeros_at 128 c) }
 
 -- a macro is defined
-abbrev pub defining : Decoder → ℕ → ℕ → ℕ → Decoder
-defining d code place len = whole d.core (set d.starts code place) (set d.lens code len)
+starts_defining : (l : List Extent) (code place len : ℕ) → starts_of (set l code (record { start = place; len = len })) ≡ set (starts_of l) code place
+starts_defining l code place len = map-set (λ (e : Extent). e.start) l code (record { start = place; len = len })
 
-pub outside_define : {input : List ℕ} {d : Decoder} {code len j : ℕ} → Defined code len input j → Outside input 1 d → Outside input 1 (defining d code (j + 3) len)
+lens_defining : (l : List Extent) (code place len : ℕ) → lens_of (set l code (record { start = place; len = len })) ≡ set (lens_of l) code len
+lens_defining l code place len = map-set (λ (e : Extent). e.len) l code (record { start = place; len = len })
+
+pub outside_define : {input : List ℕ} {d : Decoder} {code len j : ℕ} → Defined code len input j → Outside input 1 d
+    → Outside input 1 (defining d code (record { start = j + 3; len = len }))
 outside_define {input = input} {d = d} {code = code} {len = len} {j = j} h o = record {
   short = o.short;
-  inside = inside_define input d.starts d.lens code len j h o.inside;
+  inside = rw (starts_defining d.macros code (j + 3) len, lens_defining d.macros code (j + 3) len) (inside_define input (starts_of d.macros) (lens_of d.macros) code len j h o.inside);
   ready = o.ready;
 }
 
-does_define : (g : Given) (d : Decoder) (t i : List ℕ) (code place len : ℕ) → Does g (define code place len) d t i (defining d code place len) t i
+does_define : (g : Given) (d : Decoder) (t i : List ℕ) (code place len : ℕ)
+    → Does g (define code place len) (view d) t i (view (defining d code (record { start = place; len = len }))) t i
 unfolding define
 does_define g d t i code place len t₀ i₀ s h = record {
-  state = λ j. record { core = (h.state j).core; starts = set (h.state j).starts code place; lens = set (h.state j).lens code len };
+  state =
+      ap₂ (λ (a b : List ℕ). whole d.core a b) (starts_defining d.macros code place len) (lens_defining d.macros code place len)
+      ∙ (λ j. record { core = (h.state j).core; starts = set (h.state j).starts code place; lens = set (h.state j).lens code len });
   out = h.out;
 }
 
 -- ---- from the cycle
 
 module _ {cells input : List ℕ} {d : Decoder} {t i : List ℕ} where
-  pub executed : {f : Given → State → State} {c : Core} {r : Decoder} {t' i' : List ℕ} → r ≡ whole c d.starts d.lens
-      → Ran cells input 1 f d t i (whole c d.starts d.lens) t' i' → Executed cells input f d t i r t' i'
-  executed {f = f} {t' = t'} {i' = i'} q v = record {
-    starts = ap (λ (z : Decoder). z.starts) q;
-    lens = ap (λ (z : Decoder). z.lens) q;
-    ran = subst (λ (z : Decoder). Ran cells input 1 f d t i z t' i') (sym q) v;
-  }
-
-  -- a step after which the macros are as they were
-  pub outer : {j u : ℕ} {f : Given → State → Step} {c : Core} {r : Decoder} {t' i' : List ℕ} → r ≡ whole c d.starts d.lens → Inside input d.starts d.lens
-      → RanStep cells input input j f d t i u (whole c d.starts d.lens) t' i' → OuterStep cells input j f d t i (record { used = u; decoder = r }) t' i'
-  outer {j = j} {u = u} {f = f} {t' = t'} {i' = i'} q h v = record {
-    ran = subst (λ (z : Decoder). RanStep cells input input j f d t i u z t' i') (sym q) v;
-    inside = subst (λ (z : Decoder). Inside input z.starts z.lens) (sym q) h;
-  }
+  -- a step of u bytes
+  pub outer : {j u : ℕ} {f : Given → State → Step} {r : Decoder} {t' i' : List ℕ} → Inside input (starts_of r.macros) (lens_of r.macros)
+      → RanStep cells input input j f (view d) t i u (view r) t' i' → OuterStep cells input j f d t i (record { at = j + u; decoder = r }) t' i'
+  outer {j = j} {u = u} {f = f} {r = r} {t' = t'} {i' = i'} h v =
+      let e : u ≡ j + u - j = omega arith in
+      record { ran = subst (λ (k : ℕ). RanStep cells input input j f (view d) t i k (view r) t' i') e v; inside = h }
 
   -- a step that agrees with f at the states that are held
-  pub outer_as : {j : ℕ} {f f' : Given → State → Step} {r : Outer} {t' i' : List ℕ} → ((g : Given) (s : State) → Alike d s → f' g s ≡ f g s)
+  pub outer_as : {j : ℕ} {f f' : Given → State → Step} {r : Reached} {t' i' : List ℕ} → ((g : Given) (s : State) → Alike (view d) s → f' g s ≡ f g s)
       → OuterStep cells input j f d t i r t' i' → OuterStep cells input j f' d t i r t' i'
   outer_as p v = record { ran = step_as p v.ran; inside = v.inside }
 
   -- one byte more, before a character
-  pub shift_outer : {j : ℕ} {f : Given → State → Step} {r : Outer} {t' i' : List ℕ} → OuterStep cells input (j + 1) f d t i r t' i'
-      → OuterStep cells input j (λ g s. record { used = suc (f g s).used; to = (f g s).to }) d t i (record { used = r.used + 1; decoder = r.decoder }) t' i'
-  shift_outer v = record { ran = shift_step v.ran; inside = v.inside }
+  pub shift_outer : {j : ℕ} {f : Given → State → Step} {r : Reached} {t' i' : List ℕ} → OuterStep cells input (j + 1) f d t i r t' i'
+      → OuterStep cells input j (λ g s. record { used = suc (f g s).used; to = (f g s).to }) d t i r t' i'
+  shift_outer {j = j} {f = f} {r = r} {t' = t'} {i' = i'} v =
+      let e : r.at - (j + 1) + 1 ≡ r.at - j = omega (arith, v.ran.some) in
+      record {
+        ran = subst (λ (k : ℕ). RanStep cells input input j (λ g s. record { used = suc (f g s).used; to = (f g s).to }) (view d) t i k (view r.decoder) t' i') e (shift_step v.ran);
+        inside = v.inside;
+      }
 
 -- ---- MACRO
 
 module _ (cells input : List ℕ) (j : ℕ) (d : Decoder) (t i : List ℕ) where
   -- MACRO 4F
   pub outer_ends : {e : ℕ} (n : ℕ) (cmd : Command) → Means input j n cmd → cmd ≡ Ends → j + 2 ≤ length input → Outside input e d
-      → OuterStep cells input j (λ g. macro_cmd g 4 (below g 4) (drop (j + 1) input) j j) d t i (record { used = 2; decoder = d }) t i
+      → OuterStep cells input j (λ g. macro_cmd g 4 (below g 4) (drop (j + 1) input) j j) d t i (record { at = j + 2; decoder = d }) t i
   unfolding commanded
   outer_ends n cmd m q h o =
       let same : (g : Given) (s : State) → macro_cmd g 4 (below g 4) (drop (j + 1) input) j j s ≡ commanded Ends n g 4 (below g 4) j j s =
       λ g s. m g 4 (below g 4) j j s ∙ ap (λ (z : Command). commanded z n g 4 (below g 4) j j s) q in
-      record {
-        ran = record {
-          does = λ g x y t₀ i₀ s p.
-              inl (subst (λ (z : Step). Holds g t₀ i₀ z.to d t i) (sym (same g s)) p, sym (ap (λ (z : Step). z.used) (same g s)));
-          some = omega arith;
-          most = h;
-          grown = grown_same o.ready 1;
-        };
-        inside = o.inside;
-      }
+      outer o.inside
+      (record {
+        does = λ g x y t₀ i₀ s p.
+            inl (subst (λ (z : Step). Holds g t₀ i₀ z.to (view d) t i) (sym (same g s)) p, sym (ap (λ (z : Step). z.used) (same g s)));
+        some = omega arith;
+        most = h;
+        grown = grown_same o.ready 1;
+      })
 
   -- MACRO 40 and 41
   module _ (code len : ℕ) (h : Defined code len input j) (o : Outside input 1 d) where
+    abbrev defines : Decoder
+    defines = defining d code (record { start = j + 3; len = len })
+
+    at_end : j + (len + 5) ≡ j + len + 5
+    at_end = omega arith
+
     pub outer_defines : (runs : Bool) → runs ≡ false
-        → OuterStep cells input j (λ g. defined g 4 (below g 4) (cond runs 0x41 0x40) code len j j) d t i (record { used = len + 5; decoder = defining d code (j + 3) len }) t i
+        → OuterStep cells input j (λ g. defined g 4 (below g 4) (cond runs 0x41 0x40) code len j j) d t i (record { at = j + len + 5; decoder = defines }) t i
     unfolding defined
     outer_defines true q = absurd (true≢false q)
-    outer_defines false q = record {
-      ran = record {
-        does = λ g x y t₀ i₀ s p. inl (does_define g d t i code (j + 3) len t₀ i₀ s p, refl);
-        some = omega arith;
-        most = omega (arith, h.ended);
-        grown = grown_same o.ready 1;
-      };
-      inside = (outside_define h o).inside;
-    }
+    outer_defines false q =
+        subst (λ (k : ℕ). OuterStep cells input j (λ g. defined g 4 (below g 4) 0x40 code len j j) d t i (record { at = k; decoder = defines }) t i) at_end
+        (outer (outside_define h o).inside
+        (record {
+          does = λ g x y t₀ i₀ s p. inl (does_define g d t i code (j + 3) len t₀ i₀ s p, refl);
+          some = omega arith;
+          most = omega (arith, h.ended);
+          grown = grown_same o.ready 1;
+        }))
 
     pub outer_runs : {r : Decoder} {t' i' : List ℕ} (runs : Bool) → runs ≡ true
-        → Executed cells input (λ g. run_macro g 4 (below g 4) code j) (defining d code (j + 3) len) t i r t' i'
-        → OuterStep cells input j (λ g. defined g 4 (below g 4) (cond runs 0x41 0x40) code len j j) d t i (record { used = len + 5; decoder = r }) t' i'
+        → Executed cells input (λ g. run_macro g 4 (below g 4) code j) defines t i r t' i'
+        → OuterStep cells input j (λ g. defined g 4 (below g 4) (cond runs 0x41 0x40) code len j j) d t i (record { at = j + len + 5; decoder = r }) t' i'
     unfolding defined
     outer_runs false q v = absurd (false≢true q)
-    outer_runs true q v = record {
-      ran = record {
-        does = λ g x y t₀ i₀ s p.
-            ⊎_elim (λ q. inl (q, refl)) (λ q. inr q) (v.ran.does g x y t₀ i₀ (define code (j + 3) len s) (does_define g d t i code (j + 3) len t₀ i₀ s p));
-        some = omega arith;
-        most = omega (arith, h.ended);
-        grown = v.ran.grown;
-      };
-      inside = rw (v.starts, v.lens) (outside_define h o).inside;
-    }
+    outer_runs {r} {t'} {i'} true q v =
+        let inside : Inside input (starts_of r.macros) (lens_of r.macros) = rw v.macros (outside_define h o).inside in
+        subst (λ (k : ℕ). OuterStep cells input j (λ g. defined g 4 (below g 4) 0x41 code len j j) d t i (record { at = k; decoder = r }) t' i') at_end
+        (outer inside
+        (record {
+          does = λ g x y t₀ i₀ s p.
+              ⊎_elim (λ q. inl (q, refl)) (λ q. inr q) (v.ran.does g x y t₀ i₀ (define code (j + 3) len s) (does_define g d t i code (j + 3) len t₀ i₀ s p));
+          some = omega arith;
+          most = omega (arith, h.ended);
+          grown = v.ran.grown;
+        }))
 
-  -- what a step gives and what a macro is run from, where the decoder is another's result
+  -- what a step gives, where the decoder is another's result
   pub outer_with : {f : Given → State → Step} {u : ℕ} {e r : Decoder} {t' i' : List ℕ} → r ≡ e
-      → OuterStep cells input j f d t i (record { used = u; decoder = e }) t' i' → OuterStep cells input j f d t i (record { used = u; decoder = r }) t' i'
-  outer_with {f = f} {u = u} {t' = t'} {i' = i'} q v = subst (λ (z : Decoder). OuterStep cells input j f d t i (record { used = u; decoder = z }) t' i') (sym q) v
+      → OuterStep cells input j f d t i (record { at = u; decoder = e }) t' i' → OuterStep cells input j f d t i (record { at = u; decoder = r }) t' i'
+  outer_with {f = f} {u = u} {t' = t'} {i' = i'} q v = subst (λ (z : Decoder). OuterStep cells input j f d t i (record { at = u; decoder = z }) t' i') (sym q) v
 
+-- what a macro is run from, where the decoder is another's result
 pub executed_from : {cells input : List ℕ} {f : Given → State → State} {d e : Decoder} {t i : List ℕ} {r : Decoder} {t' i' : List ℕ} → d ≡ e
     → Executed cells input f d t i r t' i' → Executed cells input f e t i r t' i'
 executed_from {cells = cells} {input = input} {f = f} {t = t} {i = i} {r = r} {t' = t'} {i' = i'} q v =

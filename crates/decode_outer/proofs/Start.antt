@@ -16,7 +16,7 @@ use Rattle.reading.specs.Steps.{run}
 use Rattle.reading.specs.Between.{until}
 use Rattle.decode_state.specs.declared.Core.{Core}
 use Rattle.decode_state.specs.declared.Decoder.{Decoder}
-use Rattle.decode_state.specs.Promises.{start_of, undefined, Holds, Cut, HoldsOrCut}
+use Rattle.decode_state.specs.Promises.{starts_of, lens_of, start_of, undefined, view, Holds, Cut, HoldsOrCut}
 use Rattle.decode_state.proofs.Begun.{holds_start}
 use Rattle.decode_state.proofs.Steps.{until_all}
 use Rattle.decode_bodies.specs.Promises.{below, Inside}
@@ -29,7 +29,7 @@ use Rattle.decode_outer.proofs.Defining.{inside_start}
 
 -- the steps that the loop went
 pub top_ran : {cells input : List ℕ} {from to : ℕ} {d : Decoder} {t i : List ℕ} {at : ℕ} {d₁ : Decoder} {t₁ i₁ : List ℕ}
-    → Went cells input 4 0 0 input to from d t i at d₁ t₁ i₁ → Inside input d₁.starts d₁.lens
+    → Went cells input 4 0 0 input to from (view d) t i at (view d₁) t₁ i₁ → Inside input (starts_of d₁.macros) (lens_of d₁.macros)
     → TopRan cells input from to d t i (record { at = at; decoder = d₁ }) t₁ i₁
 unfolding below
 top_ran {input = input} {from} {to} {at = at} {d₁} {t₁} {i₁} w inside = record {
@@ -97,8 +97,8 @@ module _ (input : List ℕ) {c : Core} {d : Decoder} (initial width : ℕ) (enou
     unfolding nothing utf8s
     end_start = omega (arith, ap (λ (z : Decoder). z.core.out.end) (sym p))
 
-    begun : (cells t i : List ℕ) → Holds (given cells width input) t i (start initial) d t i
-    begun cells t i = subst (λ (z : Decoder). Holds (given cells width input) t i (start initial) z t i) p (holds_start cells input initial width enough t i)
+    begun : (cells t i : List ℕ) → Holds (given cells width input) t i (start initial) (view d) t i
+    begun cells t i = subst (λ (z : Decoder). Holds (given cells width input) t i (start initial) (view z) t i) p (holds_start cells input initial width enough t i)
 
     module _ {cells t i : List ℕ} {to : ℕ} {r : Reached} {t' i' : List ℕ} (v : TopRan cells input 0 to d t i r t' i') where
       -- after all steps there is room for the release of the marks
@@ -118,7 +118,7 @@ module _ (input : List ℕ) {c : Core} {d : Decoder} (initial width : ℕ) (enou
 
     -- or to the end
     pub ran_start : {cells t i : List ℕ} {r : Reached} {t' i' : List ℕ} → TopRan cells input 0 (length input) d t i r t' i'
-        → HoldsOrCut (given cells width input) t i (run (given cells width input) 4 input 0 0 (start initial)) r.decoder t' i'
+        → HoldsOrCut (given cells width input) t i (run (given cells width input) 4 input 0 0 (start initial)) (view r.decoder) t' i'
     unfolding run
     ran_start {cells} {t} {i} {r} {t'} {i'} v = all (reached_start v)
       where
@@ -128,6 +128,6 @@ module _ (input : List ℕ) {c : Core} {d : Decoder} (initial width : ℕ) (enou
         same : (steps_from 0 (length input) g (start initial)).state ≡ run g 4 input 0 0 (start initial)
         same = until_all g 4 (run g 3) 0 0 (length input) input 0 0 (start initial) (omega arith)
 
-        all : ReachesOrCut g t i (steps_from 0 (length input) g (start initial)) r.at r.decoder t' i' → HoldsOrCut g t i (run g 4 input 0 0 (start initial)) r.decoder t' i'
-        all (inl q) = inl (subst (λ (z : State). Holds g t i z r.decoder t' i') same q.0)
+        all : ReachesOrCut g t i (steps_from 0 (length input) g (start initial)) r.at r.decoder t' i' → HoldsOrCut g t i (run g 4 input 0 0 (start initial)) (view r.decoder) t' i'
+        all (inl q) = inl (subst (λ (z : State). Holds g t i z (view r.decoder) t' i') same q.0)
         all (inr q) = inr (subst (λ (z : State). Cut r.decoder.core z) same q)

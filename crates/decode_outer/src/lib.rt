@@ -1,31 +1,30 @@
-// Steps outside every body. There alone macros are defined, so the decoder's struct with its two
-// arrays goes in and comes back by value here, and is lent to the cycle.
+// Steps outside every body. There alone macros are defined, so the decoder's struct with its
+// array goes in and comes back by value here, and is lent to the cycle.
 #![tactic(auto)]
 
-ghost use Rattle.std.specs.Prelude.{◌≡◌, ℕ, ◌+◌, ◌-◌, ◌≤◌, ◌<◌, length, drop, get_or, set, cond};
+ghost use Rattle.std.specs.Prelude.{◌≡◌, ℕ, ◌+◌, ◌-◌, ◌≤◌, ◌<◌, length, drop, get_or, cond};
 ghost use Rattle.reading.specs.Characters.{graphic};
 ghost use Rattle.reading.specs.Macros.{run_macro, defined, macro_cmd};
-ghost use Rattle.decode_state.specs.Promises.{whole};
 ghost use Rattle.decode_macros.specs.Promises.{Defined};
-ghost use Rattle.decode_steps.specs.Promises.{StopAt};
+ghost use Rattle.decode_steps.specs.Promises.{StopsAt};
 ghost use Rattle.decode_bodies.specs.Promises.{below};
-ghost use Rattle.decode_outer.specs.Promises.{Outside, Executed, OuterStep, step_at, TopRan};
+ghost use Rattle.decode_outer.specs.Promises.{Outside, Executed, OuterStep, defining, step_at, TopRan};
 
 use control::MACRO;
-use decode_bodies::Place;
+use decode_bodies::{Inputs, Place};
 use decode_macros::Command;
-use decode_state::{Core, Decoder};
+use decode_state::{Decoder, Extent};
 use decode_steps::{Source, Stop};
 use issues::IssueKind;
 
-/// After a step outside every body, where macros are defined.
+/// What the steps are over, lent: the cell table and the input.
 #[derive(Clone, Copy)]
-pub struct Outer {
-    pub used: usize,
-    pub decoder: Decoder,
+struct Given<'a> {
+    cells: &'a [u16],
+    input: &'a [u8],
 }
 
-/// After steps outside every body: the byte at which the next one begins, or the end.
+/// After steps outside every body, where macros are defined: the byte at which the next one begins, or the end.
 #[derive(Clone, Copy)]
 pub struct Reached {
     pub at: usize,
@@ -35,89 +34,81 @@ pub struct Reached {
 /// How many bodies may be open at a time.
 const MAX_MACRO_DEPTH: usize = 4;
 
-/// The decoder with its core anew.
-fn with_core(d: Decoder, core: Core) -> Decoder
-    ensures { result ≡ whole core d.starts d.lens }
-{
-    let mut r = d;
-    r.core = core;
-    r
-}
-
 /// The macro of `code` gets a body.
-fn define(d: Decoder, code: usize, start: u16, len: u16) -> Decoder
+fn define(d: Decoder, code: usize, body: Extent) -> Decoder
     requires { code < 128 }
-    ensures { result ≡ whole d.core (set d.starts code start) (set d.lens code len) }
+    ensures { result ≡ defining d code body }
 {
     let mut r = d;
-    r.starts[code] = start;
-    r.lens[code] = len;
+    r.macros[code] = body;
     r
 }
 
 /// A character at the byte i, through a code element that has the macro set.
-fn call(
-    cells: &[u16],
-    input: &[u8],
+fn call<'a>(
+    given: Given<'a>,
     i: usize,
     at: u32,
     d: Decoder,
     text: &mut [u8],
     issues: &mut [u32],
-) -> Outer
-    requires outside { Outside input.now 1 d }
-    requires i_in_bounds { (i < length input.now) × (at < 65535) }
-    ensures { (e : ℕ) → get_or d.core.sets e 0 ≡ 15 →
-        OuterStep cells.now input.now i (λ g. graphic g 4 (below g 4) e (get_or input.now i 0) (drop (i + 1) input.now) at) d
+) -> Reached
+    requires outside { Outside given.input.now 1 d }
+    requires i_in_bounds { (i < length given.input.now) × (at < 65535) }
+    ensures { (e : ℕ) → get_or d.core.sets e 0 ≡ 15 → OuterStep given.entry.cells.now given.entry.input.now i
+        (λ g. graphic g 4 (below g 4) e (get_or given.entry.input.now i 0) (drop (i + 1) given.entry.input.now) at) d
         text.old issues.old result text.new issues.new }
 {
-    let core = d.core;
+    let macros = d.macros;
+    let inputs = Inputs {
+        cells: given.cells,
+        input: given.input,
+        macros: &macros,
+    };
     let p = Place {
         base: 0,
         at,
         left: MAX_MACRO_DEPTH,
     };
-    let r = decode_bodies::graphic(
-        cells, input, input, i, p, core, &d.starts, &d.lens, text, issues,
-    );
-    let after = r.core;
-    Outer {
-        used: r.used,
-        decoder: with_core(d, after),
+    let core = decode_bodies::graphic(inputs, given.input[i], p, d.core, text, issues);
+    Reached {
+        at: i + 1,
+        decoder: Decoder { core, macros },
     }
 }
 
 /// The macro of `code` runs once.
-fn execute(
-    cells: &[u16],
-    input: &[u8],
+fn execute<'a>(
+    given: Given<'a>,
     code: usize,
     at: u32,
     d: Decoder,
     text: &mut [u8],
     issues: &mut [u32],
 ) -> Decoder
-    requires outside { Outside input.now 1 d }
+    requires outside { Outside given.input.now 1 d }
     requires code_bound { (code < 128) × (at < 65535) }
-    ensures { Executed cells.now input.now (λ g. run_macro g 4 (below g 4) code at) d text.old issues.old result
-        text.new issues.new }
+    ensures { Executed given.entry.cells.now given.entry.input.now (λ g. run_macro g 4 (below g 4) code at) d text.old issues.old
+        result text.new issues.new }
 {
-    let core = d.core;
+    let macros = d.macros;
+    let inputs = Inputs {
+        cells: given.cells,
+        input: given.input,
+        macros: &macros,
+    };
     let p = Place {
         base: 0,
         at,
         left: MAX_MACRO_DEPTH,
     };
-    let after = decode_bodies::run_macro(
-        cells, input, code, p, core, &d.starts, &d.lens, text, issues,
-    );
-    with_core(d, after)
+    let core = decode_bodies::run_macro(inputs, code, p, d.core, text, issues);
+    Decoder { core, macros }
 }
 
 /// MACRO 40 or 41 at the byte i, with a body of `len` bytes.
-fn definition(
-    cells: &[u16],
-    input: &[u8],
+fn definition<'a>(
+    given: Given<'a>,
     i: usize,
     code: usize,
     len: usize,
@@ -125,107 +116,90 @@ fn definition(
     d: Decoder,
     text: &mut [u8],
     issues: &mut [u32],
-) -> Outer
-    requires outside { Outside input.now 1 d }
-    requires i_in_bounds { i < length input.now }
-    requires defined { Defined code len input.now i }
-    ensures { OuterStep cells.now input.now i (λ g. defined g 4 (below g 4) (cond runs 0x41 0x40) code len i i) d text.old
-        issues.old result text.new issues.new }
+) -> Reached
+    requires outside { Outside given.input.now 1 d }
+    requires i_in_bounds { i < length given.input.now }
+    requires defined { Defined code len given.input.now i }
+    ensures { OuterStep given.entry.cells.now given.entry.input.now i (λ g. defined g 4 (below g 4) (cond runs 0x41 0x40) code len i i) d
+        text.old issues.old result text.new issues.new }
 {
-    let defined = define(d, code, (i + 3) as u16, len as u16);
+    let body = Extent {
+        start: (i + 3) as u16,
+        len: len as u16,
+    };
+    let defined = define(d, code, body);
     if runs {
-        return Outer {
-            used: len + 5,
-            decoder: execute(cells, input, code, i as u32, defined, text, issues),
+        return Reached {
+            at: i + len + 5,
+            decoder: execute(given, code, i as u32, defined, text, issues),
         };
     }
-    Outer {
-        used: len + 5,
+    Reached {
+        at: i + len + 5,
         decoder: defined,
     }
 }
 
 /// MACRO at the byte i. Table 7-16.
-fn macro_cmd(
-    cells: &[u16],
-    input: &[u8],
+fn macro_cmd<'a>(
+    given: Given<'a>,
     i: usize,
     d: Decoder,
     text: &mut [u8],
     issues: &mut [u32],
-) -> Outer
-    requires outside { Outside input.now 1 d }
-    requires i_in_bounds { i < length input.now }
-    ensures { OuterStep cells.now input.now i (λ g. macro_cmd g 4 (below g 4) (drop (i + 1) input.now) i i) d text.old
+) -> Reached
+    requires outside { Outside given.input.now 1 d }
+    requires i_in_bounds { i < length given.input.now }
+    ensures { OuterStep given.entry.cells.now given.entry.input.now i
+        (λ g. macro_cmd g 4 (below g 4) (drop (i + 1) given.entry.input.now) i i) d text.old
         issues.old result text.new issues.new }
 {
-    let core = d.core;
-    match decode_macros::read_command(input, i) {
+    let macros = d.macros;
+    match decode_macros::read_command(given.input, i) {
         Command::Cut => {
-            let r = decode_reports::truncated(input, i, i as u32, core, issues);
-            let after = r.core;
-            Outer {
-                used: r.used,
-                decoder: with_core(d, after),
+            let r = decode_reports::truncated(given.input, i, i as u32, d.core, issues);
+            let core = r.core;
+            Reached {
+                at: i + r.used,
+                decoder: Decoder { core, macros },
             }
         }
-        Command::Ends => Outer {
-            used: 2,
+        Command::Ends => Reached {
+            at: i + 2,
             decoder: d,
         },
         Command::Malformed => {
-            let after = decode_characters::report(
-                i as u32,
-                IssueKind::MalformedControl(MACRO),
-                core,
-                issues,
-            );
-            Outer {
-                used: 2,
-                decoder: with_core(d, after),
+            let kind = IssueKind::MalformedControl(MACRO);
+            let core = decode_characters::report(i as u32, kind, d.core, issues);
+            Reached {
+                at: i + 2,
+                decoder: Decoder { core, macros },
             }
         }
         Command::Defines { code, len, runs } => {
-            definition(cells, input, i, code, len, runs, d, text, issues)
+            definition(given, i, code, len, runs, d, text, issues)
         }
     }
 }
 
-/// The step at which plain steps stopped; none behind an issue that ends the reading.
-fn step(
-    cells: &[u16],
-    input: &[u8],
+/// The step at which plain steps stopped.
+fn step<'a>(
+    given: Given<'a>,
     i: usize,
     stop: Stop,
     d: Decoder,
     text: &mut [u8],
     issues: &mut [u32],
-) -> Outer
-    requires outside { Outside input.now 1 d }
-    requires i_in_bounds { i < length input.now }
-    requires stop_at { StopAt stop input.now (length input.now) i d.core }
-    ensures { OuterStep cells.now input.now i (step_at input.now i) d text.old issues.old result text.new
-        issues.new }
+) -> Reached
+    requires outside { Outside given.input.now 1 d }
+    requires stops_at { StopsAt stop given.input.now i d.core }
+    ensures { OuterStep given.entry.cells.now given.entry.input.now i (step_at given.entry.input.now i) d text.old issues.old result
+        text.new issues.new }
 {
     match stop {
-        Stop::Macro => macro_cmd(cells, input, i, d, text, issues),
-        Stop::Char(_) => call(cells, input, i, i as u32, d, text, issues),
-        Stop::Shifted(_) => {
-            let r = call(cells, input, i + 1, i as u32, d, text, issues);
-            let next = r.decoder;
-            Outer {
-                used: r.used + 1,
-                decoder: next,
-            }
-        }
-        Stop::Issue => Outer {
-            used: 1,
-            decoder: d,
-        },
-        Stop::End => Outer {
-            used: 1,
-            decoder: d,
-        },
+        Stop::Macro => macro_cmd(given, i, d, text, issues),
+        Stop::Char(_) => call(given, i, i as u32, d, text, issues),
+        Stop::Shifted(_) => call(given, i + 1, i as u32, d, text, issues),
     }
 }
 
@@ -244,33 +218,28 @@ pub fn top(
     requires outside { Outside input.now (length input.now - from) start }
     ensures { TopRan cells.now input.now from to start text.old issues.old result text.new issues.new }
 {
+    let given = Given { cells, input };
     let mut d = start;
     let mut i = from;
     loop {
-        let core = d.core;
         let o = Source {
             base: 0,
             origin: 0,
             to,
         };
-        let f = decode_steps::steps(cells, input, i, o, core, text, issues);
+        let f = decode_steps::steps(cells, input, i, o, d.core, text, issues);
         let after = f.core;
         d.core = after;
         i = f.at;
-        if i >= to {
+        let Some(stop) = f.stop else {
             return Reached { at: i, decoder: d };
-        }
-        let stop = f.stop;
-        let r = step(cells, input, i, stop, d, text, issues);
-        let next = r.decoder;
-        let reached = next.core;
+        };
+        let next = step(given, i, stop, d, text, issues);
+        let reached = next.decoder.core;
         if decode_state::ended(reached.enough, reached.out.issues) {
-            return Reached {
-                at: i,
-                decoder: next,
-            };
+            return next;
         }
-        i += r.used;
-        d = next;
+        i = next.at;
+        d = next.decoder;
     }
 }

@@ -1,12 +1,13 @@
 -- Laws of `sets l i vs`, the list l with vs laid over it from the place i on, as far as they fit. Assumes nothing.
-use Prim.Native.Nat.{ℕ, zero, suc, ◌+◌, ◌-◌, ◌≤◌, ◌<◌}
+use Prim.Native.Nat.{ℕ, zero, suc, ◌+◌, ◌-◌, ◌≤◌, ◌<◌, min}
 use mathlib.Core.Path.{◌≡◌, refl, sym, ap, ◌∙◌}
 use mathlib.Core.List.{List, [], ◌∷◌, ◌++◌, append-nil}
-use native.Mathlib.Nat.{zero-add, not-suc-le-zero, ne_of_gt, ne_of_lt}
+use native.Mathlib.Nat.{zero-add, not-suc-le-zero, ne_of_gt}
 use native.Mathlib.Omega.{arith}
-use lib.ListN.{length, take, drop, get_or, set, length-append, length-take, length-drop, drop_of_length-le}
-use lib.Seq.{sets, length-sets, set_comm, get_or-set_other, get_or-take, drop-cons, take_all, take-append_seam, drop-append_seam}
-use Rattle.lent.proofs.Stores.{sets_append, sets_out}
+use lib.ListN.{length, take, drop, set, length-append, length-drop, drop_of_length-le}
+use native.Mathlib.Decide.{ℕ_discrete}
+use lib.Seq.{sets, length-sets, sets-eq, paste, length-take-le, take-add, set_comm, take_all, take-append_seam, drop-append_seam}
+use Rattle.lent.proofs.Stores.{sets_append, sets_out, sets_cut}
 
 -- b behind what was written
 pub sets_end : (a b l : List ℕ) {t : List ℕ} {n : ℕ} → t ≡ sets l 0 a → n ≡ length a → sets t n b ≡ sets l 0 (a ++ b)
@@ -18,11 +19,6 @@ sets_past a l z w h =
     let cut : (x : List ℕ) → sets l 0 (a ++ x) ≡ sets l 0 a =
     λ x. sets_append a x l 0 ∙ sets_out x (sets l 0 a) (0 + length a) (omega (arith, length-sets l 0 a)) in
     cut z ∙ sym (cut w)
-
--- what stands before is as it was
-pub get_d_sets : (vs l : List ℕ) (i j : ℕ) → j < i → get_or (sets l i vs) j 0 ≡ get_or l j 0
-get_d_sets [] l i j h = refl
-get_d_sets (v ∷ vs) l i j h = get_d_sets vs (set l i v) (suc i) j (omega arith) ∙ get_or-set_other l i j v 0 (ne_of_lt h)
 
 pub set_sets : (vs l : List ℕ) (i j x : ℕ) → j < i → set (sets l i vs) j x ≡ sets (set l j x) i vs
 set_sets [] l i j x h = refl
@@ -102,26 +98,20 @@ moved_part l a b u {t} {p} {ys} {n} {m} {d} en em ed et h ep ey =
     ∙ moved_up q u b in
     rw (drop_of_length-le (drop n t) ld, append-nil ys, tk, yq) (sym (sets_join a l (u ++ b) g))
 
--- ---- moving up, from the last element to the first: those before j are still to be moved
+-- ---- moving up: a copy of what fits, of the first m
 
-abbrev pub shifted : List ℕ → ℕ → ℕ → ℕ → List ℕ
-shifted l m d j = sets l (j + d) (drop j (take m l))
+pub copied_up : (l : List ℕ) {r : List ℕ} {n : ℕ} (m d : ℕ) → d < length l → n ≡ min m (length l - d) → r ≡ paste l d l (n - 0) → r ≡ sets l d (take m l)
+copied_up l {r} {n} m d h e p = cut (ℕ_discrete n m)
+  where
+    many : length (take n l) ≡ n
+    many = length-take-le n l (omega arith)
 
-pub shifted_none : (l : List ℕ) (m d : ℕ) → l ≡ shifted l m d m
-shifted_none l m d = rw (drop_of_length-le (take m l) {i = m} (omega (arith, length-take m l)))
+    all : r ≡ sets l d (take n l)
+    all = p ∙ ap (λ (k : ℕ). paste l d l k) (let e : n - 0 ≡ n = omega arith in e) ∙ sym (sets-eq (take n l) l d (omega (arith, many)) ∙ ap (λ (k : ℕ). take d l ++ take n l ++ drop (d + k) l) many)
 
-pub shifted_more : (l : List ℕ) (m d j : ℕ) → j < m → 1 ≤ d → j + d < length l
-    → set (shifted l m d (suc j)) (j + d) (get_or (shifted l m d (suc j)) j 0) ≡ shifted l m d j
-shifted_more l m d j h k g =
-    let vs = drop (suc j) (take m l) in
-    let e : suc j + d ≡ suc (j + d) = omega arith in
-    let x : get_or (shifted l m d (suc j)) j 0 ≡ get_or (take m l) j 0 = get_d_sets vs l (suc j + d) j (omega arith) ∙ sym (get_or-take m l j 0 h) in
-    let s : set (shifted l m d (suc j)) (j + d) (get_or (take m l) j 0) ≡ sets (set l (j + d) (get_or (take m l) j 0)) (suc j + d) vs = set_sets vs l (suc j + d) (j + d)
-    (get_or (take m l) j 0) (omega arith) in
-    ap (set (shifted l m d (suc j)) (j + d)) x
-    ∙ s
-    ∙ ap (λ (i : ℕ). sets (set l (j + d) (get_or (take m l) j 0)) i vs) e
-    ∙ ap (sets l (j + d)) (sym (drop-cons (take m l) j 0 (omega (arith, length-take m l))))
-
-pub shifted_out : (l : List ℕ) (m d j : ℕ) → length l ≤ j + d → shifted l m d (suc j) ≡ shifted l m d j
-shifted_out l m d j h = sets_out (drop (suc j) (take m l)) l (suc j + d) (omega arith) ∙ sym (sets_out (drop j (take m l)) l (j + d) h)
+    cut : Dec (n ≡ m) → r ≡ sets l d (take m l)
+    cut (yes q) = all ∙ ap (λ (k : ℕ). sets l d (take k l)) q
+    cut (no q) =
+        let k : n + (m - n) ≡ m = omega arith in
+        let b : n ≡ length l - d = omega arith in
+        rw (← k, take-add n (m - n) l) (sets_cut (take n l) (take (m - n) (drop n l)) l r d (omega (arith, many)) all)

@@ -22,6 +22,9 @@ ghost use Rattle.decode_output.specs.Promises.{out_of, counted, Room, Wrote};
 
 use issues::{IssueKind, NUMBERS};
 
+/// A repeat and an offset are 0 for none and not options, since `out_of` gives them as 01's `Output` has them, and a
+/// bookmark's numbers (request 9) do too. The marks are one number: an array with a count would be two fields for one
+/// that each character clears.
 #[derive(Clone, Copy)]
 pub struct Out {
     /// Bytes of the text without the waiting marks.
@@ -55,17 +58,13 @@ pub fn start() -> Out
     }
 }
 
-/// Moves the first m bytes of the part up by d.
+/// Moves the first m bytes of the part up by d, those that still fit.
 fn shift_up(part: &mut [u8], m: usize, d: usize)
-    requires { (m ≤ 0x10000000000) × (1 ≤ d) × (d ≤ 252) }
     ensures { part.new ≡ sets part.old d (take m part.old) }
 {
-    let mut j = m;
-    while j > 0 {
-        j -= 1;
-        if j + d < part.len() {
-            part[j + d] = part[j];
-        }
+    if d < part.len() {
+        let n = m.min(part.len() - d);
+        part.copy_within(..n, d);
     }
 }
 
@@ -75,16 +74,14 @@ fn put_times(part: &mut [u8], c: u32, n: u32)
     ensures { part.new ≡ sets part.old 0 (utf8s (replicate n c)) }
 {
     let mut to = 0;
-    let mut k: u32 = 0;
-    while k < n {
+    for _ in 0..n {
         to += utf8::put(part, to, c);
-        k += 1;
     }
 }
 
 /// The part begins with m bytes of waiting marks: they move up past c, written n times in d bytes.
 fn insert(part: &mut [u8], m: usize, c: u32, n: u32, d: usize)
-    requires { (m ≤ 0x10000000000) × (1 ≤ n) × (n ≤ 63) × (d ≡ length (utf8s (replicate n c))) }
+    requires { (n ≤ 63) × (d ≡ length (utf8s (replicate n c))) }
     ensures { part.new ≡ sets (sets part.old d (take m part.old)) 0 (utf8s (replicate n c)) }
 {
     shift_up(part, m, d);
@@ -113,10 +110,8 @@ fn emit_times(o: Out, c: u32, n: u32, text: &mut [u8]) -> Out
     };
     if len <= text.len() {
         insert(&mut text[len..], end - len, c, n, d);
-        r
-    } else {
-        r
     }
+    r
 }
 
 /// Writes a character as often as the waiting repeat says, then the waiting marks; private-use characters are not counted
@@ -157,10 +152,7 @@ pub fn emit(o: Out, c: u32, text: &mut [u8]) -> Out
 fn times(repeat: u32) -> u32
     ensures { result ≡ times repeat }
 {
-    if repeat == 0 {
-        return 1;
-    }
-    repeat
+    repeat.max(1)
 }
 
 /// Writes a private-use character, and counts each repeat.
@@ -198,9 +190,10 @@ fn pushed(waiting: u64, m: u32) -> u64
     ensures { result ≡ pushed waiting m }
 {
     if waiting < SEVENTEEN_DIGITS {
-        return waiting * 8 + digit(m);
+        waiting * 8 + digit(m)
+    } else {
+        waiting
     }
-    waiting
 }
 
 /// A non-spacing character waits for the character that it combines with. §7.1.1.4.

@@ -18,7 +18,7 @@ use Rattle.reading.specs.Steps.{decode, steps, run}
 use Rattle.reading.specs.Between.{rest}
 use Rattle.decode_state.specs.declared.Core.{Core}
 use Rattle.decode_state.specs.declared.Decoder.{Decoder}
-use Rattle.decode_state.specs.Promises.{start_of, undefined, Holds}
+use Rattle.decode_state.specs.Promises.{start_of, undefined, Whole, view, Holds}
 use Rattle.decode_state.proofs.Begun.{holds_start}
 use Rattle.decode_state.proofs.Steps.{until_all}
 use Rattle.decode_outer.specs.declared.Reached.{Reached}
@@ -46,10 +46,10 @@ module _ (cells input : List ℕ) (from : ℕ) {d : Decoder} {t i : List ℕ} {r
     (top : TopRan cells input from (length input) d t i r t₁ i₁) (flush : output.Wrote 0 1 release r.decoder.core.out t₁ i₁ o t₁ i₂) where
   -- up to the end they are all steps; the reading is not cut, since there are not enough issues
   uncut : (g : Given) → g.input ≡ input → (t₀ i₀ : List ℕ) (s : State) → ReachesOrCut g t₀ i₀ (steps_from from (length input) g s) r.at r.decoder t₁ i₁
-      → Holds g t₀ i₀ (steps g 4 (run g 3) 0 0 (drop from g.input) from 0 s) r.decoder t₁ i₁
+      → Holds g t₀ i₀ (steps g 4 (run g 3) 0 0 (drop from g.input) from 0 s) (view r.decoder) t₁ i₁
   uncut g y t₀ i₀ s (inl h) =
       let e = until_all g 4 (run g 3) 0 0 (length input) (drop from g.input) from 0 s (omega (arith, within, length-drop from g.input, ap length y)) in
-      subst (λ (z : State). Holds g t₀ i₀ z r.decoder t₁ i₁) e h.0
+      subst (λ (z : State). Holds g t₀ i₀ z (view r.decoder) t₁ i₁) e h.0
   uncut g y t₀ i₀ s (inr q) = absurd (omega (arith, top.grown.enough, unbounded, few_issues outside none top, q.ends))
 
   pub read_on : ReadOn cells input from d t i (record { text = o.len; issues = o.issues; charged = r.decoder.core.charged; private_use = o.private_use }) t₁ i₂
@@ -58,7 +58,7 @@ module _ (cells input : List ℕ) (from : ℕ) {d : Decoder} {t i : List ℕ} {r
     counted = λ g x y t₀ i₀ s k.
         let ends : State = steps g 4 (run g 3) 0 0 (drop from g.input) from 0 s in
         let h = uncut g y t₀ i₀ s (top.does g x y t₀ i₀ s k) in
-        let charge : r.decoder.core.charged ≡ ends.charged = ap (λ (x : Decoder). x.core.charged) h.state in
+        let charge : r.decoder.core.charged ≡ ends.charged = ap (λ (x : Whole). x.core.charged) h.state in
         counted (rest g from s) r.decoder.core.charged (release_marks ends.out) charge (flush.does t₀ i₀ ends.out h.out);
     few = omega (arith, flush.grew.issues, few_issues outside none top);
     short = omega (arith, flush.grew.ordered.0, flush.grew.text, top.grown.text, top.grown.within, little, outside.short);
@@ -71,5 +71,5 @@ unfolding decode rest run
 read cells initial width input {t} {i} {c} {d} e q v =
     let g : Given = given cells width input in
     let p : undefined (start_of initial width 0xFFFFFFFF) ≡ d = ap undefined (sym e) ∙ sym q in
-    let begun = subst (λ (x : Decoder). Holds g t i (start initial) x t i) p (holds_start cells input initial width 0xFFFFFFFF t i) in
+    let begun = subst (λ (x : Decoder). Holds g t i (start initial) (view x) t i) p (holds_start cells input initial width 0xFFFFFFFF t i) in
     record { counted = v.counted g refl refl t i (start initial) begun; few = v.few }

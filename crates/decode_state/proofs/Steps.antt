@@ -14,8 +14,7 @@ use Rattle.reading.specs.Macros.{Run}
 use Rattle.reading.specs.Steps.{step, steps, offset}
 use Rattle.reading.specs.Between.{Between, until}
 use Rattle.decode_state.specs.declared.Core.{Core}
-use Rattle.decode_state.specs.declared.Decoder.{Decoder}
-use Rattle.decode_state.specs.Promises.{whole, Holds, Moves, Goes}
+use Rattle.decode_state.specs.Promises.{Whole, whole, Holds, Moves, Goes}
 
 -- what is left of a body, by its first byte
 pub drop_one : (b : List ℕ) (j : ℕ) → j < length b → drop j b ≡ get_or b j 0 ∷ drop (j + 1) b
@@ -69,13 +68,13 @@ module _ (g : Given) (left : ℕ) (R : Run) (base origin : ℕ) where
         ∙ until_all xs (i + 1) (w.used - 1) w.to (omega (arith, h))
     until_all (x ∷ xs) i (suc k) s h = until_all xs (i + 1) k s (omega (arith, h))
 
-  module _ (b : List ℕ) (to j : ℕ) (d : Decoder) (t i : List ℕ) where
+  module _ (b : List ℕ) (to j : ℕ) (d : Whole) (t i : List ℕ) where
     -- no step
     pub goes_none : Goes g left R base origin b to j d t i j d t i
     goes_none t₀ i₀ s h = (s, (h, λ later l. refl))
 
     -- one stretch after another
-    pub goes_on : (j₁ : ℕ) (d₁ : Decoder) (t₁ i₁ : List ℕ) (j₂ : ℕ) (d₂ : Decoder) (t₂ i₂ : List ℕ)
+    pub goes_on : (j₁ : ℕ) (d₁ : Whole) (t₁ i₁ : List ℕ) (j₂ : ℕ) (d₂ : Whole) (t₂ i₂ : List ℕ)
         → Goes g left R base origin b to j d t i j₁ d₁ t₁ i₁ → Goes g left R base origin b to j₁ d₁ t₁ i₁ j₂ d₂ t₂ i₂
         → Goes g left R base origin b to j d t i j₂ d₂ t₂ i₂
     goes_on j₁ d₁ t₁ i₁ j₂ d₂ t₂ i₂ p q t₀ i₀ s h =
@@ -84,12 +83,12 @@ module _ (g : Given) (left : ℕ) (R : Run) (base origin : ℕ) where
         (w.0, (w.1.0, λ later l. w.1.1 later l ∙ v.1.1 later l))
 
     -- steps that begin before a byte begin before a later one
-    pub goes_later : (to' j₁ : ℕ) (d₁ : Decoder) (t₁ i₁ : List ℕ) → to ≤ to' → Goes g left R base origin b to j d t i j₁ d₁ t₁ i₁
+    pub goes_later : (to' j₁ : ℕ) (d₁ : Whole) (t₁ i₁ : List ℕ) → to ≤ to' → Goes g left R base origin b to j d t i j₁ d₁ t₁ i₁
         → Goes g left R base origin b to' j d t i j₁ d₁ t₁ i₁
     goes_later to' j₁ d₁ t₁ i₁ h p t₀ i₀ s k = let v = p t₀ i₀ s k in (v.0, (v.1.0, λ later l. v.1.1 later (omega (arith, h, l))))
 
     -- all of them
-    pub goes_end : (j₁ : ℕ) (d₁ : Decoder) (t₁ i₁ : List ℕ) → to ≤ j₁ → Goes g left R base origin b to j d t i j₁ d₁ t₁ i₁
+    pub goes_end : (j₁ : ℕ) (d₁ : Whole) (t₁ i₁ : List ℕ) → to ≤ j₁ → Goes g left R base origin b to j d t i j₁ d₁ t₁ i₁
         → (t₀ i₀ : List ℕ) (s : State) → Holds g t₀ i₀ s d t i
         → Holds g t₀ i₀ (until g left R base origin to (drop j b) j 0 s).state d₁ t₁ i₁ × (j₁ ≡ (until g left R base origin to (drop j b) j 0 s).at)
     goes_end j₁ d₁ t₁ i₁ h p t₀ i₀ s k =

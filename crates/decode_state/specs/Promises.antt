@@ -1,5 +1,5 @@
 -- How the decoder's struct and the two lent buffers hold a state of the definition, and what a function that takes steps promises.
-use Rattle.std.specs.Prelude.{ℕ, ◌+◌, ◌-◌, ◌≤◌, ◌<◌, ◌≡◌, false, cond, List, [], ◌∷◌, ◌⊎◌, eqb, length, drop, replicate}
+use Rattle.std.specs.Prelude.{ℕ, ◌+◌, ◌-◌, ◌≤◌, ◌<◌, ◌≡◌, false, cond, List, [], ◌∷◌, ◌⊎◌, eqb, length, drop, map, replicate}
 use Rattle.decode_output.specs.declared.Out.{Out}
 use Rattle.decode_output.specs.Output.{nothing}
 use Rattle.decode_output.specs.Promises as output
@@ -8,14 +8,34 @@ use Rattle.reading.specs.Macros.{Run}
 use Rattle.reading.specs.Between.{until}
 use Rattle.decode_state.specs.declared.Core.{Core}
 use Rattle.decode_state.specs.declared.Decoder.{Decoder}
+use Rattle.decode_state.specs.declared.Extent.{Extent}
 use Rattle.decode_state.specs.declared.Stepped.{Stepped}
 
 -- the struct at a state
 abbrev pub core_of : Given → State → ℕ → Out → Core
 core_of g s enough o = record { sets = s.sets; gl = s.gl; gr = s.gr; narrow = s.narrow; annex = g.annex_e; enough = enough; charged = s.charged; out = o }
 
-abbrev pub whole : Core → List ℕ → List ℕ → Decoder
+-- where the macros' bodies start, and how long they are
+abbrev pub starts_of : List Extent → List ℕ
+starts_of macros = map (λ (e : Extent). e.start) macros
+
+abbrev pub lens_of : List Extent → List ℕ
+lens_of macros = map (λ (e : Extent). e.len) macros
+
+-- the struct as 01 has it: by code "128 macro bodies' starts in the input .. and lengths"
+pub record Whole : Type 0 where
+  pub core : Core
+  pub starts : List ℕ
+  pub lens : List ℕ
+
+abbrev pub whole : Core → List ℕ → List ℕ → Whole
 whole c starts lens = record { core = c; starts = starts; lens = lens }
+
+abbrev pub over : Core → List Extent → Whole
+over c macros = whole c (starts_of macros) (lens_of macros)
+
+abbrev pub view : Decoder → Whole
+view d = over d.core d.macros
 
 -- before the first byte, with these options, of a reading that so many issues end
 abbrev pub start_of : ℕ → ℕ → ℕ → Core
@@ -25,15 +45,15 @@ start_of initial width enough =
 
 -- no macro is defined
 abbrev pub undefined : Core → Decoder
-undefined c = whole c (replicate 128 0) (replicate 128 0)
+undefined c = record { core = c; macros = replicate 128 (record { start = 0; len = 0 }) }
 
 -- d and the buffers t and i hold the state s, over buffers that were t₀ and i₀
-pub record Holds (g : Given) (t₀ i₀ : List ℕ) (s : State) (d : Decoder) (t i : List ℕ) : Type 0 where
+pub record Holds (g : Given) (t₀ i₀ : List ℕ) (s : State) (d : Whole) (t i : List ℕ) : Type 0 where
   pub state : d ≡ whole (core_of g s d.core.enough d.core.out) s.starts s.lens
   pub out : output.Holds t₀ i₀ s.out d.core.out t i
 
 -- from d, t, i to d', t', i' as f goes
-abbrev pub Does : Given → (State → State) → Decoder → List ℕ → List ℕ → Decoder → List ℕ → List ℕ → Type 0
+abbrev pub Does : Given → (State → State) → Whole → List ℕ → List ℕ → Whole → List ℕ → List ℕ → Type 0
 Does g f d t i d' t' i' = (t₀ i₀ : List ℕ) (s : State) → Holds g t₀ i₀ s d t i → Holds g t₀ i₀ (f s) d' t' i'
 
 -- a step of u bytes, whatever the macros
@@ -71,7 +91,7 @@ pub record TookOver (cells : List ℕ) (b : List ℕ) (i : ℕ) (f : Given → S
 
 -- By steps that begin before the byte `to` of b, from its byte j and the state that d holds to its byte j' and the state that d' holds: stepping on from
 -- there, up to that byte or a later one, is stepping on from here.
-abbrev pub Goes : Given → ℕ → Run → ℕ → ℕ → List ℕ → ℕ → ℕ → Decoder → List ℕ → List ℕ → ℕ → Decoder → List ℕ → List ℕ → Type 0
+abbrev pub Goes : Given → ℕ → Run → ℕ → ℕ → List ℕ → ℕ → ℕ → Whole → List ℕ → List ℕ → ℕ → Whole → List ℕ → List ℕ → Type 0
 Goes g left R base origin b to j d t i j' d' t' i' = (t₀ i₀ : List ℕ) (s : State) → Holds g t₀ i₀ s d t i
     → (s' : State) × (Holds g t₀ i₀ s' d' t' i'
     × ((later : ℕ) → to ≤ later → until g left R base origin later (drop j' b) j' 0 s' ≡ until g left R base origin later (drop j b) j 0 s))
@@ -95,13 +115,13 @@ pub record Cut (c : Core) (s : State) : Type 0 where
   pub has : c.enough ≤ length s.out.issues
 
 -- d and the buffers hold the state s, or the reading was cut before it
-abbrev pub HoldsOrCut : Given → List ℕ → List ℕ → State → Decoder → List ℕ → List ℕ → Type 0
+abbrev pub HoldsOrCut : Given → List ℕ → List ℕ → State → Whole → List ℕ → List ℕ → Type 0
 HoldsOrCut g t₀ i₀ s d t i = Holds g t₀ i₀ s d t i ⊎ Cut d.core s
 
 -- from d, t, i to d', t', i' as f goes, or cut
-abbrev pub DoesOrCut : Given → (State → State) → Decoder → List ℕ → List ℕ → Decoder → List ℕ → List ℕ → Type 0
+abbrev pub DoesOrCut : Given → (State → State) → Whole → List ℕ → List ℕ → Whole → List ℕ → List ℕ → Type 0
 DoesOrCut g f d t i d' t' i' = (t₀ i₀ : List ℕ) (s : State) → Holds g t₀ i₀ s d t i → HoldsOrCut g t₀ i₀ (f s) d' t' i'
 
 -- the same of a step w that takes u bytes
-abbrev pub TakenOrCut : Given → List ℕ → List ℕ → Step → ℕ → Decoder → List ℕ → List ℕ → Type 0
+abbrev pub TakenOrCut : Given → List ℕ → List ℕ → Step → ℕ → Whole → List ℕ → List ℕ → Type 0
 TakenOrCut g t₀ i₀ w u d t i = (Holds g t₀ i₀ w.to d t i × (u ≡ w.used)) ⊎ Cut d.core w.to

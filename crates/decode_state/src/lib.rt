@@ -27,12 +27,19 @@ pub struct Core {
     pub out: Out,
 }
 
-/// The whole state: by macro code, the body's start in the input (0: none) and its length.
+/// Where a macro's body stands in the input. A start of 0 says that there is none, and no option does: 01's state has a
+/// length beside it all the same, which a bookmark hands over (`state_of` of `bookmark_form`).
+#[derive(Clone, Copy, Debug, PartialEq, Eq)]
+pub struct Extent {
+    pub start: u16,
+    pub len: u16,
+}
+
+/// The whole state, with the macros' bodies by code.
 #[derive(Clone, Copy)]
 pub struct Decoder {
     pub core: Core,
-    pub starts: [u16; 128],
-    pub lens: [u16; 128],
+    pub macros: [Extent; 128],
 }
 
 /// After a step: the bytes it took.
@@ -49,7 +56,8 @@ pub struct Far {
     pub core: Core,
 }
 
-/// The set that G3 starts with. Part 3, Table 8-2; Katakana in SI.
+/// The set that G3 starts with. Part 3, Table 8-2; Katakana in SI. The options are 01's numbers here, not enums: `start`
+/// is promised of any (`start_of`), while question 2, which admits 0 and 1 alone, stands in the calls of the C interface.
 fn initial_g3(initial: u32) -> u8
     ensures { result ≡ cond (eqb initial 0) 3 15 }
 {
@@ -81,8 +89,7 @@ pub fn undefined(core: Core) -> Decoder
 {
     Decoder {
         core,
-        starts: [0; 128],
-        lens: [0; 128],
+        macros: [Extent { start: 0, len: 0 }; 128],
     }
 }
 
@@ -90,8 +97,5 @@ pub fn undefined(core: Core) -> Decoder
 pub fn ended(enough: u32, issues: u32) -> bool
     ensures { (result ≡ true → Ends enough issues) × (result ≡ false → Ends enough issues → ⊥) }
 {
-    if issues >= enough {
-        return true;
-    }
-    false
+    issues >= enough
 }

@@ -1,7 +1,10 @@
 -- What holds at the head of the loop of `plain`, and how a turn keeps it.
 use Prim.Native.Nat.{ℕ, ◌+◌, ◌-◌, ◌≤◌, ◌<◌}
 use mathlib.Core.Path.{◌≡◌, refl, ◌∙◌, subst}
+use mathlib.Core.Bool.{true, false}
 use mathlib.Core.List.{List}
+use Rattle.std.specs.Prelude.{Option, Some, None}
+use Rattle.std.specs.Option.{is_some}
 use native.Mathlib.Omega.{arith}
 use lib.ListN.{length, drop, get_or}
 use Rattle.reading.specs.Macros.{Run}
@@ -9,9 +12,8 @@ use Rattle.reading.specs.Steps.{step, offset}
 use Rattle.decode_state.specs.declared.Core.{Core}
 use Rattle.decode_state.specs.declared.Stepped.{Stepped}
 use Rattle.decode_steps.specs.declared.Stop.{Stop}
-use Rattle.decode_steps.specs.declared.Stop.TheVariants.{End, Macro, Char, Shifted, Issue}
 use Rattle.decode_state.specs.Promises.{MayTake, TookOver, Stretch}
-use Rattle.decode_steps.specs.Promises.{Verdict, StopAt}
+use Rattle.decode_steps.specs.Promises.{Passes, Verdict, StopAt}
 use Rattle.decode_steps.proofs.Stretches.{good_after, stretch_start, stretch_on, stretch_step}
 
 -- the stretch so far, and buffers as long as they were
@@ -54,17 +56,11 @@ good_next h k = record {
 }
 
 -- what stops the steps, where something does
-pub stop_at : (r : Stop) (b : List ℕ) (to i : ℕ) (c : Core) → (r ≡ End → ⊥) → Verdict r b i c → StopAt r b to i c
-stop_at End b to i c h v = absurd (h refl)
-stop_at Macro b to i c h v = v
-stop_at (Char e) b to i c h v = v
-stop_at (Shifted e) b to i c h v = v
-stop_at Issue b to i c h v = v
+pub stop_at : (r : Option Stop) (b : List ℕ) (to i : ℕ) (c : Core) → is_some r ≡ true → i < to → Verdict r b i c → StopAt r b to i c
+stop_at None b to i c h l v = absurd (cc)
+stop_at (Some stop) b to i c h l v = (l, v)
 
--- before the byte up to which they are taken something else stops them, and so before any other
-pub stop_before : (r : Stop) (b : List ℕ) (to to' i : ℕ) (c : Core) → i < to → StopAt r b to i c → StopAt r b to' i c
-stop_before End b to to' i c h v = absurd (omega (arith, h, v))
-stop_before Macro b to to' i c h v = v
-stop_before (Char e) b to to' i c h v = v
-stop_before (Shifted e) b to to' i c h v = v
-stop_before Issue b to to' i c h v = v
+-- and where nothing does
+pub passes_at : (r : Option Stop) (b : List ℕ) (i : ℕ) (c : Core) → is_some r ≡ false → Verdict r b i c → Passes b i c
+passes_at None b i c h v = v
+passes_at (Some stop) b i c h v = absurd (cc)

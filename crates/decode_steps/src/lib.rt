@@ -15,27 +15,24 @@ use control::{APR, MACRO, SP, SS2, SS3};
 use decode_graphic::At;
 use decode_state::{Core, Stepped};
 
-/// Where a run of steps that concern no macro stops. The specs speak of the code elements; without
+/// What stops a run of steps that concern no macro. The specs speak of the code elements; without
 /// the two numbers the steps cost some four instructions more.
-#[derive(Clone, Copy)]
+#[derive(Clone, Copy, Debug, PartialEq, Eq)]
 pub enum Stop {
-    /// Nowhere before the byte up to which they are taken.
-    End,
     /// At MACRO.
     Macro,
     /// At a character of the macro set, in this code element.
     Char(usize),
     /// At a single shift with a character of the macro set behind it, in this code element.
     Shifted(usize),
-    /// Behind an issue that ends the reading.
-    Issue,
 }
 
-/// After such a run.
+/// After such a run. Nothing stops it where it comes to the byte up to which steps are taken, or to an issue that ends the
+/// reading.
 #[derive(Clone, Copy)]
 pub struct Stretched {
     pub at: usize,
-    pub stop: Stop,
+    pub stop: Option<Stop>,
     pub core: Core,
 }
 
@@ -63,38 +60,38 @@ fn offset(origin: u32, i: usize) -> u32
 
 /// What stops plain steps at a single shift: the macro set in its element e, and a character behind
 /// it.
-fn stop_shift(b: &[u8], i: usize, s: Core, e: usize) -> Stop
+fn stop_shift(b: &[u8], i: usize, s: Core, e: usize) -> Option<Stop>
     requires { (i < length b.now) × (e < 4) × ShiftOf (get_or b.now i 0) e }
     ensures { Verdict result b.now i s }
 {
     let sets = s.sets;
     if sets[e] != MACRO_SET {
-        return Stop::End;
+        return None;
     }
     if i + 1 >= b.len() {
-        return Stop::End;
+        return None;
     }
     if decode_codes::is_graphic(b[i + 1]) {
-        Stop::Shifted(e)
+        Some(Stop::Shifted(e))
     } else {
-        Stop::End
+        None
     }
 }
 
 /// What stops plain steps at a character of the code element e: the macro set there.
-fn stop_char(x: u8, s: Core, e: usize) -> Stop
+fn stop_char(x: u8, s: Core, e: usize) -> Option<Stop>
     requires { CharOf x e s }
     ensures { (b : List ℕ) (i : ℕ) → i < length b → get_or b i 0 ≡ x → Verdict result b i s }
 {
     let sets = s.sets;
     if sets[e] != MACRO_SET {
-        return Stop::End;
+        return None;
     }
-    Stop::Char(e)
+    Some(Stop::Char(e))
 }
 
-/// What stops a run of plain steps at the byte i; End where nothing does.
-fn stop_at(b: &[u8], i: usize, s: Core) -> Stop
+/// What stops a run of plain steps at the byte i.
+fn stop_at(b: &[u8], i: usize, s: Core) -> Option<Stop>
     requires { (i < length b.now) × (s.gl < 4) × (s.gr < 4) }
     ensures { Verdict result b.now i s }
 {
@@ -104,8 +101,8 @@ fn stop_at(b: &[u8], i: usize, s: Core) -> Stop
         0xA1..=0xFE => stop_char(x, s, s.gr as usize),
         SS2 => stop_shift(b, i, s, 2),
         SS3 => stop_shift(b, i, s, 3),
-        MACRO => Stop::Macro,
-        _ => Stop::End,
+        MACRO => Some(Stop::Macro),
+        _ => None,
     }
 }
 
@@ -210,18 +207,18 @@ pub fn steps(
         if i >= o.to {
             return Stretched {
                 at: i,
-                stop: Stop::End,
+                stop: None,
                 core: s,
             };
         }
         let stop = stop_at(b, i, s);
-        let Stop::End = stop else {
+        if stop.is_some() {
             return Stretched {
                 at: i,
                 stop,
                 core: s,
             };
-        };
+        }
         let at = offset(o.origin, i);
         let r = simple(cells, b, At { i, at }, o.base + i as u32, s, text, issues);
         s = r.core;
@@ -229,7 +226,7 @@ pub fn steps(
         if decode_state::ended(s.enough, s.out.issues) {
             return Stretched {
                 at: i,
-                stop: Stop::Issue,
+                stop: None,
                 core: s,
             };
         }
@@ -253,17 +250,17 @@ pub fn plain(
     if from >= o.to {
         return Stretched {
             at: from,
-            stop: Stop::End,
+            stop: None,
             core,
         };
     }
     let stop = stop_at(b, from, core);
-    let Stop::End = stop else {
+    if stop.is_some() {
         return Stretched {
             at: from,
             stop,
             core,
         };
-    };
+    }
     steps(cells, b, from, o, core, text, issues)
 }

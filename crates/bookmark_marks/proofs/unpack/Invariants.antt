@@ -2,8 +2,5 @@
 use Rattle.bookmark_marks.proofs.Unpacking.{Taken}
 use Rattle.bookmark_marks.proofs.unpack.Given as goal
 
-abbrev pub invariant-loop-n : goal.invariant-loop-n
-invariant-loop-n l = Taken l.waiting l.marks l.w l.n
-
-abbrev pub decreases-loop-n : goal.decreases-loop-n
-decreases-loop-n l = l.n
+abbrev pub invariant-loop-k : goal.invariant-loop-k
+invariant-loop-k l = Taken l.waiting l.marks l.w l.k

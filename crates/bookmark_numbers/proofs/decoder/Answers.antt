@@ -35,8 +35,8 @@ pub overflow_cast-core-2 : goal.overflow_cast-core-2
 overflow_cast-core-2 c =
     omega (arith, (settings_known c.args.l.now (resumable_known c.args.input.now c.args.l.now c.requires.l_value).0).5)
 
-pub read_bodies-bodies-requires : goal.read_bodies-bodies-requires
-read_bodies-bodies-requires c =
+pub read_bodies-macros-requires : goal.read_bodies-macros-requires
+read_bodies-macros-requires c =
     let l = c.args.l.now in
     let input = c.args.input.now in
     let bodies = bodies_known input l (resumable_known input l c.requires.l_value).3 in
@@ -46,4 +46,4 @@ pub returns : goal.returns
 returns c =
     let w = c.restore-out.ensures.len_value in
     restored c.args.input.now c.args.l.now c.requires.input_len_bound.0 c.requires.input_len_bound.1 c.requires.l_value c.args.width c.restore-out.ensures.by_index
-    (record { len = w.0; end = w.1; issues = w.2; private_use = w.3; repeat = w.4 }) c.read_bodies-bodies.ensures.starts c.read_bodies-bodies.ensures.lens
+    (record { len = w.0; end = w.1; issues = w.2; private_use = w.3; repeat = w.4 }) c.read_bodies-macros.ensures.starts c.read_bodies-macros.ensures.lens

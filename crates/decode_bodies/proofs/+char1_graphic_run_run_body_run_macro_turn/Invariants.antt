@@ -1,7 +1,7 @@
 -- What falls at each call: how many bodies may still be opened, then the rank of the function in a round of calls; and how far `run` has come.
 use Prim.Native.Nat.{◌*◌, ◌+◌, ◌-◌}
 use lib.ListN.{length}
-use Rattle.decode_state.specs.Promises.{whole}
+use Rattle.decode_state.specs.Promises.{over}
 use Rattle.decode_bodies.proofs.Along.{Along}
 use Rattle.decode_bodies.proofs.+char1_graphic_run_run_body_run_macro_turn.Given as goal
 
@@ -25,9 +25,10 @@ abbrev pub decreases-turn : goal.decreases-turn
 decreases-turn l = 6 * l.p.left + 4
 
 -- from the start of the body to its byte i
-abbrev pub invariant-run-loop-i : goal.invariant-run-loop-i
-invariant-run-loop-i l =
-    Along l.cells l.input l.p.left l.p.base (l.p.at + 1) l.b (length l.b) 0 (whole l.initial.s l.starts l.lens) l.initial.text l.initial.issues l.i (whole l.s l.starts l.lens) l.text l.issues
+abbrev pub invariant-run-loop-stop : goal.invariant-run-loop-stop
+invariant-run-loop-stop l =
+    Along l.inputs.cells.now l.inputs.input.now l.p.left l.p.base (l.p.at + 1) l.b (length l.b) 0 (over l.initial.s l.inputs.macros.now) l.initial.text l.initial.issues l.i
+    (over l.s l.inputs.macros.now) l.text l.issues
 
-abbrev pub decreases-run-loop-i : goal.decreases-run-loop-i
-decreases-run-loop-i l = length l.b - l.i
+abbrev pub decreases-run-loop-stop : goal.decreases-run-loop-stop
+decreases-run-loop-stop l = length l.b - l.i

@@ -9,7 +9,7 @@ use Rattle.decode_outer.proofs.definition.Goals as goal
 pub execute-requires : goal.execute-requires
 execute-requires c =
     let outside = c.requires.outside in
-    let defined = c.requires.defined in record { outside = subst (λ (z : Decoder). Outside c.args.input.now 1 z) (sym c.define-defined.ensures) (outside_define defined outside); code_bound = (defined.small, omega (arith, outside.short, c.requires.i_in_bounds)) }
+    let defined = c.requires.defined in record { outside = subst (λ (z : Decoder). Outside c.args.given.input.now 1 z) (sym c.define-defined.ensures) (outside_define defined outside); code_bound = (defined.small, omega (arith, outside.short, c.requires.i_in_bounds)) }
 
 pub returns-then-runs : goal.returns-then-runs
 returns-then-runs c =

@@ -1,7 +1,6 @@
 -- `execute`: the macro runs in the cycle, and the macros stay.
-use Rattle.decode_outer.proofs.Defining.{executed}
+use mathlib.Core.Path.{refl}
 use Rattle.decode_outer.proofs.execute.Goals as goal
 
 pub returns : goal.returns
-returns c =
-    executed c.with_core.ensures c.run_macro-after.ensures
+returns c = record { macros = refl; ran = c.run_macro-core.ensures }

@@ -2,6 +2,7 @@
 use Prim.Native.Nat.{◌-◌}
 use mathlib.Core.Path.{◌∙◌, ap}
 use lib.ListN.{length}
+use native.Mathlib.Omega.{arith}
 use Rattle.decode_macros.specs.declared.Command.{Command}
 use Rattle.decode_macros.specs.Promises.{commanded}
 use Rattle.decode_bodies.specs.Promises.{below}
@@ -17,9 +18,9 @@ definition-requires c =
 pub returns-in-Cut : goal.returns-in-Cut
 returns-in-Cut c =
     let outside = c.requires.outside in
-    outer c.with_core.ensures outside.inside
+    outer outside.inside
     (took_ran (λ g. below g 4) outside.ready.within
-    (λ R. took_cut _ _ _ _ c.read_command.ensures.means _ _ _ _ _ c.in-Cut.is c.truncated-r.ensures 4 R c.args.i c.args.cells.now _))
+    (λ R. took_cut _ _ _ _ c.read_command.ensures.means _ _ _ _ _ c.in-Cut.is c.truncated-r.ensures 4 R c.args.i c.args.given.cells.now _))
 
 pub returns-in-Ends : goal.returns-in-Ends
 returns-in-Ends c =
@@ -30,9 +31,9 @@ pub returns-in-Malformed : goal.returns-in-Malformed
 returns-in-Malformed c =
     let outside = c.requires.outside in
     let read = c.read_command.ensures in
-    outer c.with_core-in-Malformed.ensures outside.inside
+    outer outside.inside
     (took_ran (λ g. below g 4) outside.ready.within
-    (λ R. took_malformed _ _ _ _ read.means _ _ _ _ _ c.in-Malformed.is (within_malformed _ _ read.within c.in-Malformed.is) c.report-after.ensures 4 R c.args.i c.args.cells.now _))
+    (λ R. took_malformed _ _ _ _ read.means _ _ _ _ _ c.in-Malformed.is (within_malformed _ _ read.within c.in-Malformed.is) c.report-core.ensures 4 R c.args.i c.args.given.cells.now _))
 
 pub returns-in-Defines : goal.returns-in-Defines
 unfolding commanded
@@ -41,5 +42,8 @@ returns-in-Defines c =
     outer_as
     (λ g s k.
     c.read_command.ensures.means g 4 (below g 4) a.i a.i s
-    ∙ ap (λ (z : Command). commanded z (length a.input.now - a.i) g 4 (below g 4) a.i a.i s) c.in-Defines.is)
+    ∙ ap (λ (z : Command). commanded z (length a.given.input.now - a.i) g 4 (below g 4) a.i a.i s) c.in-Defines.is)
     c.definition.ensures
+
+pub overflow_add-result : goal.overflow_add-result
+overflow_add-result c = omega (arith, (c.truncated-r.ensures c.args.text.now).within, c.requires.outside.short)

@@ -19,7 +19,7 @@ overflow_add-to c =
 pub insert-requires : goal.insert-requires
 insert-requires c =
     let a = c.args in
-    (omega arith, omega arith, omega arith, width_times a.n a.c c.width.ensures)
+    (omega arith, width_times a.n a.c c.width.ensures)
 
 pub returns-then-len-text : goal.returns-then-len-text
 returns-then-len-text c =

@@ -2,19 +2,10 @@
 use mathlib.Core.Path.{ap, ◌∙◌}
 use mathlib.Core.List.{List}
 use Prim.Native.Nat.{ℕ}
-use native.Mathlib.Omega.{arith}
 use lib.ListN.{replicate}
 use lib.Seq.{sets}
 use Rattle.utf8.specs.Utf8.{utf8s}
-use Rattle.decode_output.proofs.Counts.{times_most, times_least}
 use Rattle.decode_output.proofs.insert.Goals as goal
-
-pub shift_up-requires : goal.shift_up-requires
-shift_up-requires c =
-    let a = c.args in
-    let least = times_least a.n a.c in
-    let most = times_most a.n a.c in
-    (omega arith, omega arith, omega arith)
 
 pub returns : goal.returns
 returns c =

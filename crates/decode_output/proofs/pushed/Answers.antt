@@ -8,6 +8,6 @@ pub returns-then-waiting-lt-SEVENTEEN_DIGITS : goal.returns-then-waiting-lt-SEVE
 unfolding pushed
 returns-then-waiting-lt-SEVENTEEN_DIGITS c = rw (c.digit.ensures.0, lt-ltb _ _ c.if-waiting-lt-SEVENTEEN_DIGITS.true) refl
 
-pub returns : goal.returns
+pub returns-else-waiting-lt-SEVENTEEN_DIGITS : goal.returns-else-waiting-lt-SEVENTEEN_DIGITS
 unfolding pushed
-returns c = rw (le-ltb _ _ c.if-waiting-lt-SEVENTEEN_DIGITS.false) refl
+returns-else-waiting-lt-SEVENTEEN_DIGITS c = rw (le-ltb _ _ c.if-waiting-lt-SEVENTEEN_DIGITS.false) refl

@@ -1,12 +1,14 @@
 -- `decode_output::times` meets its contract. Assumes nothing.
-use mathlib.Core.Path.{sym, ap}
+use Prim.Native.Nat.{ℕ, zero, suc, max}
+use mathlib.Core.Path.{◌≡◌, refl, ◌∙◌}
+use native.Mathlib.Omega.{arith}
 use Rattle.decode_output.specs.Output.{times}
-use Rattle.decode_output.proofs.Held.{times_some}
 use Rattle.decode_output.proofs.times.Goals as goal
 
-pub returns-then-repeat-eq0 : goal.returns-then-repeat-eq0
+at_least_one : (n : ℕ) → max n 1 ≡ times n
 unfolding times
-returns-then-repeat-eq0 c = ap times (sym c.if-repeat-eq0.true)
+at_least_one zero = refl
+at_least_one (suc n) = omega arith
 
 pub returns : goal.returns
-returns c = times_some c.args.repeat c.if-repeat-eq0.false
+returns c = c.max.ensures ∙ at_least_one c.args.repeat

@@ -1,12 +1,9 @@
 -- `steps` meets its contract. The loop's invariant: the steps so far are a stretch from `from` to i, and the buffers are as long as they were.
 -- The measure is what is left of the body.
-use mathlib.Core.Path.{◌≡◌, ◌∙◌, subst}
-use mathlib.Core.Logic.{⊎_elim}
+use mathlib.Core.Path.{sym, ◌∙◌}
+use mathlib.Core.Logic.{inl, inr}
 use native.Mathlib.Omega.{arith}
-use Rattle.decode_steps.specs.declared.Stop.{Stop}
-use Rattle.decode_steps.specs.declared.Stop.TheVariants.{End}
-use Rattle.decode_steps.specs.Promises.{Verdict}
-use Rattle.decode_steps.proofs.Way.{way_start, way_good, way_on, way_step, good_next, stop_at}
+use Rattle.decode_steps.proofs.Way.{way_start, way_good, way_on, way_step, good_next, stop_at, passes_at}
 use Rattle.decode_steps.proofs.steps.Goals as goal
 
 pub loop-i-init : goal.loop-i-init
@@ -20,18 +17,17 @@ letters-f-requires c =
 pub returns-then-i-o : goal.returns-then-i-o
 returns-then-i-o c =
     let w = way_on c.loop-i.invariant (c.letters-f.ensures c.args.o.base c.args.o.origin c.loop-i.issues) c.letters-f.auto.text in
-    record { stretch = w.stretch; stop = c.if-i-o.true }
+    record { stretch = w.stretch; stop = inl c.if-i-o.true }
 
 pub stop_at-stop-requires : goal.stop_at-stop-requires
 stop_at-stop-requires c =
     let v = (c.letters-f.ensures c.args.o.base c.args.o.origin c.loop-i.issues).kept in
     (omega (arith, c.if-i-o.false, c.requires.from_in_bounds.3), v.gl, v.gr)
 
-pub returns-in_default : goal.returns-in_default
-returns-in_default c =
+pub returns-then-is_some : goal.returns-then-is_some
+returns-then-is_some c =
     let w = way_on c.loop-i.invariant (c.letters-f.ensures c.args.o.base c.args.o.origin c.loop-i.issues) c.letters-f.auto.text in
-    let n : c.stop_at-stop.result ≡ End → ⊥ = c.in_default.not-End in
-    let stop = stop_at c.stop_at-stop.result c.args.b.now c.args.o.to c.letters-f.result.at c.letters-f.result.core n
+    let stop = stop_at c.stop_at-stop.result c.args.b.now c.args.o.to c.letters-f.result.at c.letters-f.result.core (sym c.is_some.ensures ∙ c.if-is_some.true) c.if-i-o.false
     c.stop_at-stop.ensures in
     record { stretch = w.stretch; stop = stop }
 
@@ -51,8 +47,7 @@ pub simple-r-requires : goal.simple-r-requires
 simple-r-requires c =
     let w = way_on c.loop-i.invariant (c.letters-f.ensures c.args.o.base c.args.o.origin c.loop-i.issues) c.letters-f.auto.text in
     let far = c.letters-f.result in
-    let v =
-    subst (λ (r : Stop). Verdict r c.args.b.now far.at far.core) c.in-End.is c.stop_at-stop.ensures in
+    let v = passes_at c.stop_at-stop.result c.args.b.now far.at far.core (sym c.is_some.ensures ∙ c.if-is_some.false) c.stop_at-stop.ensures in
     record { i_in_bounds = (omega (arith, c.if-i-o.false, c.requires.from_in_bounds.3), c.requires.from_in_bounds.1); may_take = good_next (way_good w c.requires.may_take) (omega (arith, c.if-i-o.false, c.requires.from_in_bounds.3)); passes = v }
 
 pub overflow_add-i : goal.overflow_add-i
@@ -74,7 +69,7 @@ returns-then-ended c =
     way_step c.simple-r.result c.offset-at.result c.offset-at.ensures c.if-i-o.false (omega (arith, c.if-i-o.false, c.requires.from_in_bounds.3)) w
     c.simple-r.ensures
     c.simple-r.auto.text c.simple-r.auto.issues in
-    record { stretch = on.stretch; stop = c.ended.ensures.0 c.if-ended.true }
+    record { stretch = on.stretch; stop = inr (c.ended.ensures.0 c.if-ended.true) }
 
 pub loop-i-smaller : goal.loop-i-smaller
 loop-i-smaller c =
