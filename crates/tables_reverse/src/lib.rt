@@ -1,4 +1,5 @@
-// Reverse look-ups in the two-byte sets: the first cell in row order that reads as a character.
+// Reverse look-ups in the two-byte sets: the first cell in row order that reads as a character. The loops over rows and cells are
+// left together by a label.
 #![tactic(auto)]
 
 ghost use Rattle.std.specs.Prelude.{◌≡◌, true, false, List, ℕ, ◌≤◌, ◌<◌, drop};
@@ -76,14 +77,16 @@ fn kanji_symbol_reverse(c: u32) -> Option<(u8, u8)>
         return None;
     }
     let scalars = addsym::symbols();
-    for row in 90..95 {
-        for cell in 1..95 {
-            if !tables::in_gap(row, cell) && addsym::symbol_in(&scalars, row, cell) == c {
-                return Some((row, cell));
+    'rows: {
+        for row in 90..95 {
+            for cell in 1..95 {
+                if !tables::in_gap(row, cell) && addsym::symbol_in(&scalars, row, cell) == c {
+                    break 'rows Some((row, cell));
+                }
             }
         }
+        None
     }
-    None
 }
 
 /// The first cell in row order that `kanji` reads as `c`.
@@ -93,17 +96,19 @@ pub fn kanji_reverse(t: &[u16], c: u32) -> Option<(u8, u8)>
     if c == 0 {
         return None;
     }
-    for row in 1..90 {
-        if row_lacks(t, row, c) {
-            continue;
-        }
-        for cell in 1..95 {
-            if tables::kanji_at(t, row, cell) == c {
-                return Some((row, cell));
+    'rows: {
+        for row in 1..90 {
+            if row_lacks(t, row, c) {
+                continue;
+            }
+            for cell in 1..95 {
+                if tables::kanji_at(t, row, cell) == c {
+                    break 'rows Some((row, cell));
+                }
             }
         }
+        kanji_symbol_reverse(c)
     }
-    kanji_symbol_reverse(c)
 }
 
 /// The first cell in row order that `additional_symbols` reads as `c`. Rows 1 to 84 have none.
@@ -120,12 +125,14 @@ pub fn additional_reverse(c: u32) -> Option<(u8, u8)>
     if !among(&scalars, c) {
         return None;
     }
-    for row in 85..95 {
-        for cell in 1..95 {
-            if addsym::symbol_in(&scalars, row, cell) == c {
-                return Some((row, cell));
+    'rows: {
+        for row in 85..95 {
+            for cell in 1..95 {
+                if addsym::symbol_in(&scalars, row, cell) == c {
+                    break 'rows Some((row, cell));
+                }
             }
         }
+        None
     }
-    None
 }

@@ -57,7 +57,7 @@ returns-then-symbol_in-c c =
     found_here p c.loop-row-test.true c.loop-cell-test.true (e ∙ sym s ∙ c.if-symbol_in-c.true)
     ∙ ap place_of (sym (first_char symbol_place c.args.c [] 8836 c.if-c-eq0.false))
 
-pub returns : goal.returns
+pub returns-after-loop-row : goal.returns-after-loop-row
 unfolding additional_reverse
-returns c =
+returns-after-loop-row c =
     found_nowhere c.loop-row.invariant (omega arith) ∙ ap place_of (sym (first_char symbol_place c.args.c [] 8836 c.if-c-eq0.false))

@@ -44,9 +44,9 @@ returns-then-kanji_at-c c =
     found_here p (omega arith) c.loop-cell-test.true (e ∙ sym c.kanji_at.ensures ∙ c.if-kanji_at-c.true)
     ∙ ap place_of (sym (first_char kanji_place c.args.c t 8836 c.if-c-eq0.false))
 
-pub returns : goal.returns
+pub returns-after-loop-row : goal.returns-after-loop-row
 unfolding kanji_reverse
-returns c =
+returns-after-loop-row c =
     let t = c.args.t.now in
     c.kanji_symbol_reverse.ensures t
     ∙ ap place_of (at-90 t c.args.c c.loop-row.row (omega arith) c.loop-row.invariant ∙ sym (first_char kanji_place c.args.c t 8836 c.if-c-eq0.false))

@@ -64,5 +64,5 @@ returns-then-symbol_in-c c t =
     found_here p c.loop-row-test.true c.loop-cell-test.true
     (off-reads c.args.c row cell c.requires (omega arith) (omega arith) p.cell_from (omega arith) t g ∙ sym s ∙ c.if-symbol_in-c.true)
 
-pub returns : goal.returns
-returns c t = found_nowhere (c.loop-row.invariant t) c.loop-row-test.false
+pub returns-after-loop-row : goal.returns-after-loop-row
+returns-after-loop-row c t = found_nowhere (c.loop-row.invariant t) c.loop-row-test.false
