@@ -4,6 +4,7 @@ use mathlib.Core.Path.{◌≡◌, refl, sym, ap, ◌∙◌}
 use mathlib.Core.Bool.{Bool, true, false, cond, ◌&&◌}
 use mathlib.Core.List.{List, [], ◌∷◌}
 use mathlib.Core.Option.{Option, none, some}
+use Rattle.std.specs.Prelude.{Some, None, Option as Answer}
 use native.Mathlib.Omega.{arith}
 use borrow.Author.Tests.{le-leb}
 use mir.Val.{bool_byte}
@@ -19,7 +20,7 @@ use Rattle.decode_state.proofs.Steps.{until_one}
 use Rattle.decode_controls.specs.declared.Effect.{Effect}
 use Rattle.decode_controls.specs.declared.Control.{Control}
 use Rattle.decode_controls.specs.Controls.{step_of, Reads}
-use Rattle.decode_settings.specs.Promises.{with_settings, Settings, Turns, Controls}
+use Rattle.decode_settings.specs.Promises.{with_settings, Settings, Turns, used_of, Takes, Controls}
 
 -- ---- the seven numbers
 
@@ -121,6 +122,32 @@ turns_as {l = l} e t = record { within = t.within; settings = t.settings; left =
 pub turns_read : {f : ℕ → ℕ → State → Step} {b : List ℕ} {i : ℕ} {c : Control} {e : Effect} {l : List ℕ} {u : ℕ} {l' : List ℕ} → Reads f b i c → c.effect ≡ e → (place at : ℕ)
     → Turns (step_of e c.used place at) b i l u l' → Turns (f place at) b i l u l'
 turns_read {c = c} r q place at t = turns_as (λ s. r.says place at s ∙ ap (λ (e : Effect). step_of e c.used place at s) q) t
+
+-- ---- the same of answers
+
+unwrapped : (a b : ℕ) → ◌≡◌ {A = Answer ℕ} (Some a) (Some b) → a ≡ b
+unwrapped a b e = ap used_of e
+
+pub takes_none : {f : State → Step} {b : List ℕ} {i : ℕ} {l : List ℕ} → Settings l → i < length b → Takes f b i l None l
+takes_none h p = record { turns = turns_none h p; some = λ u e. absurd (cc) }
+
+pub takes_some : {f : State → Step} {b : List ℕ} {i : ℕ} {l l' : List ℕ} {n : ℕ} {o : Answer ℕ} → 1 ≤ n → o ≡ Some n → Turns f b i l n l' → Takes f b i l o l'
+takes_some {f} {b} {i} {l} {l'} {n} {o} h e t =
+    record { turns = rw e t; some = λ u q. let r : n ≡ u = unwrapped n u (sym e ∙ q) in omega (arith, h) }
+
+pub takes_as : {f f' : State → Step} {b : List ℕ} {i : ℕ} {l : List ℕ} {o : Answer ℕ} {l' : List ℕ} → ((s : State) → f s ≡ f' s) → Takes f' b i l o l' → Takes f b i l o l'
+takes_as e t = record { turns = turns_as e t.turns; some = t.some }
+
+pub takes_read : {f : ℕ → ℕ → State → Step} {b : List ℕ} {i : ℕ} {c : Control} {e : Effect} {l : List ℕ} {o : Answer ℕ} {l' : List ℕ} → Reads f b i c → c.effect ≡ e → (place at : ℕ)
+    → Takes (step_of e c.used place at) b i l o l' → Takes (f place at) b i l o l'
+takes_read r q place at t = record { turns = turns_read r q place at t.turns; some = t.some }
+
+-- a step that was taken, and one that was left
+pub taken : {f : State → Step} {b : List ℕ} {i : ℕ} {l : List ℕ} {o : Answer ℕ} {l' : List ℕ} (u : ℕ) → o ≡ Some u → Takes f b i l o l' → Turns f b i l u l'
+taken u e t = rw e at t.turns
+
+pub left_out : {f : State → Step} {b : List ℕ} {i : ℕ} {l : List ℕ} {o : Answer ℕ} {l' : List ℕ} → o ≡ None → Takes f b i l o l' → Turns f b i l 0 l'
+left_out e t = rw e at t.turns
 
 -- whether the size is narrow, as a number
 pub byte : (u : Bool) → u ≡ eqb (bool_byte u) 1

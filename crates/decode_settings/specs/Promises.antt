@@ -1,6 +1,6 @@
 -- What is promised of controls that write nothing and report nothing. A reading's settings are seven numbers: the sets in G0 to G3, the code
 -- elements in GL and GR, and 1 where the size is narrow.
-use Rattle.std.specs.Prelude.{ℕ, ◌+◌, ◌≤◌, ◌<◌, ◌≡◌, List, eqb, length, take, drop, get_or}
+use Rattle.std.specs.Prelude.{ℕ, ◌+◌, ◌≤◌, ◌<◌, ◌≡◌, List, eqb, length, take, drop, get_or, Option, Some, None}
 use Rattle.reading.specs.State.{Given, State, Step, took}
 use Rattle.reading.specs.Macros.{Run}
 use Rattle.reading.specs.Between.{until}
@@ -21,6 +21,16 @@ pub record Turns (f : State → Step) (b : List ℕ) (i : ℕ) (l : List ℕ) (u
   pub settings : Settings l'
   pub left : u ≡ 0 → l' ≡ l
   pub does : (u ≡ 0 → ⊥) → (s : State) → f (with_settings l s) ≡ took u (with_settings l' s)
+
+-- how many bytes a step took, 0 where it is left
+abbrev pub used_of : Option ℕ → ℕ
+used_of (Some u) = u
+used_of None = 0
+
+-- the same of an answer: the bytes of a step that is taken, at least one, or none where it is left
+pub record Takes (f : State → Step) (b : List ℕ) (i : ℕ) (l : List ℕ) (o : Option ℕ) (l' : List ℕ) : Type 0 where
+  pub turns : Turns f b i l (used_of o) l'
+  pub some : (u : ℕ) → o ≡ Some u → 1 ≤ u
 
 -- the steps from the byte j of b to the byte j', which begin before the byte `to`, turn the settings l into l'
 pub record Controls (b : List ℕ) (to j : ℕ) (l : List ℕ) (j' : ℕ) (l' : List ℕ) : Type 0 where

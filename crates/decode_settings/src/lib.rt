@@ -1,6 +1,6 @@
 // The steps of controls that write nothing and report nothing, over a reading's settings alone: seven numbers in a lent
 // array, the sets in G0 to G3, the code elements in GL and GR, and 1 where the size is narrow, else 0. Each function
-// takes the step at the byte `b[i]` and answers how many bytes it used, or 0 where it leaves the step to `decode_steps`:
+// takes the step at the byte `b[i]` and answers how many bytes it used, or none where it leaves the step to `decode_steps`:
 // one that is cut, that reports, or that makes a character wait.
 //
 // The codes are told apart here as `decode_controls::read` does: called from two places it would be compiled apart from
@@ -12,13 +12,16 @@ ghost use Rattle.reading.specs.State.{Given, State, Step};
 ghost use Rattle.reading.specs.Macros.{Run};
 ghost use Rattle.reading.specs.Steps.{step};
 ghost use Rattle.decode_controls.specs.Controls.{element_of, Reads};
-ghost use Rattle.decode_settings.specs.Promises.{Settings, Turns, Controls};
+ghost use Rattle.decode_settings.specs.Promises.{Settings, Takes, Controls};
 
 use control::{
     APR, BKF, CDC, COL, CSI, ESC, LS0, LS1, MACRO, MSZ, NSZ, RPC, SP, SS2, SS3, SSZ, SZX, TIME, WHF,
 };
 use decode_controls::{Control, Effect};
 use sets::CharSize;
+
+// One array and no struct: `with_settings`, of which decode_runs's promises speak, is stated of the list of the seven, and an
+// element in GL or GR is an index into its first four.
 
 /// Where the code elements in GL and GR stand among the settings, and the size.
 pub const GL: usize = 4;
@@ -28,40 +31,40 @@ pub const GR: usize = 5;
 pub const NARROW: usize = 6;
 
 /// Sets one number, for a step of `used` bytes.
-fn put(settings: &mut [u8], place: usize, x: u8, used: usize) -> usize
+fn put(settings: &mut [u8], place: usize, x: u8, used: usize) -> Option<usize>
     requires { place < length settings.old }
-    ensures { (result ≡ used) × (settings.new ≡ set settings.old place x) }
+    ensures { (result ≡ Some used) × (settings.new ≡ set settings.old place x) }
 {
     settings[place] = x;
-    used
+    Some(used)
 }
 
 /// What was read takes effect.
-fn apply(c: Control, settings: &mut [u8]) -> usize
+fn apply(c: Control, settings: &mut [u8]) -> Option<usize>
     requires { (element_of c.effect < 4) × Settings settings.old }
-    ensures { (f : ℕ → ℕ → State → Step) (b : List ℕ) (i : ℕ) → Reads f b i c → (place at : ℕ) → Turns (f place at) b i settings.old result settings.new }
+    ensures { (f : ℕ → ℕ → State → Step) (b : List ℕ) (i : ℕ) → Reads f b i c → (place at : ℕ) → Takes (f place at) b i settings.old result settings.new }
 {
     let effect = c.effect;
     match effect {
-        Effect::Nothing => c.used,
+        Effect::Nothing => Some(c.used),
         Effect::Gl(element) => put(settings, GL, element, c.used),
         Effect::Gr(element) => put(settings, GR, element, c.used),
         Effect::Designates { element, set } => put(settings, element as usize, set, c.used),
         Effect::Narrow(narrow) => put(settings, NARROW, narrow as u8, c.used),
-        _ => 0,
+        _ => None,
     }
 }
 
 /// One control. Characters, SP and APR write, single shifts read a character, and RPC makes one wait.
-fn control(b: &[u8], i: usize, settings: &mut [u8]) -> usize
+fn control(b: &[u8], i: usize, settings: &mut [u8]) -> Option<usize>
     requires { (i < length b.now) × Settings settings.old }
-    ensures { (g : Given) (left : ℕ) (R : Run) (place at : ℕ) → Turns (step g left R (get_or b.now i 0) (drop (i + 1) b.now) place at)
+    ensures { (g : Given) (left : ℕ) (R : Run) (place at : ℕ) → Takes (step g left R (get_or b.now i 0) (drop (i + 1) b.now) place at)
         b.now i settings.old result settings.new }
 {
     match b[i] {
-        0x21..=0x7E => 0,
-        0xA1..=0xFE => 0,
-        BKF..=WHF => 1,
+        0x21..=0x7E => None,
+        0xA1..=0xFE => None,
+        BKF..=WHF => Some(1),
         LS0 => apply(decode_controls::invoke(0), settings),
         LS1 => apply(decode_controls::invoke(1), settings),
         ESC => apply(decode_controls::escape(b, i), settings),
@@ -72,7 +75,7 @@ fn control(b: &[u8], i: usize, settings: &mut [u8]) -> usize
         COL | CDC => apply(decode_controls::colour(b, i), settings),
         CSI => apply(decode_controls::csi(b, i), settings),
         TIME => apply(decode_controls::time(b, i), settings),
-        SP | APR | SS2 | SS3 | RPC | MACRO => 0,
+        SP | APR | SS2 | SS3 | RPC | MACRO => None,
         _ => apply(decode_controls::fixed(b, i), settings),
     }
 }
@@ -84,11 +87,10 @@ pub fn controls(b: &[u8], from: usize, to: usize, settings: &mut [u8]) -> usize
 {
     let mut i = from;
     while i < to {
-        let used = control(b, i, settings);
-        if used == 0 {
-            return i;
+        match control(b, i, settings) {
+            Some(used) => i += used,
+            None => return i,
         }
-        i += used;
     }
     i
 }

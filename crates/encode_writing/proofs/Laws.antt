@@ -2,17 +2,16 @@
 use mathlib.Core.Path.{◌≡◌, refl, sym, ap, ◌∙◌}
 use mathlib.Core.Bool.{Bool, true, false, cond, ◌||◌}
 use mathlib.Core.List.{List, [], ◌∷◌}
-use Prim.Native.Nat.{ℕ, zero, suc, ◌+◌, ◌-◌, ◌≤◌, ◌<◌}
+use Prim.Native.Nat.{ℕ, zero, suc, ◌+◌, ◌≤◌, ◌<◌}
 use native.Mathlib.Numerals.{add-one}
 use native.Mathlib.Omega.{arith}
 use lib.Dec.{eqb}
-use lib.ListN.{length, take, get_or, length-append, length-take, replicate, length-replicate}
-use lib.Seq.{take-suc, take-append_seam}
+use lib.ListN.{length, take, get_or, length-take}
+use lib.Seq.{take-suc, take_all}
 use Rattle.control.specs.Codes.{ESC, NSZ}
 use Rattle.lent.specs.Put.{Put}
 use Rattle.lent.proofs.Putting.{put_then, put_as}
-use Rattle.sets.specs.Sets.{HoldsBytes, shift_bytes, designation, sequence, bytes_per_char, is_drcs_form, final_byte}
-use Rattle.sets.specs.declared.Sequence.{Sequence}
+use Rattle.sets.specs.Sets.{shift_bytes, designation, sequence, bytes_per_char, is_drcs_form, final_byte}
 use Rattle.sets.specs.declared.Shift.{Shift}
 use Rattle.sets.specs.declared.Shift.TheVariants.{Ls0, Ls1, Ls2, Ls3, Ls1r, Ls2r, Ls3r, Ss2, Ss3}
 use Rattle.encode_states.specs.Packed.{set_of}
@@ -22,16 +21,11 @@ use Rattle.encode_states.specs.Written.{size_control, invocation, half}
 pub taken_length : (k : ℕ) (l : List ℕ) → length (take k l) ≤ k
 taken_length k l = omega (arith, length-take k l)
 
-pub further : (q : Sequence) {l m n : List ℕ} {i j k r : ℕ} → k < length q.bytes → Put l i (take k q.bytes) m j → Put m j (get_or q.bytes k 0 ∷ []) n r →
-    Put l i (take (k + 1) q.bytes) n r
-further q {k = k} h p s = put_as (ap (λ (z : ℕ). take z q.bytes) (add-one k) ∙ take-suc q.bytes k 0 h) (put_then p s)
+pub further : (q : List ℕ) {l m n : List ℕ} {i j k r : ℕ} → k < length q → Put l i (take k q) m j → Put m j (get_or q k 0 ∷ []) n r → Put l i (take (k + 1) q) n r
+further q {k = k} h p s = put_as (ap (λ (z : ℕ). take z q) (add-one k) ∙ take-suc q k 0 h) (put_then p s)
 
-pub held_length : (q : Sequence) (xs : List ℕ) → length xs ≤ 5 → HoldsBytes q xs → length q.bytes ≡ 5
-held_length q xs l h = omega (arith, ap length h.filled, length-append xs (replicate (5 - length xs) 0), length-replicate {A = ℕ} (5 - length xs) 0)
-
-pub ended : (q : Sequence) {l m : List ℕ} {i j k : ℕ} (xs : List ℕ) → k ≡ q.len → HoldsBytes q xs → Put l i (take k q.bytes) m j → Put l i xs m j
-ended q {k = k} xs e h p =
-    put_as (sym (ap (λ (z : ℕ). take z q.bytes) (e ∙ h.counted) ∙ ap (take (length xs)) h.filled ∙ take-append_seam xs _)) p
+pub ended : (q : List ℕ) {l m : List ℕ} {i j k : ℕ} → length q ≤ k → Put l i (take k q) m j → Put l i q m j
+ended q {k = k} h p = put_as (sym (take_all k q h)) p
 
 -- how long they are
 pub size_length : (z : ℕ) → length (size_control z) ≤ 1

@@ -1,16 +1,17 @@
-// The bytes of a character, written as the search chose: encode.rs, what `push` is given.
+// The bytes of a character, written as the search chose: encode.rs, what `push` is given. Sets, sizes and invocations come
+// as the numbers that the search's lent store packs into one (`how`), so they are told apart by them here and nowhere else.
 #![tactic(auto)]
 
 ghost use Rattle.std.specs.Prelude.{◌≡◌, cond, List, [], ◌∷◌, map, ℕ, ◌+◌, ◌/◌, ◌%◌, ◌≤◌, ◌<◌, eqb, length};
 ghost use Rattle.lent.specs.Put.{Put};
-ghost use Rattle.sets.specs.Sets.{HoldsBytes, set_number, shift_bytes, designation};
+ghost use Rattle.sets.specs.Sets.{set_number, shift_bytes, designation};
 ghost use Rattle.coding.specs.Candidates.{Size, graphic, plain};
 ghost use Rattle.encode_states.specs.Packed.{set_of};
 ghost use Rattle.encode_states.specs.Written.{size_control, invocation, half, written_by};
 ghost use Rattle.encode_candidates.specs.Packed.{code_of};
 
 use control::{MSZ, NSZ};
-use sets::{GraphicSet, Sequence, Shift};
+use sets::{GraphicSet, Shift};
 
 /// Writes a byte, where it fits. Returns the place behind it, as all that follow do.
 fn put(coding: &mut [u8], at: usize, x: u8) -> usize
@@ -26,15 +27,13 @@ fn put(coding: &mut [u8], at: usize, x: u8) -> usize
 }
 
 /// Writes a sequence.
-fn put_sequence(coding: &mut [u8], at: usize, q: Sequence) -> usize
-    requires { (at ≤ 4294967340) × (q.len ≤ 5) × (length q.bytes ≡ 5) }
-    ensures { (xs : List ℕ) → HoldsBytes q xs → Put coding.old at xs coding.new result }
+fn put_sequence(coding: &mut [u8], at: usize, q: &[u8]) -> usize
+    requires { (at ≤ 4294967340) × (length q.now ≤ 5) }
+    ensures { Put coding.old at q.now coding.new result }
 {
     let mut to = at;
-    let mut k: usize = 0;
-    while k < q.len {
-        to = put(&mut *coding, to, q.bytes[k]);
-        k += 1;
+    for x in q {
+        to = put(&mut *coding, to, *x);
     }
     to
 }
@@ -73,7 +72,8 @@ fn put_designation(coding: &mut [u8], at: usize, x: u32, e: u8, d: u32) -> usize
     ensures { Put coding.old at (cond (eqb d 1) (designation (set_of x) e) []) coding.new result }
 {
     if d == 1 {
-        return put_sequence(coding, at, set_of(x).designation(e));
+        let sequence = set_of(x).designation(e);
+        return put_sequence(coding, at, sequence.as_slice());
     }
     at
 }
@@ -136,12 +136,12 @@ fn put_invocation(coding: &mut [u8], at: usize, v: u32, e: u32) -> usize
 }
 
 /// What an invocation adds to each byte of a code.
+#[tactic(auto, unfolding(encode_states::specs::Written::half))]
 fn half(v: u32) -> u8
     ensures { result ≡ half v }
 {
     match v {
-        1 => 128,
-        3 => 128,
+        1 | 3 => 128,
         _ => 0,
     }
 }

@@ -1,21 +1,15 @@
 // The answers of `control` and `sets`, for number i of each part. Where there is none, 255.
 use crate::numbers::{low, string, value, wide, yes};
-use control::Params;
-use sets::{CharSize, Designated, GraphicSet, InitialState, Shift};
+use sets::{CharSize, GraphicSet, InitialState, Shift};
 
 /// Codes 00 to FF.
 pub fn fixed_params(i: usize) -> usize {
-    match control::fixed_params(low(i)) {
-        Params::Fixed(n) => n,
-        Params::NoEntry => 255,
-    }
+    control::fixed_params(low(i)).unwrap_or(255)
 }
 
 /// Codes 00 to FF, six numbers each: the name, a string with room for five.
 pub fn name(i: usize) -> usize {
-    let name = control::name(low(i / 6));
-    let bytes = name.bytes;
-    string(name.len, bytes, i % 6)
+    string(control::name(low(i / 6)).as_bytes(), i % 6)
 }
 
 /// Sets 0 to 31, 27 numbers each: bytes a character, final byte, whether in the DRCS form, then the designations to G0,
@@ -33,15 +27,14 @@ pub fn graphic_sets(i: usize) -> usize {
         return yes(set.is_drcs_form());
     }
     let sequence = set.designation(low((k - 3) / 6));
-    let bytes = sequence.bytes;
-    string(sequence.len, bytes, (k - 3) % 6)
+    string(sequence.as_slice(), (k - 3) % 6)
 }
 
 /// Final bytes 00 to FF in four forms: one-byte plain, one-byte DRCS, two-byte plain, two-byte DRCS.
 pub fn from_designation(i: usize) -> usize {
     match GraphicSet::from_designation(512 <= i, i / 256 % 2 == 1, low(i)) {
-        Designated::Set(set) => wide(set.number()),
-        Designated::Unknown => 255,
+        Some(set) => wide(set.number()),
+        None => 255,
     }
 }
 
@@ -67,9 +60,7 @@ pub fn shifts(i: usize) -> usize {
     if k == 3 {
         return value(shift.element());
     }
-    let sequence = shift.bytes();
-    let bytes = sequence.bytes;
-    string(sequence.len, bytes, k)
+    string(shift.bytes(), k)
 }
 
 /// The sizes in the file's order.

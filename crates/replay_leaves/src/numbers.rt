@@ -18,15 +18,12 @@ pub fn yes(b: bool) -> usize {
     if b { 1 } else { 0 }
 }
 
-/// Number k of a byte string: its length, then its bytes.
-pub fn string(len: usize, bytes: [u8; 5], k: usize) -> usize {
-    if k == 0 {
-        return len;
+/// Number k of a byte string: its length, then its bytes, and 0 behind them.
+pub fn string(bytes: &[u8], k: usize) -> usize {
+    match k.checked_sub(1) {
+        None => bytes.len(),
+        Some(k) => bytes.get(k).map_or(0, |x| value(*x)),
     }
-    if k < 6 {
-        return value(bytes[k - 1]);
-    }
-    0
 }
 
 /// A number up to FF as a byte.

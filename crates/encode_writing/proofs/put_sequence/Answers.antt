@@ -1,33 +1,21 @@
--- `encode_writing::put_sequence` meets its contract. The loop's invariant: k bytes of the sequence are written. Assumes nothing.
+-- `encode_writing::put_sequence` meets its contract. The loop's invariant: the bytes passed are written. Assumes nothing.
 use mathlib.Core.Path.{refl, ◌∙◌}
 use native.Mathlib.Omega.{arith}
 use Rattle.lent.proofs.Putting.{put_none, put_long}
 use Rattle.encode_writing.proofs.Laws.{further, ended, taken_length}
 use Rattle.encode_writing.proofs.put_sequence.Goals as goal
 
-pub loop-k-init : goal.loop-k-init
-loop-k-init c = (omega arith, refl, put_none _ _)
-
-pub bounds-q-k : goal.bounds-q-k
-bounds-q-k c = omega arith
+pub loop-x-init : goal.loop-x-init
+loop-x-init c = (refl, put_none _ _)
 
 pub put-to-requires : goal.put-to-requires
 put-to-requires c =
-    omega (arith, c.loop-k.invariant.2.next, taken_length c.loop-k.k c.args.q.bytes)
+    omega (arith, c.loop-x.invariant.1.next, taken_length c.loop-x.x-index c.args.q.now)
 
-pub overflow_add-k : goal.overflow_add-k
-overflow_add-k c = omega arith
-
-pub loop-k-smaller : goal.loop-k-smaller
-loop-k-smaller c = omega arith
-
-pub loop-k-preserved : goal.loop-k-preserved
-loop-k-preserved c =
-    let p = c.put-to.ensures in (
-      omega arith,
-      put_long p ∙ c.loop-k.invariant.1,
-      further c.args.q (omega (arith, c.requires.2)) c.loop-k.invariant.2 p,
-    )
+pub loop-x-preserved : goal.loop-x-preserved
+loop-x-preserved c =
+    let p = c.put-to.ensures in
+    (put_long p ∙ c.loop-x.invariant.0, further c.args.q.now (omega arith) c.loop-x.invariant.1 p)
 
 pub returns : goal.returns
-returns c = λ xs h. ended c.args.q {k = c.loop-k.k} xs (omega arith) h c.loop-k.invariant.2
+returns c = ended c.args.q.now {k = c.loop-x.x-index} (omega arith) c.loop-x.invariant.1

@@ -1,12 +1,8 @@
--- `encode_writing::put_sequence` meets its contract. The loop's invariant: k bytes of the sequence are written. Assumes nothing.
-use Prim.Native.Nat.{◌-◌, ◌≤◌}
-use mathlib.Core.Path.{◌≡◌}
+-- `encode_writing::put_sequence` meets its contract. The loop's invariant: the bytes passed are written. Assumes nothing.
 use lib.ListN.{length, take}
+use mathlib.Core.Path.{◌≡◌}
 use Rattle.lent.specs.Put.{Put}
 use Rattle.encode_writing.proofs.put_sequence.Given as goal
 
-abbrev pub invariant-loop-k : goal.invariant-loop-k
-invariant-loop-k l = (l.k ≤ l.q.len) × (length l.coding ≡ length l.initial.coding) × Put l.initial.coding l.at (take l.k l.q.bytes) l.coding l.to
-
-abbrev pub decreases-loop-k : goal.decreases-loop-k
-decreases-loop-k l = l.q.len - l.k
+abbrev pub invariant-loop-x : goal.invariant-loop-x
+invariant-loop-x l = (length l.coding ≡ length l.initial.coding) × Put l.initial.coding l.at (take l.x-index l.q) l.coding l.to
