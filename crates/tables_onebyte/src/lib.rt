@@ -1,6 +1,7 @@
 // One-byte code tables of the graphic sets, mapped to Unicode, and the codes that read as a character: ARIB STD-B24
 // volume 1 part 2, 7.1.1.3 (Tables 7-5 to 7-9) and Annex E. A character is a Unicode scalar; inside this crate 0 stands
-// for "none".
+// for "none", as in the tables of specs/, to which the proofs hold the rules number by number: `one_byte_of` makes the
+// Option of the answer.
 //
 // The code has rules where the Rust has tables in memory, since a constant array is built anew at each use. The proofs
 // hold the rules to the tables of specs/.
@@ -97,7 +98,8 @@ fn kana_at(kana: Kana, c: u8) -> u32
     }
 }
 
-/// The alphanumeric set at GL code `c`, half-width. Table 7-5.
+/// The alphanumeric set at GL code `c`, half-width. Table 7-5. A function for each set, since callers name the set: a body is
+/// one line.
 pub fn alphanumeric(c: u8) -> Option<u32>
     ensures { OneByteReads result (one_byte_at OneByteTable.Alphanumeric c) }
 {

@@ -32,19 +32,6 @@ module _ {f : ℕ → ℕ → ℕ} {c : ℕ} {t : List ℕ} {o : Option ℕ} {ro
         same = ap (on_from f c t 8836) q ∙ sym (miss f c t 8836 (place row cell) (omega arith) e) ∙ p.same;
       }
 
-  pub next_row : row < 95 → 95 ≤ cell → Passed f c t o (row + 1) 1
-  next_row a b =
-      let r = p.row_from in
-      let k = p.cell_to in
-      let q : place (row + 1) 1 ≡ place row cell = omega arith in
-      record {
-        row_from = omega arith;
-        row_to = omega arith;
-        cell_from = omega arith;
-        cell_to = omega arith;
-        same = ap (on_from f c t 8836) q ∙ p.same;
-      }
-
   -- none of the row's cells from there on reads as c
   pub past_row : row < 95 → cell ≡ 1 → ((k : ℕ) → 1 ≤ k → k ≤ 94 → f (place row k) (get_or t (place row k) 0) ≡ c → ⊥) → Passed f c t o (row + 1) 1
   past_row a b e =

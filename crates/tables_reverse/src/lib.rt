@@ -111,7 +111,8 @@ pub fn kanji_reverse(t: &[u16], c: u32) -> Option<(u8, u8)>
     }
 }
 
-/// The first cell in row order that `additional_symbols` reads as `c`. Rows 1 to 84 have none.
+/// The first cell in row order that `additional_symbols` reads as `c`. Rows 1 to 84 have none. The loops differ from those
+/// of `kanji_symbol_reverse` in their rows and in the gaps: a function of both would take a closure for five lines.
 pub fn additional_reverse(c: u32) -> Option<(u8, u8)>
     ensures { place_value result ≡ additional_reverse c }
 {
