@@ -26,7 +26,7 @@ pub fn numbers(bytes: &[u8], cells: &mut [u16])
 }
 
 /// Fills a buffer for 8,836 numbers, and answers how many of them count: whether there is a `jis.tab`,
-/// and its bytes.
+/// and its bytes. The flag stays, since `cell_table`, which the theorems of the programs' lines cite, takes it.
 pub fn fill(present: bool, bytes: &[u8], cells: &mut [u16]) -> usize
     ensures { Filled present bytes.now cells.old cells.new result }
 {

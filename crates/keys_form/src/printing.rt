@@ -17,7 +17,7 @@ pub fn put_number(out: &mut [u8], line: &[u8], at: usize) -> usize
 }
 
 /// Ends a line whose answer begins at a place: a key of `len` bytes, which stands there already, by a newline; or a
-/// refusal.
+/// refusal. The question's number stays, 0 for none, since `ending`, which the theorems of `keys_lines` cite, goes by it.
 pub fn put_answer(out: &mut [u8], at: usize, number: u32, len: usize) -> usize
     requires { (at ≤ 0x10000) × (len ≤ 0x40000) }
     ensures put { Put out.old (ending_at at number len) (ending number) out.new result }

@@ -120,7 +120,7 @@ fn is_trailing(b: u8) -> bool
 }
 
 /// The scalar of a sequence of two, of three and of four bytes, by its first byte and what follows it. Table 3-7, and
-/// Table 3-6.
+/// Table 3-6. Each is one definition: a function over the count would ask more than the three patterns show.
 fn two(a: u8, rest: &[u8]) -> Option<u32>
     ensures { result ≡ scalar_of (two a rest.now) }
 {
