@@ -1,5 +1,5 @@
 -- Which question decides, for both calls. Assumes nothing.
-use Prim.Native.Nat.{ℕ, zero, suc, ◌≤◌, ◌<◌}
+use Prim.Native.Nat.{ℕ, zero, suc, ◌≤◌}
 use mathlib.Core.Path.{◌≡◌, refl, sym, ap, ◌∙◌, subst}
 use mathlib.Core.Bool.{Bool, true, false, cond, not, ◌&&◌}
 use mathlib.Core.List.{List, []}
@@ -11,8 +11,11 @@ use Rattle.questions.specs.Buffer.{padded}
 use Rattle.reading.specs.Between.{Between}
 use Rattle.reading.specs.Call.{Outcome}
 use Rattle.reading.specs.WithoutBuffers as unbuffered
-use Rattle.decode.specs.declared.call.Answer.{Answer}
-use Rattle.decode.specs.Answers.{fits_in, number_of, place_of, text_of, issues_of, charged_of, private_use_of, Refuses, Answers}
+use Rattle.std.specs.Prelude.{Result, Ok, Err}
+use Rattle.questions.specs.declared.refusal.Refusal.{Refusal}
+use Rattle.questions.specs.Refusal as refusals
+use Rattle.questions.proofs.Refusals.{some_number}
+use Rattle.decode.specs.Answers.{Answer, fits_in, number_of, place_of, text_of, issues_of, charged_of, private_use_of, Refuses, Answers}
 use Rattle.bookmark_form.specs.Numbers.{numbers}
 use Rattle.bookmark_form.specs.Form.{is_store, resumable}
 use Rattle.bookmark.specs.Bookmark.{
@@ -64,10 +67,6 @@ pub not_left : (b : Bool) → not b ≡ false → b ≡ true
 not_left true e = refl
 not_left false e = sym e
 
--- no question failed
-pub none_failed : {q n : ℕ} → q ≡ n → q ≤ 0 → n ≡ 0
-none_failed e h = omega (arith, e, h)
-
 -- a test that decides between two numbers, of which the second is a refusal
 chosen : (b : Bool) (x y : ℕ) → cond b x (suc y) ≡ 0 → (b ≡ true) × (x ≡ 0)
 chosen true x y h = (refl, h)
@@ -107,21 +106,30 @@ module _ (c : Setting) where
   set_place e f b p = ap (λ (n : ℕ). set_refusal_of n c) e ∙ ap (λ (b : Bool). cond b (place_refusal c) 15) f ∙ ap (λ (b : Bool). cond b 0 16) p
 
   -- what a refusal leaves
-  pub set_refused : (q : ℕ) {r : ℕ} {store : List ℕ} → set_refusal c ≡ suc q → r ≡ suc q → store ≡ c.store → Sets c r store
+  pub set_refused : (e : Refusal) {r : Result (Unit {0}) Refusal} {store : List ℕ} → set_refusal c ≡ refusals.number_of e → refusals.place_of e ≡ 0 → r ≡ Err e → store ≡ c.store
+      → Sets c r store
   unfolding was_set set_by
-  set_refused q e n s =
-      let x : was_set c ≡ record { refused = suc q; store = c.store } = ap (λ (n : ℕ). set_by n c) e in
-      record { number = n ∙ sym (ap (λ (y : WasSet). y.refused) x); stored = s ∙ sym (ap (λ (y : WasSet). y.store) x) }
+  set_refused e {r} {store} n p a s = go (refusals.number_of e) refl
+    where
+      go : (q : ℕ) → refusals.number_of e ≡ q → Sets c r store
+      go zero z = absurd (omega (arith, some_number e, z))
+      go (suc q) z =
+          let x : was_set c ≡ record { refused = suc q; store = c.store } = ap (λ (n : ℕ). set_by n c) (n ∙ z) in
+          record {
+            number = ap refusals.refused a ∙ z ∙ sym (ap (λ (y : WasSet). y.refused) x);
+            place = ap refusals.refused_at a ∙ p;
+            stored = s ∙ sym (ap (λ (y : WasSet). y.store) x);
+          }
 
   -- and an acceptance
   pub set_stored : set_refusal c ≡ 0 → was_set c ≡ record { refused = 0; store = replaced c.store c.name (numbers c.place (reached c).state) }
   unfolding was_set set_by
   set_stored e = ap (λ (n : ℕ). set_by n c) e
 
-  pub set_accepted : {r : ℕ} {store : List ℕ} → set_refusal c ≡ 0 → r ≡ 0 → store ≡ replaced c.store c.name (numbers c.place (reached c).state) → Sets c r store
-  set_accepted e n s =
+  pub set_accepted : {store : List ℕ} → set_refusal c ≡ 0 → store ≡ replaced c.store c.name (numbers c.place (reached c).state) → Sets c (Ok tt) store
+  set_accepted e s =
       let x = set_stored e in
-      record { number = n ∙ sym (ap (λ (y : WasSet). y.refused) x); stored = s ∙ sym (ap (λ (y : WasSet). y.store) x) }
+      record { number = sym (ap (λ (y : WasSet). y.refused) x); place = refl; stored = s ∙ sym (ap (λ (y : WasSet). y.store) x) }
 
 -- the place, by what was reached
 pub place_known : (b : Between) (place : ℕ) → place_holds b place ≡ true → (b.at ≡ place) × (length b.state.out.marks ≤ 16)
@@ -158,22 +166,26 @@ module _ (c : Returning) where
   return_fits e f = ap (λ (n : ℕ). return_refusal_of n c) e ∙ ap (λ (b : Bool). cond b (fits c) 15) f
 
   -- what a refusal leaves
-  pub return_refused : (q : ℕ) {r : Answer} {ti ii t i : List ℕ} → return_refusal c ≡ suc q → length ti ≡ c.text_room → length ii ≡ c.issue_room
-      → Refuses (suc q) ti ii r t i → Returns c r t i
+  pub return_refused : (e : Refusal) {r : Answer} {ti ii t i : List ℕ} → return_refusal c ≡ refusals.number_of e → refusals.place_of e ≡ 0 → length ti ≡ c.text_room
+      → length ii ≡ c.issue_room → Refuses e ti ii r t i → Returns c r t i
   unfolding returned returned_by
-  return_refused q e a b v =
-      let x : returned c ≡ returned_by (suc q) c = ap (λ (n : ℕ). returned_by n c) e in
-      record {
-        number = ap number_of v.answer ∙ sym (ap (λ (y : Outcome). y.refused) x);
-        case = λ y. absurd (omega (arith, sym (ap number_of v.answer) ∙ y));
-        place = ap place_of v.answer;
-        counted = ap text_of v.answer ∙ sym (ap (λ (y : Outcome). y.text) x);
-        reported = ap issues_of v.answer ∙ sym (ap (λ (y : Outcome). y.issues) x);
-        charged = ap charged_of v.answer ∙ sym (ap (λ (y : Outcome). y.charged) x);
-        private_use = ap private_use_of v.answer ∙ sym (ap (λ (y : Outcome). y.private_use) x);
-        written = v.text ∙ ap (λ (n : ℕ). padded n []) a ∙ sym (ap (λ (y : Outcome). y.text_buffer) x);
-        listed = v.issues ∙ ap (λ (n : ℕ). padded n []) b ∙ sym (ap (λ (y : Outcome). y.issue_buffer) x);
-      }
+  return_refused e {r} {ti} {ii} {t} {i} n p a b v = go (refusals.number_of e) refl
+    where
+      go : (q : ℕ) → refusals.number_of e ≡ q → Returns c r t i
+      go zero z = absurd (omega (arith, some_number e, z))
+      go (suc q) z =
+          let x : returned c ≡ returned_by (suc q) c = ap (λ (n : ℕ). returned_by n c) (n ∙ z) in
+          record {
+            number = ap number_of v.answer ∙ z ∙ sym (ap (λ (y : Outcome). y.refused) x);
+            case = λ y. absurd (omega (arith, z, sym (ap number_of v.answer) ∙ y));
+            place = ap place_of v.answer ∙ p;
+            counted = ap text_of v.answer ∙ sym (ap (λ (y : Outcome). y.text) x);
+            reported = ap issues_of v.answer ∙ sym (ap (λ (y : Outcome). y.issues) x);
+            charged = ap charged_of v.answer ∙ sym (ap (λ (y : Outcome). y.charged) x);
+            private_use = ap private_use_of v.answer ∙ sym (ap (λ (y : Outcome). y.private_use) x);
+            written = v.text ∙ ap (λ (n : ℕ). padded n []) a ∙ sym (ap (λ (y : Outcome). y.text_buffer) x);
+            listed = v.issues ∙ ap (λ (n : ℕ). padded n []) b ∙ sym (ap (λ (y : Outcome). y.issue_buffer) x);
+          }
 
   -- and what the rest gives
   pub return_answered : {r : Answer} {t i : List ℕ} → unbuffered.refusal c.lent ≡ 0 → may_return c ≡ true → Answers (rest_of c) c.text_room c.issue_room r t i
@@ -238,14 +250,21 @@ module _ (c : Returning) where
 
 -- ---- one of questions 1 to 3 fails
 
-pub set_questioned : (c : Setting) (q : ℕ) {r : ℕ} {store : List ℕ} → unbuffered.refusal c.lent ≡ q → 0 < q → r ≡ q → store ≡ c.store → Sets c r store
-set_questioned c zero e h n s = absurd (omega (arith, h))
-set_questioned c (suc q) e h n s = set_refused c q (set_questions c q e) n s
+pub set_questioned : (c : Setting) (e : Refusal) {r : Result (Unit {0}) Refusal} {store : List ℕ} → refusals.number_of e ≡ unbuffered.refusal c.lent → refusals.place_of e ≡ 0
+    → r ≡ Err e → store ≡ c.store → Sets c r store
+set_questioned c e {r} {store} n p a s = set_refused c e (go (refusals.number_of e) refl) p a s
+  where
+    go : (q : ℕ) → refusals.number_of e ≡ q → set_refusal c ≡ refusals.number_of e
+    go zero z = absurd (omega (arith, some_number e, z))
+    go (suc q) z = set_questions c q (sym n ∙ z) ∙ sym z
 
-pub return_questioned : (c : Returning) (q : ℕ) {r : Answer} {ti ii t i : List ℕ} → unbuffered.refusal c.lent ≡ q → 0 < q → length ti ≡ c.text_room
-    → length ii ≡ c.issue_room → Refuses q ti ii r t i → Returns c r t i
-return_questioned c zero e h a b v = absurd (omega (arith, h))
-return_questioned c (suc q) e h a b v = return_refused c q (return_questions c q e) a b v
+pub return_questioned : (c : Returning) (e : Refusal) {r : Answer} {ti ii t i : List ℕ} → refusals.number_of e ≡ unbuffered.refusal c.lent → refusals.place_of e ≡ 0
+    → length ti ≡ c.text_room → length ii ≡ c.issue_room → Refuses e ti ii r t i → Returns c r t i
+return_questioned c e n p a b v = return_refused c e (go (refusals.number_of e) refl) p a b v
+  where
+    go : (q : ℕ) → refusals.number_of e ≡ q → return_refusal c ≡ refusals.number_of e
+    go zero z = absurd (omega (arith, some_number e, z))
+    go (suc q) z = return_questions c q (sym n ∙ z) ∙ sym z
 
 -- the rest, from the numbers l of the name
 pub return_resumed : (c : Returning) {l : List ℕ} {r : Answer} {t i : List ℕ} → unbuffered.refusal c.lent ≡ 0 → may_return c ≡ true → l ≡ bookmark c

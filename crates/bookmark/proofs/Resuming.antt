@@ -23,8 +23,7 @@ use Rattle.laws_reading.proofs.Reading.{issues_only_grow}
 use Rattle.laws_behind.specs.Behind.{later}
 use Rattle.decode_read.specs.declared.Counts.{Counts}
 use Rattle.decode_read.specs.Promises.{Counted}
-use Rattle.decode.specs.declared.call.Answer.{Answer}
-use Rattle.decode.specs.Answers.{fits_in, Answers}
+use Rattle.decode.specs.Answers.{Answer, fits_in, Answers}
 use Rattle.bookmark_form.specs.Numbers.{state_of, place_of}
 use Rattle.bookmark_positions.specs.Positions.{moved}
 use Rattle.bookmark_positions.proofs.Moved.{moved_numbers, numbers_as_many, position_at}

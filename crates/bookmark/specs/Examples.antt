@@ -1,6 +1,5 @@
 -- Worked examples, computed: Si, CharacterSize and an empty cell table.
 use Rattle.std.specs.Prelude.{ℕ, ◌≡◌, refl, List, [], ◌∷◌, replicate}
-use Rattle.issues.specs.Issue.{Issue}
 use Rattle.issues.specs.declared.IssueKind.TheVariants.{UnknownEscape, LoneSingleShift}
 use Rattle.reading.specs.State.{given, start}
 use Rattle.reading.specs.Between.{Between, before}

@@ -1,9 +1,9 @@
 -- What the functions of the two calls promise.
-use Rattle.std.specs.Prelude.{ℕ, ◌≡◌, List, length}
+use Rattle.std.specs.Prelude.{ℕ, ◌≡◌, List, length, Result}
 use Rattle.reading.specs.WithoutBuffers as unbuffered
-use Rattle.decode.specs.declared.call.Answer.{Answer}
-use Rattle.decode.specs.declared.call.Answer.TheVariants.{Decoded}
-use Rattle.decode.specs.Answers.{number_of, place_of, text_of, issues_of, charged_of, private_use_of}
+use Rattle.questions.specs.declared.refusal.Refusal.{Refusal}
+use Rattle.questions.specs.Refusal.{refused, refused_at}
+use Rattle.decode.specs.Answers.{Answer, Decoded, number_of, place_of, text_of, issues_of, charged_of, private_use_of}
 use Rattle.bookmark.specs.Bookmark.{Setting, was_set, Returning, returned}
 
 -- what a setting is lent, and a return
@@ -13,15 +13,16 @@ setting c place name store = record { lent = c; place = place; name = name; stor
 abbrev pub returning : unbuffered.Lent → ℕ → List ℕ → List ℕ → List ℕ → Returning
 returning c name store text issues = record { lent = c; name = name; store = store; text_room = length text; issue_room = length issues }
 
--- the number of the refusal, and every number of the store
-pub record Sets (c : Setting) (r : ℕ) (store : List ℕ) : Type 0 where
-  pub number : r ≡ (was_set c).refused
+-- the number of the refusal, its place, and every number of the store
+pub record Sets (c : Setting) (r : Result (Unit {0}) Refusal) (store : List ℕ) : Type 0 where
+  pub number : refused r ≡ (was_set c).refused
+  pub place : refused_at r ≡ 0
   pub stored : store ≡ (was_set c).store
 
--- every number of the answer, which is `Decoded` where none is refused, and every element of both buffers
+-- every number of the answer, which is `Ok` where none is refused, and every element of both buffers
 pub record Returns (c : Returning) (r : Answer) (text issues : List ℕ) : Type 0 where
   pub number : number_of r ≡ (returned c).refused
-  pub case : number_of r ≡ 0 → r ≡ Decoded (text_of r) (issues_of r) (charged_of r) (private_use_of r)
+  pub case : number_of r ≡ 0 → r ≡ Decoded r
   pub place : place_of r ≡ 0
   pub counted : text_of r ≡ (returned c).text
   pub reported : issues_of r ≡ (returned c).issues

@@ -10,9 +10,10 @@ ghost use Rattle.bookmark.specs.Bookmark.{name_holds, resumed};
 ghost use Rattle.bookmark.specs.Promises.{setting, returning, Sets, Returns};
 
 use bookmark_form::SIZE;
-use decode::call::Answer;
 use decode_output::SEVENTEEN_DIGITS;
+use decode_read::Counts;
 use issues::NUMBERS;
+use questions::refusal::Refusal;
 
 /// Where the text's length stands among the numbers of a bookmark.
 const TEXT: usize = 285;
@@ -36,7 +37,7 @@ fn set_checked(
     place: usize,
     name: u32,
     store: &mut [u32],
-) -> u32
+) -> Result<(), Refusal>
     requires input_value { unbuffered.refusal (unbuffered.lent cells.now initial width input.now) ≡ 0 }
     requires name_value { name_holds store.old name ≡ true }
     requires place_in_bounds { place ≤ length input.now }
@@ -48,17 +49,17 @@ fn set_checked(
     let none = decode_state::undefined(start);
     let w = decode_outer::top(cells, input, 0, place, none, &mut text, &mut issues);
     if w.at != place {
-        return 16;
+        return Err(Refusal::BookmarkPlace);
     }
     let d = w.decoder;
     if d.core.out.waiting >= SEVENTEEN_DIGITS {
-        return 16;
+        return Err(Refusal::BookmarkPlace);
     }
     bookmark_numbers::put(store, name as usize * SIZE, place as u32, d);
-    0
+    Ok(())
 }
 
-/// Names a place of the input. Answers the number of the refusal, 0 for none.
+/// Names a place of the input. The options are as wide as a C caller's: question 2 asks them of `arib_bookmark_set` too.
 pub fn set(
     cells: &[u16],
     initial: u32,
@@ -67,18 +68,15 @@ pub fn set(
     place: usize,
     name: u32,
     store: &mut [u32],
-) -> u32
+) -> Result<(), Refusal>
     ensures { Sets (setting (unbuffered.lent cells.now initial width input.now) place name store.old) result store.new }
 {
-    let q = questions::first(cells, initial, width, questions::DECODE_LIMIT, input.len());
-    if q > 0 {
-        return q;
-    }
+    questions::first(cells, initial, width, questions::DECODE_LIMIT, input.len())?;
     if !name_holds(store, name) {
-        return 15;
+        return Err(Refusal::BookmarkMismatch);
     }
     if place > input.len() {
-        return 16;
+        return Err(Refusal::BookmarkPlace);
     }
     set_checked(cells, initial, width, input, place, name, store)
 }
@@ -91,7 +89,7 @@ fn read_on(
     l: &[u32],
     text: &mut [u8],
     issues: &mut [u32],
-) -> Answer
+) -> Result<Counts, Refusal>
     requires input_len_bound { (length input.now ≤ 65535) × (length l.now ≡ 287) }
     requires l_value { resumable input.now l.now ≡ true }
     ensures { Answers (resumed (given cells.now width input.now) l.now) (length text.old) (length issues.old) result
@@ -106,7 +104,7 @@ fn read_on(
     decode::call::finish(counts, text, issues)
 }
 
-/// Returns to a name: the text and the issues of the rest.
+/// Returns to a name: the text and the issues of the rest, as a decoding has them.
 pub fn return_to(
     cells: &[u16],
     initial: u32,
@@ -116,24 +114,29 @@ pub fn return_to(
     store: &[u32],
     text: &mut [u8],
     issues: &mut [u32],
-) -> Answer
+) -> Result<Counts, Refusal>
     ensures { Returns (returning (unbuffered.lent cells.now initial width input.now) name store.now text.old
         issues.old) result text.new issues.new }
 {
-    let q = questions::first(cells, initial, width, questions::DECODE_LIMIT, input.len());
-    if q > 0 {
-        return decode::call::refuse(q, text, issues);
+    if let Err(refusal) = questions::first(
+        cells,
+        initial,
+        width,
+        questions::DECODE_LIMIT,
+        input.len(),
+    ) {
+        return decode::call::refuse(refusal, text, issues);
     }
     if !name_holds(store, name) {
-        return decode::call::refuse(15, text, issues);
+        return decode::call::refuse(Refusal::BookmarkMismatch, text, issues);
     }
     let from = name as usize * SIZE;
     let l = &store[from..from + SIZE];
     if l[0] != 1 {
-        return decode::call::refuse(15, text, issues);
+        return decode::call::refuse(Refusal::BookmarkMismatch, text, issues);
     }
     if !bookmark_form::resumable(input, l) {
-        return decode::call::refuse(15, text, issues);
+        return decode::call::refuse(Refusal::BookmarkMismatch, text, issues);
     }
     read_on(cells, width, input, l, text, issues)
 }

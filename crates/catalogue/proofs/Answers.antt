@@ -1,5 +1,5 @@
 -- The answers of the three calls, from what their functions promise. Assumes nothing.
-use Prim.Native.Nat.{ℕ, zero, suc, ◌-◌, ◌≤◌, ◌<◌}
+use Prim.Native.Nat.{ℕ, zero, suc, ◌≤◌, ◌<◌}
 use mathlib.Core.Path.{◌≡◌, refl, sym, ap, ap₂, subst, ◌∙◌}
 use mathlib.Core.Bool.{Bool, true, false, cond}
 use mathlib.Core.List.{List, []}
@@ -11,15 +11,20 @@ use lib.Seq.{length-take-le}
 use Rattle.questions.specs.Buffer.{padded}
 use Rattle.questions.proofs.Buffers.{length_padded}
 use Rattle.catalogue_form.specs.Form.{Entry, value, bytes, entries_of, entries, formed}
-use Rattle.catalogue_form.specs.Entries.{numbered, entered, having, smallest}
+use Rattle.catalogue_form.specs.Entries.{numbered, entered, having}
 use Rattle.catalogue_form.proofs.Forms.{Parts, parts, formed_held, value_bytes}
 use Rattle.catalogue_places.specs.Promises.{before, headed, first_number}
 use Rattle.catalogue_changes.specs.Promises.{Holds, put_at, taken_at}
 use Rattle.catalogue_changes.proofs.Stores.{rest, entries_lent}
 use Rattle.key.specs.Key as key
 use Rattle.key.specs.Promises as keys
-use Rattle.key.specs.declared.KeyAnswer.{KeyAnswer}
-use Rattle.key.specs.declared.KeyAnswer.TheVariants.{Keyed, Refused}
+use Rattle.key.specs.Promises.{KeyAnswer}
+use Rattle.key.specs.declared.Keyed.{Keyed}
+use Rattle.std.specs.Prelude.{Ok, Err}
+use Rattle.questions.specs.declared.refusal.Refusal.{Refusal}
+use Rattle.questions.specs.declared.refusal.Refusal.TheVariants.{CatalogueMismatch}
+use Rattle.questions.specs.Refusal.{number_of, place_of}
+use Rattle.questions.proofs.Refusals.{some_number}
 use Rattle.key.proofs.Calls.{len_inside, key_bytes_lem}
 use Rattle.catalogue.specs.Catalogue.{Lent, titled, entry_refusal, refusal_of, key_refusal, add_refusal, added_by, removed_by}
 use Rattle.catalogue.specs.Promises.{Added, Entered, Removed, Finds}
@@ -31,21 +36,22 @@ holds store n f e = record { form = f; count = e ∙ (ap value (formed_held stor
 
 -- ---- finding
 
-pub found_not : (store k : List ℕ) → formed store ≡ false → Finds store k (record { refused = 12; entries = 0; number = 0 })
+pub found_not : (store k : List ℕ) → formed store ≡ false → Finds store k (Err CatalogueMismatch)
 found_not store k e =
     let f = finds_not store k e in
-    record { number = ap (λ o. o.refused) (sym f); counted = ap (λ o. o.entries) (sym f); smallest = ap (λ o. o.number) (sym f) }
+    record { number = ap (λ o. o.refused) (sym f); place = refl; counted = ap (λ o. o.entries) (sym f); smallest = ap (λ o. o.number) (sym f) }
 
 module _ (store : List ℕ) (n : ℕ) (h : Holds store n) where
   up : Parts (entries store)
   up = parts (entries store) (formed_held store h.form).catalogue
 
   pub found_is : (k : List ℕ) {count first : ℕ} → count ≡ length (having k (entries_of n (rest store n h))) → first ≡ first_number (having k (entries_of n (rest store n h)))
-      → Finds store k (record { refused = 0; entries = count; number = first })
+      → Finds store k (Ok (record { entries = count; number = first }))
   found_is k c e =
       let f = finds store k h.form in
       record {
         number = ap (λ o. o.refused) (sym f);
+        place = refl;
         counted = c ∙ (ap (λ (es : List Entry). length (having k es)) (entries_lent store n h) ∙ ap (λ o. o.entries) (sym f));
         smallest =
             e
@@ -82,51 +88,53 @@ module _ (store : List ℕ) (n : ℕ) (h : Holds store n) where
 
       -- ---- removing
 
-      pub removed_absent : present ≡ false → Removed store number 12 store
+      pub removed_absent : present ≡ false → Removed store number (Err CatalogueMismatch) store
       unfolding removed_by
       removed_absent t =
           let e = removed_by_lem store number 12 (removes store number h.form ∙ ap (λ (b : Bool). cond b 0 12) (sym present_is ∙ t)) in
-          record { number = ap (λ o. o.refused) (sym e); stored = ap (λ o. o.store) (sym e) }
+          record { number = ap (λ o. o.refused) (sym e); place = refl; stored = ap (λ o. o.store) (sym e) }
 
-      pub removed_is : {after : List ℕ} → present ≡ true → after ≡ bytes (taken_at at (entries store)) → Removed store number 0 after
+      pub removed_is : {after : List ℕ} → present ≡ true → after ≡ bytes (taken_at at (entries store)) → Removed store number (Ok tt) after
       unfolding removed_by
       removed_is t b =
           let e = removed_by_lem store number 0 (removes store number h.form ∙ ap (λ (q : Bool). cond q 0 12) (sym present_is ∙ t)) in
           let w = without_taken 0 number (entries store) up.up (sym present_is ∙ t) in
           record {
             number = ap (λ o. o.refused) (sym e);
+            place = refl;
             stored = b ∙ (ap (λ (i : ℕ). bytes (taken_at i (entries store))) place_is ∙ (ap bytes (sym w) ∙ ap (λ o. o.store) (sym e)));
           }
 
       -- ---- entering
 
-      module _ (why len charged : ℕ) (buffer : List ℕ) (room : len ≤ length buffer) (w : why ≡ entry_refusal present len n) where
+      module _ (k : Keyed) (buffer : List ℕ) (room : k.len ≤ length buffer) where
         abbrev e : Entry
-        e = record { number = number; key = take len buffer }
+        e = record { number = number; key = take k.len buffer }
 
-        refusal_is : why ≡ refusal_of e (entries store)
-        refusal_is =
+        refusal_is : (why : ℕ) → why ≡ entry_refusal present k.len n → why ≡ refusal_of e (entries store)
+        refusal_is why w =
             w
-            ∙ (ap (λ (b : Bool). entry_refusal b len n) present_is
-            ∙ ap₂ (λ (i j : ℕ). entry_refusal (numbered number (entries store)) i j) (sym (length-take-le len buffer room)) h.count)
+            ∙ (ap (λ (b : Bool). entry_refusal b k.len n) present_is
+            ∙ ap₂ (λ (i j : ℕ). entry_refusal (numbered number (entries store)) i j) (sym (length-take-le k.len buffer room)) h.count)
 
-        pub enter_refused : {r : KeyAnswer} {left : List ℕ} → 0 < why → r ≡ Refused why 0 → left ≡ padded (length buffer) [] → Entered e len charged store buffer r store left
-        enter_refused p a b = record {
-          accepted = λ z. absurd (omega (arith, refusal_is));
-          refused = λ m q. (a ∙ ap (λ (i : ℕ). Refused i 0) (refusal_is ∙ q), (refl, b));
+        pub enter_refused : (x : Refusal) {r : KeyAnswer} {left : List ℕ} → number_of x ≡ entry_refusal present k.len n → place_of x ≡ 0 → r ≡ Err x
+            → left ≡ padded (length buffer) [] → Entered e k store buffer r store left
+        enter_refused x w p a b = record {
+          accepted = λ z. absurd (omega (arith, some_number x, refusal_is (number_of x) w, z));
+          refused = λ m q. ((x, a, refusal_is (number_of x) w ∙ q, p), (refl, b));
         }
 
-        pub enter_done : {after : List ℕ} → why ≤ 0 → after ≡ bytes (put_at at e (entries store)) → Entered e len charged store buffer (Keyed len charged) after buffer
-        enter_done z b = record {
+        pub enter_done : {after : List ℕ} → 0 ≡ entry_refusal present k.len n → after ≡ bytes (put_at at e (entries store)) → Entered e k store buffer (Ok k) after buffer
+        enter_done w b = record {
           accepted = λ q. (refl, (b ∙ (ap (λ (i : ℕ). bytes (put_at i e (entries store))) place_is ∙ ap bytes (sym (entered_put e (entries store)))), refl));
-          refused = λ m q. absurd (omega (arith, refusal_is));
+          refused = λ m q. absurd (omega (arith, refusal_is 0 w, q));
         }
 
-pub removed_not : (store : List ℕ) (number : ℕ) → formed store ≡ false → Removed store number 12 store
+pub removed_not : (store : List ℕ) (number : ℕ) → formed store ≡ false → Removed store number (Err CatalogueMismatch) store
 unfolding removed_by
 removed_not store number f =
     let e = removed_by_lem store number 12 (removes_not store number f) in
-    record { number = ap (λ o. o.refused) (sym e); stored = ap (λ o. o.store) (sym e) }
+    record { number = ap (λ o. o.refused) (sym e); place = refl; stored = ap (λ o. o.store) (sym e) }
 
 -- ---- adding
 
@@ -139,19 +147,23 @@ outcome_room c = go (key.refusal c)
     go (suc q) = length_padded c.room []
 
 -- a refused add: the store as it was, the buffer zero
-pub added_refused : (c : Lent) (q : ℕ) {buffer : List ℕ} → add_refusal c ≡ suc q → buffer ≡ padded c.keyed.room [] → Added c (Refused (suc q) 0) c.store buffer
+pub added_refused : (c : Lent) (x : Refusal) {buffer : List ℕ} → add_refusal c ≡ number_of x → place_of x ≡ 0 → buffer ≡ padded c.keyed.room [] → Added c (Err x) c.store buffer
 unfolding added_by
-added_refused c q e b =
-    let o = sym (added_by_lem c (suc q) e) in
-    record {
-      number = ap (λ a. a.refused) o;
-      case = λ z. absurd (omega arith);
-      place = refl;
-      counted = ap (λ a. a.len) o;
-      charged = ap (λ a. a.charged) o;
-      stored = ap (λ a. a.store) o;
-      written = b ∙ ap (λ a. a.buffer) o;
-    }
+added_refused c x {buffer} e p b = go (number_of x) refl
+  where
+    go : (q : ℕ) → number_of x ≡ q → Added c (Err x) c.store buffer
+    go zero z = absurd (omega (arith, some_number x, z))
+    go (suc q) z =
+        let o = sym (added_by_lem c (suc q) (e ∙ z)) in
+        record {
+          number = z ∙ ap (λ a. a.refused) o;
+          case = λ y. absurd (omega (arith, z, y));
+          place = p;
+          counted = ap (λ a. a.len) o;
+          charged = ap (λ a. a.charged) o;
+          stored = ap (λ a. a.store) o;
+          written = b ∙ ap (λ a. a.buffer) o;
+        }
 
 module _ (c : Lent) {r : KeyAnswer} {buffer : List ℕ} (k : keys.Answered c.keyed r buffer) where
   refusal_of_lem : (key.outcome c.keyed).refused ≡ key.refusal c.keyed
@@ -172,37 +184,28 @@ module _ (c : Lent) {r : KeyAnswer} {buffer : List ℕ} (k : keys.Answered c.key
   key_inside = omega (arith, k.counted, len_inside c.keyed, buffer_room)
 
 -- a key that is refused
-pub added_keyless : (c : Lent) (number place : ℕ) (buffer : List ℕ) → formed c.store ≡ true → keys.Answered c.keyed (Refused number place) buffer
-    → Added c (Refused number place) c.store buffer
+pub added_keyless : (c : Lent) (x : Refusal) (buffer : List ℕ) → formed c.store ≡ true → keys.Answered c.keyed (Err x) buffer → Added c (Err x) c.store buffer
 unfolding key_refusal key.outcome key.outcome_of
-added_keyless c zero place buffer f k = absurd (subst T (sym (ap is_keyed (k.case refl))) tt)
+added_keyless c x buffer f k = go (number_of x) refl
   where
-    is_keyed : KeyAnswer → Bool
-    is_keyed (Keyed len charged) = true
-    is_keyed (Refused number place) = false
-added_keyless c (suc q) place buffer f k =
-    subst (λ (i : ℕ). Added c (Refused (suc q) i) c.store buffer) (sym k.place) (added_refused c q refused zeros)
-  where
-    by : key.refusal c.keyed ≡ suc q
-    by = keyed_by c k
-
-    refused : add_refusal c ≡ suc q
-    refused = formed_add c f ∙ ap (λ (i : ℕ). key_refusal i c) by
-
-    zeros : buffer ≡ padded c.keyed.room []
-    zeros = k.written ∙ ap (λ (i : ℕ). (key.outcome_of i c.keyed).buffer) by
+    go : (q : ℕ) → number_of x ≡ q → Added c (Err x) c.store buffer
+    go zero z = absurd (omega (arith, some_number x, z))
+    go (suc q) z =
+        let by : key.refusal c.keyed ≡ suc q = keyed_by c k ∙ z in
+        added_refused c x (formed_add c f ∙ ap (λ (i : ℕ). key_refusal i c) by ∙ sym z) k.place
+        (k.written ∙ ap (λ (i : ℕ). (key.outcome_of i c.keyed).buffer) by)
 
 -- a key that is given, and its entry
-pub added_keyed : (c : Lent) (len charged : ℕ) (buffer : List ℕ) {r : KeyAnswer} {after left : List ℕ} → formed c.store ≡ true
-    → keys.Answered c.keyed (Keyed len charged) buffer
-    → Entered (record { number = c.number; key = take len buffer }) len charged c.store buffer r after left → Added c r after left
+pub added_keyed : (c : Lent) (x : Keyed) (buffer : List ℕ) {r : KeyAnswer} {after left : List ℕ} → formed c.store ≡ true
+    → keys.Answered c.keyed (Ok x) buffer
+    → Entered (record { number = c.number; key = take x.len buffer }) x c.store buffer r after left → Added c r after left
 unfolding key_refusal added_by
-added_keyed c len charged buffer {r} {after} {left} f k v = go (refusal_of e (entries c.store)) refl
+added_keyed c x buffer {r} {after} {left} f k v = go (refusal_of e (entries c.store)) refl
   where
     e : Entry
-    e = record { number = c.number; key = take len buffer }
+    e = record { number = c.number; key = take x.len buffer }
 
-    bytes_of : take len buffer ≡ key.key_bytes c.keyed
+    bytes_of : take x.len buffer ≡ key.key_bytes c.keyed
     bytes_of = ap₂ (λ (n : ℕ) (l : List ℕ). take n l) k.counted k.written ∙ key_bytes_lem c.keyed (sym k.number)
 
     same_entry : e ≡ titled c
@@ -217,7 +220,7 @@ added_keyed c len charged buffer {r} {after} {left} f k v = go (refusal_of e (en
         let o = sym (added_by_lem c 0 (refusal 0 p)) in
         record {
           number = ap keys.number_of a.0 ∙ ap (λ x. x.refused) o;
-          case = λ z. a.0 ∙ ap₂ Keyed (sym (ap keys.len_of a.0)) (sym (ap keys.charged_of a.0));
+          case = λ z. a.0 ∙ ap₂ (λ (m n : ℕ). Ok (record { len = m; charged = n })) (sym (ap keys.len_of a.0)) (sym (ap keys.charged_of a.0));
           place = ap keys.place_of a.0;
           counted = ap keys.len_of a.0 ∙ (k.counted ∙ ap (λ x. x.len) o);
           charged = ap keys.charged_of a.0 ∙ (k.charged ∙ ap (λ x. x.charged) o);
@@ -226,5 +229,5 @@ added_keyed c len charged buffer {r} {after} {left} f k v = go (refusal_of e (en
         }
     go (suc q) p =
         let a = v.refused q p in
-        let d = added_refused c q (refusal (suc q) p) (a.1.1 ∙ ap (λ (n : ℕ). padded n []) (buffer_room c k)) in
-        subst (λ (x : KeyAnswer). Added c x after left) (sym a.0) (subst (λ (l : List ℕ). Added c (Refused (suc q) 0) l left) (sym a.1.0) d)
+        let d = added_refused c a.0.0 (refusal (suc q) p ∙ sym a.0.2) a.0.3 (a.1.1 ∙ ap (λ (n : ℕ). padded n []) (buffer_room c k)) in
+        subst (λ (y : KeyAnswer). Added c y after left) (sym a.0.1) (subst (λ (l : List ℕ). Added c (Err a.0.0) l left) (sym a.1.0) d)

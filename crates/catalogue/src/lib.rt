@@ -3,71 +3,72 @@
 #![tactic(auto)]
 
 ghost use Rattle.std.specs.Prelude.{◌≡◌, true, ◌≤◌, length, take, []};
+ghost use Rattle.questions.specs.Refusal.{refused, refused_at};
 ghost use Rattle.questions.specs.Buffer.{padded};
 ghost use Rattle.catalogue_form.specs.Form.{formed};
 ghost use Rattle.key.specs.Promises as keys;
-ghost use Rattle.key.specs.declared.KeyAnswer.TheVariants as answers;
 ghost use Rattle.catalogue.specs.Catalogue.{entry_refusal};
 ghost use Rattle.catalogue.specs.Promises.{lent, Added, Entered, Removed, Finds};
 
 use catalogue_distinct::ENTRIES;
 use catalogue_form::{FRONT, numbers};
-use key::KeyAnswer;
+use key::Keyed;
+use questions::refusal::Refusal;
 
 /// The bytes that a key may have in a catalogue.
 const KEY: usize = 255;
 
-/// What finding a key answers: the number of the refusal, 0 for none; the entries that have the key, and the smallest
-/// of their numbers.
-#[derive(Clone, Copy)]
+/// What finding a key answers: the entries that have the key, and the smallest of their numbers.
+#[derive(Clone, Copy, Debug, PartialEq, Eq)]
 pub struct Found {
-    pub refused: u32,
     pub entries: usize,
     pub number: u32,
 }
 
 /// A refused add: the key's buffer is cleared.
-fn refuse(number: u32, key: &mut [u8]) -> KeyAnswer
-    ensures value { result ≡ answers.Refused number 0 }
+fn refuse(refusal: Refusal, key: &mut [u8]) -> Result<Keyed, Refusal>
+    ensures value { result ≡ Err refusal }
     ensures key_after { key.new ≡ padded (length key.old) [] }
 {
     questions::clear(key, 0);
-    KeyAnswer::Refused { number, place: 0 }
+    Err(refusal)
 }
 
-/// The number with which an entry is refused, 0 for none: by whether its number is present, by the bytes of its key, and
-/// by how many entries there are.
-fn entry_refusal(present: bool, len: usize, n: usize) -> u32
-    ensures { result ≡ entry_refusal present len n }
+/// With what an entry is refused: by whether its number is present, by the bytes of its key, and by how many entries there
+/// are.
+fn entry_refusal(present: bool, len: usize, n: usize) -> Result<(), Refusal>
+    ensures number { refused result ≡ entry_refusal present len n }
+    ensures place { refused_at result ≡ 0 }
 {
     if present {
-        return 12;
+        return Err(Refusal::CatalogueMismatch);
     }
     if len > KEY {
-        return 13;
+        return Err(Refusal::KeyTooLong);
     }
     if n >= ENTRIES {
-        return 14;
+        return Err(Refusal::CatalogueFull);
     }
-    0
+    Ok(())
 }
 
 /// Enters the title whose key stands in the front of its buffer, unless it is refused.
-fn enter(len: usize, charged: usize, number: u32, store: &mut [u8], key: &mut [u8]) -> KeyAnswer
+fn enter(keyed: Keyed, number: u32, store: &mut [u8], key: &mut [u8]) -> Result<Keyed, Refusal>
     requires store_value { formed store.old ≡ true }
-    requires len_in_bounds { len ≤ length key.old }
-    ensures { Entered (record { number = number; key = take len key.old }) len charged store.old key.old result
+    requires len_in_bounds { keyed.len ≤ length key.old }
+    ensures { Entered (record { number = number; key = take keyed.len key.old }) keyed store.old key.old result
         store.new key.new }
 {
     let n = numbers::number(store, 0) as usize;
     let at = catalogue_places::position(&store[FRONT..], n, number);
     let present = catalogue_places::stands(&store[FRONT..], n, number, at);
-    let why = entry_refusal(present, len, n);
-    if why > 0 {
-        return refuse(why, key);
+    match entry_refusal(present, keyed.len, n) {
+        Ok(()) => {
+            catalogue_changes::insert(store, n, at, number, &key[..keyed.len]);
+            Ok(keyed)
+        }
+        Err(refusal) => refuse(refusal, key),
     }
-    catalogue_changes::insert(store, n, at, number, &key[..len]);
-    KeyAnswer::Keyed { len, charged }
 }
 
 /// Adds a title, with a number of the caller's own; its key is left in the buffer.
@@ -79,52 +80,44 @@ pub fn add(
     number: u32,
     store: &mut [u8],
     key: &mut [u8],
-) -> KeyAnswer
+) -> Result<Keyed, Refusal>
     ensures { Added (lent (keys.lent cells.now initial width title.now key.old) number store.old) result
         store.new key.new }
 {
     if !catalogue_form::form(store) {
-        return refuse(12, key);
+        return refuse(Refusal::CatalogueMismatch, key);
     }
-    let answer = key::key(cells, initial, width, title, key);
-    match answer {
-        KeyAnswer::Keyed { len, charged } => enter(len, charged, number, store, key),
-        KeyAnswer::Refused { number, place } => KeyAnswer::Refused { number, place },
-    }
+    let keyed = key::key(cells, initial, width, title, key)?;
+    enter(keyed, number, store, key)
 }
 
-/// Removes the entry of a number. Answers the number of the refusal, 0 for none.
-pub fn remove(store: &mut [u8], number: u32) -> u32
+/// Removes the entry of a number.
+pub fn remove(store: &mut [u8], number: u32) -> Result<(), Refusal>
     ensures { Removed store.old number result store.new }
 {
     if !catalogue_form::form(store) {
-        return 12;
+        return Err(Refusal::CatalogueMismatch);
     }
     let n = numbers::number(store, 0) as usize;
     let at = catalogue_places::position(&store[FRONT..], n, number);
     if !catalogue_places::stands(&store[FRONT..], n, number, at) {
-        return 12;
+        return Err(Refusal::CatalogueMismatch);
     }
     catalogue_changes::delete(store, n, at);
-    0
+    Ok(())
 }
 
 /// Finds the entries that have a key.
-pub fn find(store: &[u8], key: &[u8]) -> Found
+pub fn find(store: &[u8], key: &[u8]) -> Result<Found, Refusal>
     ensures { Finds store.now key.now result }
 {
     if !catalogue_form::form(store) {
-        return Found {
-            refused: 12,
-            entries: 0,
-            number: 0,
-        };
+        return Err(Refusal::CatalogueMismatch);
     }
     let n = numbers::number(store, 0) as usize;
     let held = catalogue_places::having(&store[FRONT..], n, key);
-    Found {
-        refused: 0,
+    Ok(Found {
         entries: held.entries,
         number: held.number,
-    }
+    })
 }

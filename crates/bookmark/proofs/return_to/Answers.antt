@@ -7,21 +7,9 @@ use lib.ListN.{length, take, drop, length-drop}
 use lib.Seq.{length-take-le}
 use Rattle.reading.specs.WithoutBuffers.{lent, refusal}
 use Rattle.bookmark_form.specs.Form.{named}
+use Rattle.questions.specs.declared.refusal.Refusal.TheVariants.{BookmarkMismatch}
 use Rattle.bookmark.specs.Promises.{returning}
-use Rattle.bookmark.proofs.Refusals.{
-  not_taken,
-  not_left,
-  none_failed,
-  return_questioned,
-  return_refused,
-  return_none,
-  return_resumed,
-  may_name,
-  may_unset,
-  may_not,
-  may,
-  name_known,
-}
+use Rattle.bookmark.proofs.Refusals.{return_questioned, return_refused, return_none, return_resumed, may_name, may_unset, may_not, may, name_known}
 use Rattle.bookmark.proofs.Reaching.{short_input, store_long}
 use Rattle.bookmark.proofs.return_to.Goals as goal
 
@@ -31,21 +19,21 @@ part-named store name =
     let e : name * 287 + 287 - name * 287 ≡ 287 = omega arith in
     ap (λ (k : ℕ). take k (drop (name * 287) store)) e
 
-pub returns-then-q-gt0 : goal.returns-then-q-gt0
+pub returns-in-Err : goal.returns-in-Err
 unfolding refusal
-returns-then-q-gt0 c =
+returns-in-Err c =
     let a = c.args in
     return_questioned (returning (lent a.cells.now a.initial a.width a.input.now) a.name a.store.now a.text.now a.issues.now) _
-    (sym c.first-q.ensures) c.if-q-gt0.true refl refl c.refuse.ensures
+    c.in-Err.ensures.number c.in-Err.ensures.place refl refl c.refuse.ensures
 
 pub returns-then-not-name_holds : goal.returns-then-not-name_holds
 unfolding refusal
 returns-then-not-name_holds c =
     let a = c.args in
     let lends = returning (lent a.cells.now a.initial a.width a.input.now) a.name a.store.now a.text.now a.issues.now in
-    return_refused lends 14
-    (return_none lends (none_failed c.first-q.ensures c.if-q-gt0.false)
-    (may_name lends (sym c.name_holds.ensures ∙ c.if-not-name_holds.true))) refl refl c.refuse-then-not-name_holds.ensures
+    return_refused lends BookmarkMismatch
+    (return_none lends (sym c.in_default.ensures.number)
+    (may_name lends (sym c.name_holds.ensures ∙ c.if-not-name_holds.true))) refl refl refl c.refuse-then-not-name_holds.ensures
 
 pub slice_bounds-l-end : goal.slice_bounds-l-end
 slice_bounds-l-end c =
@@ -58,7 +46,7 @@ returns-then-l-ne1 c =
     let a = c.args in
     let lends = returning (lent a.cells.now a.initial a.width a.input.now) a.name a.store.now a.text.now a.issues.now in
     let none = may_unset lends (part-named a.store.now a.name) c.if-l-ne1.true in
-    return_refused lends 14 (return_none lends (none_failed c.first-q.ensures c.if-q-gt0.false) none) refl refl c.refuse-then-l-ne1.ensures
+    return_refused lends BookmarkMismatch (return_none lends (sym c.in_default.ensures.number) none) refl refl refl c.refuse-then-l-ne1.ensures
 
 pub resumable-requires : goal.resumable-requires
 unfolding refusal
@@ -67,7 +55,7 @@ resumable-requires c =
     let n = name_known a.store.now a.name (sym c.name_holds.ensures ∙ c.if-not-name_holds.false) in
     let k : a.name * 287 + 287 - a.name * 287 ≤ length (drop (a.name * 287) a.store.now) = omega
     (arith, n.0, store_long a.store.now n.1, length-drop (a.name * 287) a.store.now) in (
-      short_input (lent a.cells.now a.initial a.width a.input.now) (none_failed c.first-q.ensures c.if-q-gt0.false),
+      short_input (lent a.cells.now a.initial a.width a.input.now) (sym c.in_default.ensures.number),
       length-take-le _ _ k ∙
           (let e : a.name * 287 + 287 - a.name * 287 ≡ 287 = omega arith in e),
     )
@@ -78,7 +66,7 @@ returns-then-not-resumable c =
     let a = c.args in
     let lends = returning (lent a.cells.now a.initial a.width a.input.now) a.name a.store.now a.text.now a.issues.now in
     let none = may_not lends (part-named a.store.now a.name) (sym c.resumable.ensures ∙ c.if-not-resumable.true) in
-    return_refused lends 14 (return_none lends (none_failed c.first-q.ensures c.if-q-gt0.false) none) refl refl c.refuse-then-not-resumable.ensures
+    return_refused lends BookmarkMismatch (return_none lends (sym c.in_default.ensures.number) none) refl refl refl c.refuse-then-not-resumable.ensures
 
 pub read_on-requires : goal.read_on-requires
 unfolding refusal
@@ -88,7 +76,7 @@ read_on-requires c =
     let k : a.name * 287 + 287 - a.name * 287 ≤ length (drop (a.name * 287) a.store.now) = omega
     (arith, n.0, store_long a.store.now n.1, length-drop (a.name * 287) a.store.now) in record {
       input_len_bound = (
-        short_input (lent a.cells.now a.initial a.width a.input.now) (none_failed c.first-q.ensures c.if-q-gt0.false),
+        short_input (lent a.cells.now a.initial a.width a.input.now) (sym c.in_default.ensures.number),
         length-take-le _ _ k ∙
             (let e : a.name * 287 + 287 - a.name * 287 ≡ 287 = omega arith in e),
       );
@@ -103,4 +91,4 @@ returns c =
     let e = part-named a.store.now a.name in
     let pass = may lends e (sym c.name_holds.ensures ∙ c.if-not-name_holds.false) c.if-l-ne1.false
     (sym c.resumable.ensures ∙ c.if-not-resumable.false) in
-    return_resumed lends (none_failed c.first-q.ensures c.if-q-gt0.false) pass e c.read_on.ensures
+    return_resumed lends (sym c.in_default.ensures.number) pass e c.read_on.ensures

@@ -8,6 +8,7 @@ use Rattle.reading.specs.WithoutBuffers.{lent}
 use Rattle.laws_between.proofs.Between.{between_sound}
 use Rattle.decode_outer.proofs.Start.{outside_start}
 use Rattle.bookmark_form.proofs.Places.{length_numbers}
+use Rattle.questions.specs.declared.refusal.Refusal.TheVariants.{BookmarkPlace}
 use Rattle.bookmark.specs.Promises.{setting}
 use Rattle.bookmark.proofs.Refusals.{set_place, set_refused, set_accepted, place_fails, place_holds_lem, name_known}
 use Rattle.bookmark.proofs.Reaching.{short_input, store_long, reaches, short_text, few_marks, many_marks, put_replaced}
@@ -26,7 +27,7 @@ returns-then-w-place c =
     let a = c.args in
     let lends = (setting (lent a.cells.now a.initial a.width a.input.now) a.place a.name a.store.now) in
     let w = reaches a.cells.now a.initial a.width a.input.now (short_input _ c.requires.input_value) c.start-start.ensures c.undefined-none.ensures c.top-w.ensures in
-    set_refused lends 15 (set_place lends c.requires.input_value c.requires.name_value false (place_fails _ _ (λ p. c.if-w-place.true (w.1 ∙ p.0)))) refl refl
+    set_refused lends BookmarkPlace (set_place lends c.requires.input_value c.requires.name_value false (place_fails _ _ (λ p. c.if-w-place.true (w.1 ∙ p.0)))) refl refl refl
 
 pub returns-then-d-ge-SEVENTEEN_DIGITS : goal.returns-then-d-ge-SEVENTEEN_DIGITS
 returns-then-d-ge-SEVENTEEN_DIGITS c =
@@ -34,7 +35,7 @@ returns-then-d-ge-SEVENTEEN_DIGITS c =
     let lends = (setting (lent a.cells.now a.initial a.width a.input.now) a.place a.name a.store.now) in
     let many = many_marks a.cells.now a.initial a.width a.input.now (short_input _ c.requires.input_value) c.start-start.ensures c.undefined-none.ensures
     c.top-w.ensures c.if-d-ge-SEVENTEEN_DIGITS.true in
-    set_refused lends 15 (set_place lends c.requires.input_value c.requires.name_value false (place_fails _ _ (λ p. many p.1))) refl refl
+    set_refused lends BookmarkPlace (set_place lends c.requires.input_value c.requires.name_value false (place_fails _ _ (λ p. many p.1))) refl refl refl
 
 pub overflow_mul-name : goal.overflow_mul-name
 overflow_mul-name c =
@@ -66,4 +67,4 @@ returns c =
     let at : (before g a.initial a.place).at ≡ a.place = sym w.1 ∙ c.if-w-place.false in
     let put = c.put.ensures g _ _ _ _ _ w.0 s.marks few in
     let l = length_numbers a.place (before g a.initial a.place).state s.four s.starts s.lens in
-    set_accepted lends (set_place lends c.requires.input_value c.requires.name_value true (place_holds_lem _ _ at few)) refl (put_replaced a.name n.0 (store_long a.store.now n.1) l put)
+    set_accepted lends (set_place lends c.requires.input_value c.requires.name_value true (place_holds_lem _ _ at few)) (put_replaced a.name n.0 (store_long a.store.now n.1) l put)

@@ -1,5 +1,5 @@
 -- `enter` meets its contract. Assumes nothing.
-use mathlib.Core.Path.{◌≡◌, refl, sym, ◌∙◌}
+use mathlib.Core.Path.{◌≡◌, refl, sym}
 use mathlib.Core.Bool.{true}
 use Rattle.catalogue_form.specs.Form.{value, formed}
 use Rattle.catalogue_changes.proofs.Stores.{long, few, rest_long}
@@ -57,19 +57,18 @@ stands-present-requires c =
     let h = holds store n c.requires.store_value c.number-n.ensures in
     record { n_bound = few store n h; n_in_bounds = omega (arith, rest_long store n h, few store n h) }
 
-pub returns-then-why-gt0 : goal.returns-then-why-gt0
-returns-then-why-gt0 c =
+pub returns-in-Err : goal.returns-in-Err
+returns-in-Err c =
     let a = c.args in
     let store = a.store.now in
     let n = c.number-n.result in
     let h = holds store n c.requires.store_value c.number-n.ensures in
     enter_refused store n h a.number c.position-at.result c.position-at.ensures c.stands-present.result c.stands-present.ensures
-    c.entry_refusal-why.result a.len a.charged a.key.now c.requires.len_in_bounds c.entry_refusal-why.ensures
-    c.if-why-gt0.true c.refuse.ensures.value c.refuse.ensures.key_after
+    a.keyed a.key.now c.requires.len_in_bounds _ c.in-Err.ensures.number c.in-Err.ensures.place c.refuse.ensures.value c.refuse.ensures.key_after
 
-pub slice_bounds-insert-end-2 : goal.slice_bounds-insert-end-2
-slice_bounds-insert-end-2 c =
-    sym (length-take-le c.args.len c.args.key.now c.requires.len_in_bounds)
+pub slice_bounds-insert-end-in-Ok : goal.slice_bounds-insert-end-in-Ok
+slice_bounds-insert-end-in-Ok c =
+    sym (length-take-le c.args.keyed.len c.args.key.now c.requires.len_in_bounds)
 
 pub insert-requires : goal.insert-requires
 insert-requires c =
@@ -77,21 +76,19 @@ insert-requires c =
     let store = a.store.now in
     let n = c.number-n.result in
     let h = holds store n c.requires.store_value c.number-n.ensures in
-    let none : c.entry_refusal-why.result ≡ 0 = omega (arith, c.if-why-gt0.false) in
-    let passed = passes c.stands-present.result a.len n (sym c.entry_refusal-why.ensures ∙ none) in
+    let passed = passes c.stands-present.result a.keyed.len n (sym c.in-Ok.ensures.number) in
     record {
       holds = h;
       n_bound = passed.1.1;
       at_le_n = place_low store n h a.number c.position-at.result c.position-at.ensures;
-      key_len_bound = omega (arith, passed.1.0, length-take-le a.len a.key.now c.requires.len_in_bounds);
+      key_len_bound = omega (arith, passed.1.0, length-take-le a.keyed.len a.key.now c.requires.len_in_bounds);
     }
 
-pub returns : goal.returns
-returns c =
+pub returns-in-Ok : goal.returns-in-Ok
+returns-in-Ok c =
     let a = c.args in
     let store = a.store.now in
     let n = c.number-n.result in
     let h = holds store n c.requires.store_value c.number-n.ensures in
     enter_done store n h a.number c.position-at.result c.position-at.ensures c.stands-present.result c.stands-present.ensures
-    c.entry_refusal-why.result a.len a.charged a.key.now c.requires.len_in_bounds c.entry_refusal-why.ensures
-    c.if-why-gt0.false c.insert.ensures
+    a.keyed a.key.now c.requires.len_in_bounds c.in-Ok.ensures.number c.insert.ensures
