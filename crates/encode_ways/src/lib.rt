@@ -193,8 +193,8 @@ fn size_control(a: u32, size: Size) -> u32
     let narrow = encode_states::narrow(a);
     match size {
         Size::Either => 0,
-        Size::Narrow => if narrow == 0 { 1 } else { 0 },
-        Size::Wide => if narrow == 1 { 2 } else { 0 },
+        Size::Narrow => if narrow { 0 } else { 1 },
+        Size::Wide => if narrow { 2 } else { 0 },
     }
 }
 
@@ -212,8 +212,8 @@ fn sized(a: u32, size: Size) -> u32
 {
     match size {
         Size::Either => a,
-        Size::Narrow => encode_states::resize(a, 1),
-        Size::Wide => encode_states::resize(a, 0),
+        Size::Narrow => encode_states::resize(a, true),
+        Size::Wide => encode_states::resize(a, false),
     }
 }
 
