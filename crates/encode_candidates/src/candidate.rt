@@ -30,13 +30,10 @@ impl Candidate {
     ghost use Rattle.coding.specs.Candidates.{code_length};
     ghost use Rattle.encode_candidates.specs.Packed.{cand};
 
-    /// The bytes of its code.
+    /// The bytes of its code, which of SP and APR is one.
     pub fn length(self) -> u32
         ensures { result ≡ code_length (cand self) }
     {
-        if self.set == 7 {
-            return 1;
-        }
         if self.code < 256 { 1 } else { 2 }
     }
 }

@@ -1,7 +1,11 @@
 -- A packed state in which one digit is another. Assumes nothing.
 use mathlib.Core.Path.{◌≡◌}
+use mathlib.Core.Bool.{Bool, true, false, cond}
 use Prim.Native.Nat.{ℕ, ◌+◌, ◌-◌, ◌*◌, ◌/◌, ◌%◌, ◌<◌}
 use native.Mathlib.Omega.{arith}
+use lib.Dec.{eqb}
+use mir.Val.{bool_byte}
+use borrow.Author.Tests.{eqb-false}
 use Rattle.coding.specs.State.{designate, invoke_gl, invoke_gr, resize}
 use Rattle.encode_states.specs.Packed.{set_of, unpack, Proper, Packs}
 
@@ -243,3 +247,12 @@ module _ (a n : ℕ) (h : n < 2) (p : Proper a) where
           narrow = narrow_narrow i;
         };
       }
+
+pub to_size : (a : ℕ) (b : Bool) → Proper a → Packs (with_size a (bool_byte b)) (resize (unpack a) (cond b 1 0))
+to_size a true p = to_narrow a 1 (omega arith) p
+to_size a false p = to_narrow a 0 (omega arith) p
+
+-- the size is 0 or 1
+pub narrow_not : (a : ℕ) → eqb (unpack a).narrow 1 ≡ false → (unpack a).narrow ≡ 0
+unfolding unpack
+narrow_not a e = omega (arith, eqb-false (a % 2) 1 e)

@@ -1,7 +1,6 @@
 -- The coder's state in one number below 98,304.
 use Rattle.std.specs.Prelude.{ℕ, zero, suc, ◌+◌, ◌/◌, ◌%◌, ◌<◌, ◌≡◌}
 use Rattle.coding.specs.State.{State}
-use Rattle.coding.specs.Candidates.{Size, either, narrow, wide}
 
 -- 01's set of a code: the six sets of the coder's candidates, then Macro, which stands in G3 at the Caption start. No two codes are one set
 unfoldable pub set_of : ℕ → ℕ
@@ -13,12 +12,6 @@ set_of (suc (suc (suc (suc zero)))) = 11
 set_of (suc (suc (suc (suc (suc zero))))) = 14
 set_of (suc (suc (suc (suc (suc (suc zero)))))) = 15
 set_of (suc (suc (suc (suc (suc (suc (suc x))))))) = 16 + x
-
--- the size of a number: 0 either, 1 narrow, 2 wide
-unfoldable pub size_of : ℕ → Size
-size_of zero = either
-size_of (suc zero) = narrow
-size_of (suc (suc z)) = wide
 
 -- from the lowest bit on: one for the size, two for GL, two for GR, three for a code element, the rest for G0. No two numbers are one state
 unfoldable pub unpack : ℕ → State

@@ -2,12 +2,12 @@
 // and what it pushes. A set is a code of three bits: specs/Packed.antt.
 #![tactic(auto)]
 
-ghost use Rattle.std.specs.Prelude.{◌≡◌, ◌+◌, ◌*◌, ◌/◌, ◌%◌, ◌<◌, length};
+ghost use Rattle.std.specs.Prelude.{◌≡◌, ◌+◌, ◌*◌, ◌/◌, ◌%◌, ◌<◌, cond, eqb, length};
 ghost use Rattle.sets.specs.Sets.{designation};
 ghost use Rattle.coding.specs.State.{start, set_in, designate, invoke_gl, invoke_gr, resize, lock_gl};
 ghost use Rattle.encode_states.specs.Packed.{set_of, unpack, Proper, Packs, Codes, Element};
 
-/// The start: Si (0) or Caption.
+/// The start: Si (0) or Caption, the option of the C call.
 pub fn start(initial: u32) -> u32
     ensures { Packs result (start initial) }
 {
@@ -36,11 +36,11 @@ pub fn gr(a: u32) -> u32
     a / 8 % 4
 }
 
-/// 1 where the size is narrow.
-pub fn narrow(a: u32) -> u32
-    ensures { result ≡ (unpack a).narrow }
+/// Whether the size is narrow.
+pub fn narrow(a: u32) -> bool
+    ensures { result ≡ eqb (unpack a).narrow 1 }
 {
-    a % 2
+    a % 2 == 1
 }
 
 /// The set of code x is designated to the code element n.
@@ -61,7 +61,8 @@ pub fn to_gl(a: u32, n: u32) -> u32
     a / 8 * 8 + (n * 2 + a % 2)
 }
 
-/// The code element n is invoked in GR.
+/// The code element n is invoked in GR. No twin of `to_gl`: other bits change, and another definition
+/// says how.
 pub fn to_gr(a: u32, n: u32) -> u32
     requires { Proper a × (n < 4) }
     ensures { Packs result (invoke_gr (unpack a) n) }
@@ -69,12 +70,12 @@ pub fn to_gr(a: u32, n: u32) -> u32
     a / 32 * 32 + (n * 8 + a % 8)
 }
 
-/// The size becomes narrow (1) or wide (0).
-pub fn resize(a: u32, n: u32) -> u32
-    requires { Proper a × (n < 2) }
-    ensures { Packs result (resize (unpack a) n) }
+/// The size becomes narrow or wide.
+pub fn resize(a: u32, narrow: bool) -> u32
+    requires { Proper a }
+    ensures { Packs result (resize (unpack a) (cond narrow 1 0)) }
 {
-    a / 2 * 2 + n
+    a / 2 * 2 + narrow as u32
 }
 
 /// The bytes of the designation of a candidate's set, by its code, to the code element n.

@@ -10,10 +10,14 @@ use Rattle.encode_states.specs.Written.{size_control, written, invocation, half}
 use Rattle.encode_candidates.specs.Packed.{size_of, cand}
 use Rattle.encode_candidates.specs.declared.candidate.Candidate.{Candidate}
 
--- the code element n is invoked neither in GL nor in GR
+-- the code element n is invoked neither in GL nor in GR; the two that are
 pub record Apart (s : State) (n : ℕ) : Type 0 where
   pub left : s.gl ≡ n → ⊥
   pub right : s.gr ≡ n → ⊥
+
+pub record Invoked (s : State) (l r : ℕ) : Type 0 where
+  pub left : l ≡ s.gl
+  pub right : r ≡ s.gr
 
 -- cost and link leave room for what a way adds
 pub record Sized (cost link : ℕ) : Type 0 where

@@ -12,7 +12,7 @@ ghost use Rattle.encode_states.specs.Written.{size_control};
 ghost use Rattle.encode_layer.specs.Entries.{entries_of};
 ghost use Rattle.encode_layer.specs.Layer.{bounds, Changes, Pushes};
 ghost use Rattle.encode_candidates.specs.Packed.{size_of, cand};
-ghost use Rattle.encode_ways.specs.Turn.{Apart, Sized, Small, Turn, Through, By, up_to, Control, Is, Matches, MatchAll};
+ghost use Rattle.encode_ways.specs.Turn.{Apart, Invoked, Sized, Small, Turn, Through, By, up_to, Control, Is, Matches, MatchAll};
 
 use encode_candidates::candidate::{Candidate, Size};
 use encode_layer::{Entry, Part};
@@ -69,27 +69,47 @@ fn by_shift(store: &mut [u32], part: Part, count: usize, entry: Entry, n: u32) -
     part.push(&mut *store, d, single)
 }
 
-/// Pushes the ways through the code element n of a node's state.
-fn through(store: &mut [u32], part: Part, count: usize, entry: Entry, n: u32) -> usize
-    requires { ((part.from + part.cap) * 4 ≤ length store.old) × Proper entry.state × Sized entry.cost entry.link × (n < 4) }
+/// The code elements in GL and in GR.
+#[derive(Clone, Copy)]
+struct Halves {
+    left: u32,
+    right: u32,
+}
+
+/// Pushes the ways through the code element n of a node's state. What is in GL and GR is given, since it
+/// is the same for all code elements.
+fn through(
+    store: &mut [u32],
+    part: Part,
+    count: usize,
+    entry: Entry,
+    n: u32,
+    halves: Halves,
+) -> usize
+    requires { ((part.from + part.cap) * 4 ≤ length store.old) × Proper entry.state × Invoked (unpack entry.state) halves.left halves.right ×
+        Sized entry.cost entry.link × (n < 4) }
     ensures { (cs : List Cand) (most : ℕ) (t : Turn) (p : List ℕ) → Through cs t p n entry.cost entry.link → entry.cost + 2 ≤ most →
         Pushes cs (bounds part.from part.cap part.buckets most) store.old count store.new result
         (by_ways t.base t.place t.pre t.code (through p (unpack entry.state) n)) }
 {
-    let l = encode_states::gl(entry.state);
-    let r = encode_states::gr(entry.state);
-    let in_gr = Entry {
-        link: entry.link + IN_GR,
-        ..entry
-    };
+    let l = halves.left;
+    let r = halves.right;
     if l == n {
         let c = part.push(&mut *store, count, entry);
         if r == n {
+            let in_gr = Entry {
+                link: entry.link + IN_GR,
+                ..entry
+            };
             return part.push(&mut *store, c, in_gr);
         }
         return c;
     }
     if r == n {
+        let in_gr = Entry {
+            link: entry.link + IN_GR,
+            ..entry
+        };
         return part.push(&mut *store, count, in_gr);
     }
     by_shift(&mut *store, part, count, entry, n)
@@ -114,7 +134,11 @@ fn by_element(store: &mut [u32], part: Part, count: usize, entry: Entry, n: u32,
         cost: more,
         link: k,
     };
-    through(&mut *store, part, count, designated, n)
+    let halves = Halves {
+        left: encode_states::gl(entry.state),
+        right: encode_states::gr(entry.state),
+    };
+    through(&mut *store, part, count, designated, n, halves)
 }
 
 /// Pushes the ways through each code element.
@@ -141,18 +165,22 @@ fn by_ways(store: &mut [u32], part: Part, count: usize, entry: Entry, x: u32) ->
     let a = entry.state;
     let left = encode_states::set_in(a, encode_states::gl(a));
     let right = encode_states::set_in(a, encode_states::gr(a));
-    let in_gr = Entry {
-        link: entry.link + IN_GR,
-        ..entry
-    };
     if left == x {
         let c = part.push(&mut *store, count, entry);
         if right == x {
+            let in_gr = Entry {
+                link: entry.link + IN_GR,
+                ..entry
+            };
             return part.push(&mut *store, c, in_gr);
         }
         return c;
     }
     if right == x {
+        let in_gr = Entry {
+            link: entry.link + IN_GR,
+            ..entry
+        };
         return part.push(&mut *store, count, in_gr);
     }
     by_elements(&mut *store, part, count, entry, x)
@@ -165,8 +193,8 @@ fn size_control(a: u32, size: Size) -> u32
     let narrow = encode_states::narrow(a);
     match size {
         Size::Either => 0,
-        Size::Narrow => if narrow == 0 { 1 } else { 0 },
-        Size::Wide => if narrow == 1 { 2 } else { 0 },
+        Size::Narrow => if narrow { 0 } else { 1 },
+        Size::Wide => if narrow { 2 } else { 0 },
     }
 }
 
@@ -184,8 +212,8 @@ fn sized(a: u32, size: Size) -> u32
 {
     match size {
         Size::Either => a,
-        Size::Narrow => encode_states::resize(a, 1),
-        Size::Wide => encode_states::resize(a, 0),
+        Size::Narrow => encode_states::resize(a, true),
+        Size::Wide => encode_states::resize(a, false),
     }
 }
 

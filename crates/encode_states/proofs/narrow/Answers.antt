@@ -1,4 +1,4 @@
--- `encode_states::narrow` meets its contract: 1 where the size is narrow.
+-- `encode_states::narrow` meets its contract: whether the size is narrow.
 use mathlib.Core.Path.{refl}
 use Rattle.encode_states.specs.Packed.{unpack}
 use Rattle.encode_states.proofs.narrow.Goals as goal

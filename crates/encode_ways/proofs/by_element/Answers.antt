@@ -22,7 +22,17 @@ through-requires c =
     elim c.if-set_in-x.branch [
       | then-set_in-x z ↦ record { cost_small = omega (arith, z.designation_length-more.ensures, designation_most a.x a.n c.requires.4); link_small = omega arith }
       | else-set_in-x z ↦ record { cost_small = omega arith; link_small = omega arith }
-    ] in (omega arith, c.designate.ensures.proper, g, c.requires.3)
+    ] in
+    let q = c.designate.ensures.is in (
+      omega arith,
+      c.designate.ensures.proper,
+      record {
+        left = c.gl.ensures.is ∙ sym (ap (λ (s : State). s.gl) q ∙ same_gl (unpack a.entry.state) a.n (set_of a.x));
+        right = c.gr.ensures.is ∙ sym (ap (λ (s : State). s.gr) q ∙ same_gr (unpack a.entry.state) a.n (set_of a.x));
+      },
+      g,
+      c.requires.3,
+    )
 
 pub returns : goal.returns
 returns c =
