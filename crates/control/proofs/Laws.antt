@@ -1,26 +1,17 @@
--- What holds of a code that Tables 7-15 and 7-16 leave out.
+-- What holds of a code that Tables 7-15 and 7-16 leave out, and of the names.
 -- Assumes nothing.
-use mathlib.Core.Path.{◌≡◌, refl, ap}
+use mathlib.Core.Path.{◌≡◌, refl}
 use mathlib.Core.Bool.{Bool, true, false, cond, ◌||◌, true≢false}
 use mathlib.Core.List.{List, [], ◌∷◌}
 use mathlib.Core.Option.{none}
 use Prim.Native.Nat.{ℕ}
-use Prim.Native.String.{String}
 use lib.Dec.{eqb}
-use lib.ListN.{length, get_or}
-use Rattle.control.specs.Controls.{Control, controls, listed, lookup, count_of, bytes, name_of}
-use Rattle.control.specs.declared.ControlName.{ControlName}
-
--- the answer for a name
-abbrev named : String → ControlName
-named s =
-    let b = bytes s in
-    record { bytes = get_or b 0 0 ∷ get_or b 1 0 ∷ get_or b 2 0 ∷ get_or b 3 0 ∷ get_or b 4 0 ∷ []; len = length b }
+use Rattle.control.specs.Controls.{Control, controls, listed, lookup, count_of, bytes, text_of, name_of}
 
 -- The answers for a code without an entry.
 pub record Without (c : ℕ) : Type 0 where
   pub no_params : count_of c ≡ none
-  pub no_name : name_of c ≡ record { bytes = 0 ∷ 0 ∷ 0 ∷ 0 ∷ 0 ∷ []; len = 0 }
+  pub no_name : name_of c ≡ []
 
 no_lookup : {A : Type 0} (f : Control → A) (d : A) (xs : List Control) (c : ℕ) → listed xs c ≡ false → lookup f d xs c ≡ d
 unfolding listed lookup
@@ -37,8 +28,22 @@ unfolding name_of count_of
 without c h =
     record {
       no_params = no_lookup (λ x. x.params) none controls c h;
-      no_name = ap named (no_lookup (λ x. x.name) "" controls c h);
+      no_name = no_lookup (λ x. bytes x.name) [] controls c h;
     }
+
+lookup_ap : {A B : Type 0} (g : A → B) (f : Control → A) (d : A) (xs : List Control) (c : ℕ) → lookup (λ x. g (f x)) (g d) xs c ≡ g (lookup f d xs c)
+unfolding lookup
+lookup_ap g f d [] c = refl
+lookup_ap {A} {B} g f d (x ∷ xs) c = go (eqb c x.number) (lookup_ap g f d xs c)
+  where
+    go : (b : Bool) → lookup (λ x. g (f x)) (g d) xs c ≡ g (lookup f d xs c) → cond b (g (f x)) (lookup (λ x. g (f x)) (g d) xs c) ≡ g (cond b (f x) (lookup f d xs c))
+    go true r = refl
+    go false r = r
+
+-- the bytes of a code's name are those of its text
+pub named : (c : ℕ) → name_of c ≡ bytes (text_of c)
+unfolding name_of text_of
+named c = lookup_ap bytes (λ x. x.name) "" controls c
 
 -- A0 and FF are such codes
 pub a0 : Without 0xA0

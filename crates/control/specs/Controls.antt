@@ -1,12 +1,9 @@
 -- The control codes: their names and how many parameter bytes follow, as the Rust's `name` and `fixed_params` list them.
-use Rattle.std.specs.Prelude.{ℕ, Bool, false, cond, ◌||◌, List, [], ◌∷◌, ◌≡◌, refl, eqb, length, get_or}
+use Rattle.std.specs.Prelude.{ℕ, Bool, false, cond, ◌||◌, List, [], ◌∷◌, ◌≡◌, refl, eqb, Some, None, Option as Answer}
 use Prim.Native.Char.{code}
 use Prim.Native.String as str
 use Prim.Native.String.{String}
 use Rattle.std.proofs.Math.Option.{Option, none, some}
-use Rattle.control.specs.declared.ControlName.{ControlName}
-use Rattle.control.specs.declared.Params.{Params}
-use Rattle.control.specs.declared.Params.TheVariants.{Fixed, NoEntry}
 
 -- A code with its name, and the number of its parameter bytes where that is fixed.
 pub record Control : Type 0 where
@@ -91,31 +88,21 @@ unfoldable pub bytes : String → List ℕ
 bytes str.[] = []
 bytes (str.◌∷◌ x s) = code x ∷ bytes s
 
--- The name's byte at a place, 0 past its end; and its length.
-unfoldable pub letter_of : ℕ → ℕ → ℕ
-unfolding text_of bytes
-letter_of c k = get_or (bytes (text_of c)) k 0
-
-unfoldable pub length_of : ℕ → ℕ
-unfolding text_of bytes
-length_of c = length (bytes (text_of c))
-
--- What `name` answers.
-unfoldable pub name_of : ℕ → ControlName
-unfolding letter_of length_of
-name_of c =
-    record { bytes = letter_of c 0 ∷ letter_of c 1 ∷ letter_of c 2 ∷ letter_of c 3 ∷ letter_of c 4 ∷ []; len = length_of c }
+-- The bytes of what `name` answers.
+unfoldable pub name_of : ℕ → List ℕ
+unfolding lookup bytes
+name_of c = lookup (λ x. bytes x.name) [] controls c
 
 -- What an answer of `fixed_params` says: the number of parameter bytes, where it is fixed.
-abbrev pub params_of : Params → Option ℕ
-params_of (Fixed n) = some n
-params_of NoEntry = none
+abbrev pub params_of : Answer ℕ → Option ℕ
+params_of (Some n) = some n
+params_of None = none
 
 -- Worked: APS is followed by two bytes, MACRO by a number that varies, and A0 has no entry.
 worked : count_of 0x1C ∷ count_of 0x95 ∷ count_of 0xA0 ∷ [] ≡ some 2 ∷ none ∷ none ∷ []
 unfolding count_of
 worked = refl
 
-worked_name : name_of 0x16 ≡ record { bytes = 0x50 ∷ 0x41 ∷ 0x50 ∷ 0x46 ∷ 0 ∷ []; len = 4 }
+worked_name : name_of 0x16 ≡ 0x50 ∷ 0x41 ∷ 0x50 ∷ 0x46 ∷ []
 unfolding name_of
 worked_name = refl

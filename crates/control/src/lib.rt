@@ -1,12 +1,8 @@
 // The C0 and C1 control codes of the eight-unit code (Tables 7-14 to 7-17), and the parameter bytes that follow them.
 #![tactic(auto)]
 
-ghost use Rattle.std.specs.Prelude.{◌≡◌, ◌<◌};
-ghost use Rattle.control.specs.Controls.{letter_of, name_of, count_of, params_of};
-
-mod tables;
-
-use tables::{COUNTS, LENS, NAMES};
+ghost use Rattle.std.specs.Prelude.{◌≡◌};
+ghost use Rattle.control.specs.Controls.{name_of, count_of, params_of};
 
 /// Null. Table 7-15.
 pub const NUL: u8 = 0x00;
@@ -85,61 +81,71 @@ pub const CSI: u8 = 0x9B;
 /// Time controls: 02/0 P2, 02/8 P2, or 02/9 up to F. Table 7-16.
 pub const TIME: u8 = 0x9D;
 
-/// The name of a code: the first `len` of `bytes`, and zeros after them.
-#[derive(Clone, Copy)]
-pub struct ControlName {
-    pub bytes: [u8; 5],
-    pub len: usize,
-}
-
-/// The parameter bytes of a code.
-#[derive(Clone, Copy)]
-pub enum Params {
-    /// Their number, which the bytes themselves do not change.
-    Fixed(usize),
-    /// A number that varies (COL, CDC, TIME, CSI, MACRO, ESC), or a code that is not defined.
-    NoEntry,
-}
-
-/// The byte's value; it always fits.
-fn wide(x: u8) -> usize
-    ensures { result ≡ x }
+/// The name of a C0 or C1 code; empty for the blanks of Table 7-14.
+#[tactic(auto, unfolding(crate::specs::Controls::name_of))]
+pub fn name(code: u8) -> &'static str
+    ensures { result.now ≡ name_of code }
 {
-    x as usize
-}
-
-/// One byte of a code's name, 0 past its end.
-fn letter(code: u8, k: usize) -> u8
-    requires { k < 5 }
-    ensures { result ≡ letter_of code k }
-{
-    NAMES[(code as usize) * 5 + k]
-}
-
-/// The name of a C0 or C1 code; of length 0 for the blanks of Table 7-14.
-pub fn name(code: u8) -> ControlName
-    ensures { result ≡ name_of code }
-{
-    ControlName {
-        bytes: [
-            letter(code, 0),
-            letter(code, 1),
-            letter(code, 2),
-            letter(code, 3),
-            letter(code, 4),
-        ],
-        len: wide(LENS[code as usize]) - 48,
+    match code {
+        NUL => "NUL",
+        BEL => "BEL",
+        APB => "APB",
+        APF => "APF",
+        APD => "APD",
+        APU => "APU",
+        CS => "CS",
+        APR => "APR",
+        LS1 => "LS1",
+        LS0 => "LS0",
+        PAPF => "PAPF",
+        CAN => "CAN",
+        SS2 => "SS2",
+        ESC => "ESC",
+        APS => "APS",
+        SS3 => "SS3",
+        RS => "RS",
+        US => "US",
+        SP => "SP",
+        DEL => "DEL",
+        BKF => "BKF",
+        0x81 => "RDF",
+        0x82 => "GRF",
+        0x83 => "YLF",
+        0x84 => "BLF",
+        0x85 => "MGF",
+        0x86 => "CNF",
+        WHF => "WHF",
+        SSZ => "SSZ",
+        MSZ => "MSZ",
+        NSZ => "NSZ",
+        SZX => "SZX",
+        COL => "COL",
+        FLC => "FLC",
+        CDC => "CDC",
+        POL => "POL",
+        WMM => "WMM",
+        MACRO => "MACRO",
+        HLC => "HLC",
+        RPC => "RPC",
+        SPL => "SPL",
+        STL => "STL",
+        CSI => "CSI",
+        TIME => "TIME",
+        _ => "",
     }
 }
 
-/// How many parameter bytes follow a code, where Tables 7-15 and 7-16 fix their number.
-pub fn fixed_params(code: u8) -> Params
+/// How many parameter bytes follow a code, where Tables 7-15 and 7-16 fix their number: not for COL, CDC, TIME, CSI, MACRO
+/// and ESC, nor for a code that is not defined.
+#[tactic(auto, unfolding(crate::specs::Controls::count_of))]
+pub fn fixed_params(code: u8) -> Option<usize>
     ensures { params_of result ≡ count_of code }
 {
-    let n = COUNTS[code as usize];
-    if n == b'-' {
-        Params::NoEntry
-    } else {
-        Params::Fixed(wide(n) - 48)
+    match code {
+        NUL | BEL..=LS0 | CAN | SS2 | SS3..=SP | DEL => Some(0),
+        BKF..=NSZ | SPL | STL => Some(0),
+        PAPF | SZX | FLC | POL | WMM | HLC | RPC => Some(1),
+        APS => Some(2),
+        _ => None,
     }
 }

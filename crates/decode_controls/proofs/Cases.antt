@@ -95,17 +95,13 @@ module _ (high : ℕ) where
       go true h = omega arith
       go false h = omega arith
 
-  pub leading_more : (b : List ℕ) (j : ℕ) → j < length b → 0x20 ≤ get_or b j 0 → get_or b j 0 ≤ high → leading 0x20 high (drop j b) ≡ suc (leading 0x20 high (drop (j + 1) b))
+  pub leading_more : (b : List ℕ) (j : ℕ) → j < length b → (leb 0x20 (get_or b j 0) && leb (get_or b j 0) high) ≡ true → leading 0x20 high (drop j b) ≡ suc (leading 0x20 high (drop (j + 1) b))
   unfolding leading
-  leading_more b j h p q = ap (leading 0x20 high) (drop_one b j h) ∙ (rw (le-leb 0x20 (get_or b j 0) p, le-leb (get_or b j 0) high q))
+  leading_more b j h t = ap (leading 0x20 high) (drop_one b j h) ∙ (rw t)
 
-  pub leading_low : (b : List ℕ) (j : ℕ) → j < length b → get_or b j 0 < 0x20 → leading 0x20 high (drop j b) ≡ 0
+  pub leading_stop : (b : List ℕ) (j : ℕ) → j < length b → (leb 0x20 (get_or b j 0) && leb (get_or b j 0) high) ≡ false → leading 0x20 high (drop j b) ≡ 0
   unfolding leading
-  leading_low b j h p = ap (leading 0x20 high) (drop_one b j h) ∙ (rw (lt-leb 0x20 (get_or b j 0) p))
-
-  pub leading_high : (b : List ℕ) (j : ℕ) → j < length b → 0x20 ≤ get_or b j 0 → high < get_or b j 0 → leading 0x20 high (drop j b) ≡ 0
-  unfolding leading
-  leading_high b j h p q = ap (leading 0x20 high) (drop_one b j h) ∙ (rw (le-leb 0x20 (get_or b j 0) p, lt-leb (get_or b j 0) high q))
+  leading_stop b j h t = ap (leading 0x20 high) (drop_one b j h) ∙ (rw t)
 
   pub leading_none : (b : List ℕ) (j : ℕ) → length b ≤ j → leading 0x20 high (drop j b) ≡ 0
   unfolding leading

@@ -1,30 +1,21 @@
 -- What an escape's bytes mean, by the tests of the code. Assumes nothing.
 use Prim.Native.Nat.{ℕ, ◌+◌, ◌-◌, ◌≤◌, ◌<◌}
-use mathlib.Core.Path.{◌≡◌, refl, sym, ap, subst, ◌∙◌}
+use mathlib.Core.Path.{◌≡◌, refl, ap, ◌∙◌}
 use mathlib.Core.Bool.{Bool, true, false, cond, ◌&&◌}
 use mathlib.Core.Logic.{◌⊎◌, inl, inr}
 use mathlib.Core.List.{List, [], ◌∷◌}
 use mathlib.Core.Option.{Option, none, some}
 use native.Mathlib.Omega.{arith}
-use borrow.Author.Tests.{eq-eqb, ne_eqb, le-leb, lt-leb}
+use borrow.Author.Tests.{eq-eqb, ne_eqb, le-leb, lt-leb, leb-true, eqb-true}
 use lib.Dec.{eqb, leb}
-use lib.ListN.{length, take, drop, get_or, length-drop}
-use lib.Seq.{length-take-le}
-use Rattle.sets.specs.Sets.{Compared, Designation, from_designation, to_element, selects, read_designation}
+use lib.ListN.{length, get_or}
+use Rattle.sets.specs.Sets.{Designation, from_designation, to_element, selects, read_designation}
 use Rattle.reading.specs.Controls.{locking_shift, designated, applied, applied_or}
-use Rattle.decode_state.proofs.Steps.{drop_one}
 use Rattle.decode_controls.specs.declared.Effect.{Effect}
 use Rattle.decode_controls.specs.declared.Effect.TheVariants.{Gl, Gr, Designates, UnknownEscape}
 use Rattle.decode_controls.specs.Controls.{step_of, Means}
 
 -- ---- locking shifts
-
--- what a comparison of ESC f with ESC x says of f
-pub not_final : {r : Bool} {l : List ℕ} (f x : ℕ) → l ≡ 0x1B ∷ f ∷ [] → Compared r l (0x1B ∷ x ∷ []) → r ≡ false → f ≡ x → ⊥
-not_final f x e c p q = c.unequal p (e ∙ ap (λ (y : ℕ). 0x1B ∷ y ∷ []) q)
-
-pub is_final_lem : {r : Bool} {l : List ℕ} (f x : ℕ) → l ≡ 0x1B ∷ f ∷ [] → Compared r l (0x1B ∷ x ∷ []) → r ≡ true → f ≡ x
-is_final_lem f x e c p = let q : 0x1B ∷ f ∷ [] ≡ 0x1B ∷ x ∷ [] = sym e ∙ c.equal p in cc
 
 module _ (f : ℕ) where
   pub shift_ls2 : f ≡ 0x6E → Means (locking_shift f) (Gl 2)
@@ -111,22 +102,31 @@ module _ {e : Effect} (a g f : ℕ) where
   unfolding read_designation
   two_set p q r m = means_as a g (f ∷ []) (rw (selects_no 0 a (inl (omega arith)), eq-eqb a 0x24 p, selects_yes 1 g q r)) m
 
-module _ (a g f : ℕ) where
-  -- ESC 02/4 and a byte that is not 02/9 to 02/11
-  pub two_none_g : a ≡ 0x24 → g < 0x29 ⊎ 0x2B < g → Means (applied (a ∷ g ∷ f ∷ [])) UnknownEscape
-  unfolding read_designation
-  two_none_g p q = means_as a g (f ∷ []) (rw (selects_no 0 a (inl (omega arith)), eq-eqb a 0x24 p, selects_no 1 g q)) nothing
+and_left : (u v : Bool) → (u && v) ≡ true → u ≡ true
+and_left true v e = refl
+and_left false v e = e
 
-  pub two_none : (a ≡ 0x24 → ⊥) → (g ≡ 0x20 → ⊥) ⊎ (a < 0x28 ⊎ 0x2B < a) → Means (applied (a ∷ g ∷ f ∷ [])) UnknownEscape
-  unfolding read_designation
-  two_none p (inl q) = means_as a g (f ∷ []) (go (selects 0 a) ∙ (rw (ne_eqb a 0x24 p))) nothing
-    where
-      go : (x : Bool) → cond (x && eqb g 0x20) (to_element (a - 0x28) (from_designation false true f))
-          (cond (eqb a 0x24 && selects 1 g) (to_element (g - 0x28) (from_designation true false f)) none)
-          ≡ cond (eqb a 0x24 && selects 1 g) (to_element (g - 0x28) (from_designation true false f)) none
-      go true = rw (ne_eqb g 0x20 q)
-      go false = refl
-  two_none p (inr q) = means_as a g (f ∷ []) (rw (selects_no 0 a q, ne_eqb a 0x24 p)) nothing
+and_right : (u v : Bool) → (u && v) ≡ true → v ≡ true
+and_right true v e = e
+and_right false v e = cc
+
+-- a choice whose test never passes
+never : {X : Type 0} (u : Bool) (x y : X) → (u ≡ true → ⊥) → cond u x y ≡ y
+never true x y h = absurd (h refl)
+never false x y h = refl
+
+selects_low : (low b : ℕ) → selects low b ≡ true → (0x28 + low ≤ b) × (b ≤ 0x2B)
+selects_low low b e = (leb-true _ _ (and_left _ _ e), leb-true _ _ (and_right _ _ e))
+
+-- neither form of two intermediates
+pub two_none : (a g f : ℕ) → (a ≡ 0x24 → 0x29 ≤ g → g ≤ 0x2B → ⊥) → (0x28 ≤ a → a ≤ 0x2B → g ≡ 0x20 → ⊥) → Means (applied (a ∷ g ∷ f ∷ [])) UnknownEscape
+unfolding read_designation
+two_none a g f p q =
+    means_as a g (f ∷ [])
+    (never (selects 0 a && eqb g 0x20) _ _
+    (λ e. let s = selects_low 0 a (and_left _ _ e) in q s.0 s.1 (eqb-true _ _ (and_right _ _ e)))
+    ∙ never (eqb a 0x24 && selects 1 g) _ _ (λ e. let s = selects_low 1 g (and_right _ _ e) in p (eqb-true _ _ (and_left _ _ e)) s.0 s.1))
+    nothing
 
 -- three intermediates
 module _ (a g d f : ℕ) where
@@ -135,23 +135,29 @@ module _ (a g d f : ℕ) where
   unfolding read_designation
   three_drcs p q r s m = means_as a g (d ∷ f ∷ []) (rw (eq-eqb a 0x24 p, selects_yes 0 g r s, eq-eqb d 0x20 q)) m
 
-  pub three_none_a : (a ≡ 0x24 → ⊥) → Means (applied (a ∷ g ∷ d ∷ f ∷ [])) UnknownEscape
+  pub three_none : (a ≡ 0x24 → 0x28 ≤ g → g ≤ 0x2B → d ≡ 0x20 → ⊥) → Means (applied (a ∷ g ∷ d ∷ f ∷ [])) UnknownEscape
   unfolding read_designation
-  three_none_a p = means_as a g (d ∷ f ∷ []) (rw (ne_eqb a 0x24 p)) nothing
+  three_none p =
+      means_as a g (d ∷ f ∷ [])
+      (never (eqb a 0x24 && selects 0 g && eqb d 0x20) _ _
+      (λ e.
+      let ag = and_left _ _ e in
+      let s = selects_low 0 g (and_right _ _ ag) in
+      p (eqb-true _ _ (and_left _ _ ag)) s.0 s.1 (eqb-true _ _ (and_right _ _ e))))
+      nothing
 
-  pub three_none_d : a ≡ 0x24 → (d ≡ 0x20 → ⊥) → Means (applied (a ∷ g ∷ d ∷ f ∷ [])) UnknownEscape
-  unfolding read_designation
-  three_none_d p q = means_as a g (d ∷ f ∷ []) (go (selects 0 g)) nothing
-    where
-      go : (x : Bool) → cond (eqb a 0x24 && x && eqb d 0x20) (to_element (g - 0x28) (from_designation true true f)) none ≡ none
-      go true = rw (eq-eqb a 0x24 p, ne_eqb d 0x20 q)
-      go false = rw (eq-eqb a 0x24 p)
+-- no byte, one, and five and more
+pub means_shift : (l : List ℕ) {e : Effect} → 1 ≤ length l → length l < 2 → Means (locking_shift (get_or l 0 0)) e → Means (applied l) e
+unfolding applied
+means_shift [] h k m = absurd (omega arith)
+means_shift (f ∷ []) h k m = record { says = m.says; bounded = m.bounded }
+means_shift (a ∷ b ∷ r) h k m = absurd (omega arith)
 
-  pub three_none_g : a ≡ 0x24 → g < 0x28 ⊎ 0x2B < g → Means (applied (a ∷ g ∷ d ∷ f ∷ [])) UnknownEscape
-  unfolding read_designation
-  three_none_g p q = means_as a g (d ∷ f ∷ []) (rw (eq-eqb a 0x24 p, selects_no 0 g q)) nothing
+pub few_none : (l : List ℕ) → length l < 1 → Means (applied l) UnknownEscape
+unfolding applied applied_or step_of
+few_none [] h = record { says = λ n place at s. refl; bounded = record { element = omega arith; count = omega arith } }
+few_none (a ∷ r) h = absurd (omega arith)
 
--- five bytes and more
 pub many_none : (l : List ℕ) → 5 ≤ length l → Means (applied l) UnknownEscape
 unfolding read_designation
 many_none [] h = absurd (omega arith)
@@ -160,62 +166,3 @@ many_none (a ∷ b ∷ []) h = absurd (omega arith)
 many_none (a ∷ b ∷ c ∷ []) h = absurd (omega arith)
 many_none (a ∷ b ∷ c ∷ d ∷ []) h = absurd (omega arith)
 many_none (a ∷ b ∷ c ∷ d ∷ e ∷ r) h = means_as a b (c ∷ d ∷ e ∷ r) refl nothing
-
--- ---- the escape from the ESC at i to its final byte at j
-
-pub past_four : (n : ℕ) → 1 ≤ n → (n ≡ 1 → ⊥) → (n ≡ 2 → ⊥) → (n ≡ 3 → ⊥) → (n ≡ 4 → ⊥) → 5 ≤ n
-past_four n h a b c d = omega arith
-
--- what two lists of bytes mean, where they are the same
-means_bytes : {e : Effect} {l l' : List ℕ} → l ≡ l' → Means (applied l') e → Means (applied l) e
-means_bytes {e} q m = subst (λ (l : List ℕ). Means (applied l) e) (sym q) m
-
-module _ (b : List ℕ) (i j : ℕ) (inside : j < length b) where
-  -- what stands from the place k on, by its first byte
-  from : (k n : ℕ) → k < length b → k + 1 ≡ n → drop k b ≡ get_or b k 0 ∷ drop n b
-  from k n h e = drop_one b k h ∙ ap (λ (m : ℕ). get_or b k 0 ∷ drop m b) e
-
-  pub shift_bytes_lem : j - i ≡ 1 → get_or b i 0 ≡ 0x1B → take (j + 1 - i) (drop i b) ≡ 0x1B ∷ get_or b j 0 ∷ []
-  shift_bytes_lem e h =
-      let n : j + 1 - i ≡ 2 = omega arith in
-      (λ x. take (n x) (drop i b))
-      ∙ ap (take 2) (from i j (omega arith) (omega arith) ∙ ap (λ (l : List ℕ). get_or b i 0 ∷ l) (from j (j + 1) inside refl))
-      ∙ ap (λ (x : ℕ). x ∷ get_or b j 0 ∷ []) h
-
-  module _ {e : Effect} where
-    pub means_shift : j - i ≡ 1 → Means (locking_shift (get_or b j 0)) e → Means (applied (take (j - i) (drop (i + 1) b))) e
-    unfolding applied
-    means_shift n m =
-        let q : i + 1 ≡ j = omega arith in
-        means_bytes {l' = get_or b j 0 ∷ []}
-        ((λ x. take (n x) (drop (i + 1) b)) ∙ ap (λ (k : ℕ). take 1 (drop k b)) q ∙ ap (take 1) (from j (j + 1) inside refl))
-        (record { says = m.says; bounded = m.bounded })
-
-    pub means_one : j - i ≡ 2 → Means (applied (get_or b (i + 1) 0 ∷ get_or b j 0 ∷ [])) e → Means (applied (take (j - i) (drop (i + 1) b))) e
-    means_one n m =
-        means_bytes
-        ((λ x. take (n x) (drop (i + 1) b))
-        ∙ ap (take 2) (from (i + 1) j (omega arith) (omega arith) ∙ ap (λ (l : List ℕ). get_or b (i + 1) 0 ∷ l) (from j (j + 1) inside refl)))
-        m
-
-    pub means_two : j - i ≡ 3 → Means (applied (get_or b (i + 1) 0 ∷ get_or b (i + 2) 0 ∷ get_or b j 0 ∷ [])) e → Means (applied (take (j - i) (drop (i + 1) b))) e
-    means_two n m =
-        means_bytes
-        ((λ x. take (n x) (drop (i + 1) b))
-        ∙ ap (take 3) (from (i + 1) (i + 2) (omega arith) (omega arith)
-        ∙ ap (λ (l : List ℕ). get_or b (i + 1) 0 ∷ l) (from (i + 2) j (omega arith) (omega arith)
-        ∙ ap (λ (l : List ℕ). get_or b (i + 2) 0 ∷ l) (from j (j + 1) inside refl))))
-        m
-
-    pub means_three : j - i ≡ 4 → Means (applied (get_or b (i + 1) 0 ∷ get_or b (i + 2) 0 ∷ get_or b (i + 3) 0 ∷ get_or b j 0 ∷ [])) e → Means (applied (take (j - i) (drop (i + 1) b))) e
-    means_three n m =
-        means_bytes
-        ((λ x. take (n x) (drop (i + 1) b))
-        ∙ ap (take 4) (from (i + 1) (i + 2) (omega arith) (omega arith)
-        ∙ ap (λ (l : List ℕ). get_or b (i + 1) 0 ∷ l) (from (i + 2) (i + 3) (omega arith) (omega arith)
-        ∙ ap (λ (l : List ℕ). get_or b (i + 2) 0 ∷ l) (from (i + 3) j (omega arith) (omega arith)
-        ∙ ap (λ (l : List ℕ). get_or b (i + 3) 0 ∷ l) (from j (j + 1) inside refl)))))
-        m
-
-  pub means_many : 5 ≤ j - i → Means (applied (take (j - i) (drop (i + 1) b))) UnknownEscape
-  means_many n = many_none _ (omega (arith, length-take-le (j - i) (drop (i + 1) b) (omega (arith, length-drop (i + 1) b))))

@@ -26,11 +26,11 @@ ghost use Rattle.reading.specs.Controls.{
 ghost use Rattle.reading.specs.Steps.{step};
 ghost use Rattle.decode_controls.specs.Controls.{Reads, Begins, Means, second};
 
-use control::{CDC, COL, CSI, ESC, LS0, LS1, MSZ, NSZ, Params, RPC, SSZ, SZX, TIME};
-use sets::{CharSize, Designated, GraphicSet, Shift};
+use control::{CDC, COL, CSI, ESC, LS0, LS1, MSZ, NSZ, RPC, SSZ, SZX, TIME};
+use sets::{CharSize, GraphicSet};
 
 /// What a control does.
-#[derive(Clone, Copy)]
+#[derive(Clone, Copy, Debug, PartialEq, Eq)]
 pub enum Effect {
     /// Nothing that a text shows.
     Nothing,
@@ -55,7 +55,7 @@ pub enum Effect {
 }
 
 /// A control that was read.
-#[derive(Clone, Copy)]
+#[derive(Clone, Copy, Debug, PartialEq, Eq)]
 pub struct Control {
     pub effect: Effect,
     /// The bytes that it takes.
@@ -78,50 +78,41 @@ fn leading(b: &[u8], from: usize, high: u8) -> usize
     requires { from ≤ length b.now }
     ensures { result ≡ from + leading 0x20 high (drop from b.now) }
 {
-    let mut j = from;
-    while j < b.len() {
-        let x = b[j];
-        if x < 0x20 {
+    for j in from..b.len() {
+        let leads = is_between(b[j], 0x20, high);
+        if !leads {
             return j;
         }
-        if high < x {
-            return j;
-        }
-        j += 1;
     }
-    j
+    b.len()
+}
+
+/// Whether a byte lies from `low` to `high`.
+fn is_between(x: u8, low: u8, high: u8) -> bool
+    ensures { result ≡ (leb low x && leb x high) }
+{
+    (low..=high).contains(&x)
 }
 
 /// Whether a byte ends a sequence: `low` to 07/14.
 fn is_final(f: u8, low: u8) -> bool
     ensures { result ≡ (leb low f && leb f 0x7E) }
 {
-    if f < low {
-        return false;
-    }
-    f <= 0x7E
+    is_between(f, low, 0x7E)
 }
 
-/// The locking shifts that begin with ESC. Table 7-1.
-fn locking_shift(seq: &[u8]) -> Effect
-    ensures { (f : ℕ) → seq.now ≡ ESC ∷ f ∷ [] → Means (locking_shift f) result }
+/// The locking shifts that begin with ESC, by the byte behind it. Table 7-1.
+fn locking_shift(f: u8) -> Effect
+    ensures { Means (locking_shift f) result }
 {
-    if Shift::Ls2.is(seq) {
-        return Effect::Gl(2);
+    match f {
+        0x6E => Effect::Gl(2),
+        0x6F => Effect::Gl(3),
+        0x7E => Effect::Gr(1),
+        0x7D => Effect::Gr(2),
+        0x7C => Effect::Gr(3),
+        _ => Effect::UnknownEscape,
     }
-    if Shift::Ls3.is(seq) {
-        return Effect::Gl(3);
-    }
-    if Shift::Ls1r.is(seq) {
-        return Effect::Gr(1);
-    }
-    if Shift::Ls2r.is(seq) {
-        return Effect::Gr(2);
-    }
-    if Shift::Ls3r.is(seq) {
-        return Effect::Gr(3);
-    }
-    Effect::UnknownEscape
 }
 
 /// The designation, to an element, of the set that a form and a final byte select. Table 7-3.
@@ -129,16 +120,12 @@ fn designate(element: u8, two_byte: bool, drcs: bool, f: u8) -> Effect
     requires { element < 4 }
     ensures { Means (designated (to_element element (from_designation two_byte drcs f))) result }
 {
-    let d = GraphicSet::from_designation(two_byte, drcs, f);
-    match d {
-        Designated::Set(set) => {
-            let number = set.number();
-            Effect::Designates {
-                element,
-                set: number as u8,
-            }
-        }
-        Designated::Unknown => Effect::UnknownEscape,
+    match GraphicSet::from_designation(two_byte, drcs, f) {
+        Some(set) => Effect::Designates {
+            element,
+            set: set.number() as u8,
+        },
+        None => Effect::UnknownEscape,
     }
 }
 
@@ -157,57 +144,32 @@ fn designation1(a: u8, f: u8) -> Effect
 fn designation2(a: u8, g: u8, f: u8) -> Effect
     ensures { Means (applied (a ∷ g ∷ f ∷ [])) result }
 {
-    if a == 0x24 {
-        if g < 0x29 {
-            return Effect::UnknownEscape;
-        }
-        if 0x2B < g {
-            return Effect::UnknownEscape;
-        }
-        return designate(g - 0x28, true, false, f);
+    match (a, g) {
+        (0x24, 0x29..=0x2B) => designate(g - 0x28, true, false, f),
+        (0x28..=0x2B, 0x20) => designate(a - 0x28, false, true, f),
+        _ => Effect::UnknownEscape,
     }
-    if g != 0x20 {
-        return Effect::UnknownEscape;
-    }
-    if a < 0x28 {
-        return Effect::UnknownEscape;
-    }
-    if 0x2B < a {
-        return Effect::UnknownEscape;
-    }
-    designate(a - 0x28, false, true, f)
 }
 
 /// Three: ESC 02/4 02/8+n 02/0 F, the two-byte DRCS. Table 7-2.
 fn designation3(a: u8, g: u8, d: u8, f: u8) -> Effect
     ensures { Means (applied (a ∷ g ∷ d ∷ f ∷ [])) result }
 {
-    if a != 0x24 {
-        return Effect::UnknownEscape;
+    match (a, g, d) {
+        (0x24, 0x28..=0x2B, 0x20) => designate(g - 0x28, true, true, f),
+        _ => Effect::UnknownEscape,
     }
-    if d != 0x20 {
-        return Effect::UnknownEscape;
-    }
-    if g < 0x28 {
-        return Effect::UnknownEscape;
-    }
-    if 0x2B < g {
-        return Effect::UnknownEscape;
-    }
-    designate(g - 0x28, true, true, f)
 }
 
-/// The escape sequence from the ESC at `i` to its final byte at `j`.
-fn escape_at(b: &[u8], i: usize, j: usize) -> Effect
-    requires { (i < j) × (j < length b.now) × (get_or b.now i 0 ≡ ESC) }
-    ensures { Means (applied (take (j - i) (drop (i + 1) b.now))) result }
+/// What the bytes behind ESC do, the final byte among them. Tables 7-1 and 7-2.
+fn escape_at(bytes: &[u8]) -> Effect
+    ensures { Means (applied bytes.now) result }
 {
-    let n = j - i;
-    match n {
-        1 => locking_shift(&b[i..j + 1]),
-        2 => designation1(b[i + 1], b[j]),
-        3 => designation2(b[i + 1], b[i + 2], b[j]),
-        4 => designation3(b[i + 1], b[i + 2], b[i + 3], b[j]),
+    match bytes {
+        [f] => locking_shift(*f),
+        [a, f] => designation1(*a, *f),
+        [a, g, f] => designation2(*a, *g, *f),
+        [a, g, d, f] => designation3(*a, *g, *d, *f),
         _ => Effect::UnknownEscape,
     }
 }
@@ -223,7 +185,7 @@ pub fn escape(b: &[u8], i: usize) -> Control
     }
     if is_final(b[j], 0x30) {
         return Control {
-            effect: escape_at(b, i, j),
+            effect: escape_at(&b[i + 1..j + 1]),
             used: j + 1 - i,
         };
     }
@@ -374,19 +336,13 @@ pub fn fixed(b: &[u8], i: usize) -> Control
     ensures { Reads (λ place. fixed (get_or b.now i 0) (drop (i + 1) b.now)) b.now i result }
 {
     let x = b[i];
-    let params = control::fixed_params(x);
-    match params {
-        Params::Fixed(n) => {
-            if n < b.len() - i {
-                Control {
-                    effect: Effect::Nothing,
-                    used: n + 1,
-                }
-            } else {
-                cut(b, i)
-            }
-        }
-        Params::NoEntry => Control {
+    match control::fixed_params(x) {
+        Some(n) if n < b.len() - i => Control {
+            effect: Effect::Nothing,
+            used: n + 1,
+        },
+        Some(_) => cut(b, i),
+        None => Control {
             effect: Effect::Undefined(x),
             used: 1,
         },

@@ -2,19 +2,19 @@
 use Prim.Native.Nat.{ℕ, zero, suc, ◌+◌, ◌-◌, ◌%◌, ◌≤◌, ◌<◌}
 use mathlib.Core.Path.{◌≡◌, refl, sym, ap, ◌∙◌, subst}
 use mathlib.Core.Bool.{Bool, true, false, cond, ◌&&◌, ◌||◌}
-use mathlib.Core.List.{List, [], ◌∷◌, ◌++◌}
+use mathlib.Core.List.{List, [], ◌∷◌, ◌++◌, append_assoc}
 use native.Mathlib.Nat.{zero-add}
 use native.Mathlib.Numerals.{add-one}
 use native.Mathlib.Omega.{arith}
 use borrow.Author.Tests.{eq-eqb, ne_eqb, eqb-true, eqb-false, lt-ltb, le-ltb, le-leb, leb-true}
 use lib.Dec.{T, eqb, leb, eqb→eq}
-use lib.ListN.{length, take, drop, get_or, replicate, length-append, length-drop, drop_of_length-le}
-use lib.Seq.{sets-eq, length-sets, length-take-le, take-append_seam, drop-append_seam, drop-cons}
+use lib.ListN.{length, take, drop, get_or, length-append, length-drop, drop_of_length-le}
+use lib.Seq.{sets, drop-drop, take_all, sets-eq, length-sets, length-take-le, take-append_seam, drop-append_seam, drop-cons}
 use Rattle.base.proofs.Table.{at}
+use Rattle.std.specs.List.{starts_with}
 use Rattle.lent.specs.Put.{Put}
 use Rattle.control.specs.Codes.{MACRO}
-use Rattle.sets.specs.Sets.{designation, HoldsBytes, Compared}
-use Rattle.sets.specs.declared.Sequence.{Sequence}
+use Rattle.sets.specs.Sets.{designation}
 use Rattle.issues.specs.declared.IssueKind.TheVariants.{MalformedControl}
 use Rattle.reading.specs.State.{Given, State, took, issue, truncated}
 use Rattle.reading.specs.Macros.{Run, builtin_sets, builtin_of, builtin, end_of, defined, definition, macro_cmd}
@@ -22,13 +22,14 @@ use Rattle.decode_macros.specs.declared.Command.{Command}
 use Rattle.decode_macros.specs.declared.Command.TheVariants.{Ends, Defines}
 use Rattle.decode_macros.specs.Promises.{Built, Ended, Defined, Within}
 
--- ---- the bytes of a sequence
+-- ---- bytes written over those in the middle of a buffer
 
-pub holds_fits : {q : Sequence} {xs : List ℕ} → HoldsBytes q xs → q.len ≤ length q.bytes
-holds_fits {q} {xs} h = omega (arith, ap length h.filled, length-append xs (replicate (5 - length xs) 0), h.counted)
-
-pub holds_take : {q : Sequence} {s set : ℕ} (n : ℕ) → HoldsBytes q (designation s n) → s ≡ set → take q.len q.bytes ≡ designation set n
-holds_take {q} {s} {set} n h e = rw (h.filled, h.counted, e) (take-append_seam (designation set n) _)
+pub middle : (l : List ℕ) (at n : ℕ) {m : List ℕ} (s : List ℕ) → n ≡ length s → at + length s ≤ length l → m ≡ s → take at l ++ (m ++ drop n (drop at l)) ≡ sets l at s
+middle l at n s h k e =
+    let q : at + n ≡ at + length s = omega (arith, h) in
+    ap (λ (m : List ℕ). take at l ++ (m ++ drop n (drop at l))) e
+    ∙ ap (λ (r : List ℕ). take at l ++ (s ++ r)) (drop-drop n at l ∙ ap (λ (k : ℕ). drop k l) q)
+    ∙ sym (append_assoc (take at l) s (drop (at + length s) l)) ∙ sym (sets-eq s l at k)
 
 -- ---- the built-in bodies, computed over Table 7-18
 
@@ -129,21 +130,42 @@ pub end_stop : (b : List ℕ) (j : ℕ) → j + 1 < length b → get_or b j 0 �
 unfolding end_of
 end_stop b j h p q = rw (drop_two b j h) (simp (eq-eqb _ _ p, eq-eqb _ _ q))
 
-end_more : (b : List ℕ) (j : ℕ) → j + 1 < length b → (get_or b j 0 ≡ 0x95 → get_or b (j + 1) 0 ≡ 0x4F → ⊥) → end_of (drop j b) ≡ suc (end_of (drop (j + 1) b))
-end_more b j h p = rw (drop_two b j h, drop_next b (j + 1) (j + 2) h (omega arith)) (end_one _ _ _ p)
+-- the bytes from j on, held against the macro ending
+abbrev starts : List ℕ → Bool
+starts l = starts_with eqb l (MACRO ∷ 0x4F ∷ [])
 
--- the two bytes from j on, compared with the macro ending
-end_part : (b : List ℕ) (j : ℕ) → j + 1 < length b → take (j + 2 - j) (drop j b) ≡ get_or b j 0 ∷ (get_or b (j + 1) 0 ∷ [])
-end_part b j h = let e : j + 2 - j ≡ 2 = omega arith in rw (e, drop_two b j h)
+end_at : {r : Bool} (l : List ℕ) → r ≡ starts l → r ≡ true → end_of l ≡ 0
+unfolding end_of
+end_at [] e t = refl
+end_at (x ∷ []) e t = let z : false ≡ true = go (eqb 0x95 x) (sym e ∙ t) in absurd (subst T (sym z) tt)
+  where
+    go : (u : Bool) → (u && false) ≡ true → false ≡ true
+    go true q = q
+    go false q = q
+end_at (x ∷ (y ∷ r)) e t = go (eqb 0x95 x) refl (eqb 0x4F y) refl (sym e ∙ t)
+  where
+    go : (u : Bool) → eqb 0x95 x ≡ u → (v : Bool) → eqb 0x4F y ≡ v → (u && (v && true)) ≡ true → cond (eqb x 0x95 && eqb y 0x4F) 0 (suc (end_of (y ∷ r))) ≡ 0
+    go true p true q z = rw (eq-eqb x 0x95 (sym (eqb-true _ _ p)), eq-eqb y 0x4F (sym (eqb-true _ _ q)))
+    go true p false q z = absurd (subst T (sym z) tt)
+    go false p v q z = absurd (subst T (sym z) tt)
 
-pub end_same : {r : Bool} (b : List ℕ) (j : ℕ) → j + 1 < length b → Compared r (take (j + 2 - j) (drop j b)) (MACRO ∷ 0x4F ∷ []) → r ≡ true → end_of (drop j b) ≡ 0
-end_same b j h q t =
-    let l = sym (end_part b j h) ∙ q.equal t in
-    end_stop b j h (ap (λ (m : List ℕ). get_or m 0 0) l) (ap (λ (m : List ℕ). get_or m 1 0) l)
+end_cons : {r : Bool} (x : ℕ) (l : List ℕ) → r ≡ starts (x ∷ l) → r ≡ false → end_of (x ∷ l) ≡ suc (end_of l)
+unfolding end_of
+end_cons x [] e f = refl
+end_cons x (y ∷ r) e f = end_one x y r (λ p q. go (sym f ∙ e) (eq-eqb 0x95 x (sym p)) (eq-eqb 0x4F y (sym q)))
+  where
+    go : false ≡ (eqb 0x95 x && (eqb 0x4F y && true)) → eqb 0x95 x ≡ true → eqb 0x4F y ≡ true → ⊥
+    go z p q = let w : false ≡ true = rw (p, q) at z in subst T (sym w) tt
 
-pub end_other : {r : Bool} (b : List ℕ) (j : ℕ) → j + 1 < length b → Compared r (take (j + 2 - j) (drop j b)) (MACRO ∷ 0x4F ∷ []) → r ≡ false
-    → end_of (drop j b) ≡ suc (end_of (drop (j + 1) b))
-end_other b j h q f = end_more b j h (λ x y. q.unequal f (end_part b j h ∙ rw (x, y)))
+-- all that stands from j on
+whole : (b : List ℕ) (j : ℕ) → take (length b - j) (drop j b) ≡ drop j b
+whole b j = take_all (length b - j) (drop j b) (omega (arith, length-drop j b))
+
+pub end_here : {r : Bool} (b : List ℕ) (j : ℕ) → r ≡ starts (take (length b - j) (drop j b)) → r ≡ true → end_of (drop j b) ≡ 0
+end_here b j e t = end_at (drop j b) (e ∙ ap starts (whole b j)) t
+
+pub end_past : {r : Bool} (b : List ℕ) (j : ℕ) → j < length b → r ≡ starts (take (length b - j) (drop j b)) → r ≡ false → end_of (drop j b) ≡ suc (end_of (drop (j + 1) b))
+end_past b j h e f = rw (drop_one b j h) (end_cons _ (drop (j + 1) b) (e ∙ ap starts (whole b j ∙ drop_one b j h)) f)
 
 end_last : (r : List ℕ) {n j : ℕ} → length r ≡ n - j → j ≤ n → n ≤ j + 1 → j + end_of r ≡ n
 unfolding end_of

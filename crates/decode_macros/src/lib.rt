@@ -10,7 +10,7 @@ ghost use Rattle.reading.specs.Macros.{Run, builtin_of, end_of, macro_cmd};
 ghost use Rattle.reading.specs.Macros.{definition as defines};
 ghost use Rattle.decode_macros.specs.Promises.{Built, commanded, Within};
 
-use sets::{GraphicSet, same};
+use sets::GraphicSet;
 
 /// Table 7-18, codes 60 to 6F: the sets that go to G0, G1 and G2, by 01's numbers. G3 is always the
 /// macro set.
@@ -39,14 +39,13 @@ pub fn default_macro(body: &mut [u8], code: usize) -> usize
     requires { length body.old ≡ 19 }
     ensures { Built body.old code body.new result }
 {
-    if code < 0x60 {
-        return 0;
+    match code {
+        0x60..=0x6F => {
+            let [g0, g1, g2] = BUILTIN[code - 0x60];
+            put_body(body, g0, g1, g2)
+        }
+        _ => 0,
     }
-    if code > 0x6F {
-        return 0;
-    }
-    let row = code - 0x60;
-    put_body(body, BUILTIN[row][0], BUILTIN[row][1], BUILTIN[row][2])
 }
 
 /// Designates three sets to G0, G1 and G2 and the macro set to G3, then invokes by LS0 and LS2R: writes the
@@ -69,9 +68,7 @@ fn put_designation(body: &mut [u8], at: usize, set: u8, n: u8) -> usize
     ensures { Put body.old at (designation set (n % 4)) body.new result }
 {
     let sequence = GraphicSet::from_number(set).designation(n);
-    let bytes = sequence.bytes;
-    let len = sequence.len;
-    put_bytes(body, at, &bytes[..len])
+    put_bytes(body, at, sequence.as_slice())
 }
 
 /// Writes `s` from `at` on, and answers the place behind it.
@@ -79,12 +76,9 @@ fn put_bytes(body: &mut [u8], at: usize, s: &[u8]) -> usize
     requires { at + length s.now ≤ length body.old }
     ensures { Put body.old at s.now body.new result }
 {
-    let mut i = 0;
-    while i < s.len() {
-        body[at + i] = s[i];
-        i += 1;
-    }
-    at + i
+    let end = at + s.len();
+    body[at..end].copy_from_slice(s);
+    end
 }
 
 /// How far a definition's body goes from `from` on: to the first MACRO 4F, or to the end where none is.
@@ -92,18 +86,17 @@ pub fn body_end(b: &[u8], from: usize) -> usize
     requires { from ≤ length b.now }
     ensures { result ≡ from + end_of (drop from b.now) }
 {
-    let mut j = from;
-    while j + 1 < b.len() {
-        if same(&b[j..j + 2], b"\x95\x4F") {
+    for j in from..b.len() {
+        let ends = b[j..].starts_with(b"\x95\x4F");
+        if ends {
             return j;
         }
-        j += 1;
     }
     b.len()
 }
 
 /// What MACRO does, by the bytes behind it. Table 7-16.
-#[derive(Clone, Copy)]
+#[derive(Clone, Copy, Debug, PartialEq, Eq)]
 pub enum Command {
     /// The input, or a body, ends before it does.
     Cut,

@@ -1,90 +1,14 @@
 -- Laws of the definitions of specs/Sets.antt. Assumes nothing.
-use Prim.Native.Nat.{ℕ, zero, suc, ◌+◌, ◌-◌, ◌%◌, ◌≤◌, ◌<◌}
-use mathlib.Core.Path.{◌≡◌, refl, ap, subst}
-use mathlib.Core.Logic.{◌⊎◌, inl, inr}
-use mathlib.Core.Bool.{Bool, true, false, cond, ◌&&◌, ◌||◌}
+use Prim.Native.Nat.{ℕ, zero, suc, ◌+◌, ◌<◌}
+use mathlib.Core.Path.{◌≡◌, refl, ap}
+use mathlib.Core.Bool.{Bool, true, false, cond, ◌&&◌}
 use mathlib.Core.List.{◌∷◌}
 use mathlib.Core.Option.{Option, none, some}
 use native.Mathlib.Omega.{arith}
-use borrow.Author.Tests.{ne_eqb, lt-ltb, le-ltb, le-leb, lt-leb}
-use lib.Dec.{T, eqb, leb, eqb→eq}
-use lib.ListN.{get_or, drop, replicate}
+use lib.Dec.{T, eqb, eqb→eq}
+use lib.ListN.{drop, replicate}
 use Rattle.base.proofs.Table.{every, at}
-use Rattle.sets.specs.Sets.{bytes_per_char, is_drcs_form, final_bytes, final_byte, sequence, designation, has_final, first_from, from_designation, Designation, read_designation, HoldsBytes}
-use Rattle.sets.specs.declared.Sequence.{Sequence}
-
--- bytes a character and final bytes, by the ranges that the code tests
-pub one_byte : (s : ℕ) → (s ≡ 0 → ⊥) → s < 12 ⊎ 14 < s → (s ≡ 16 → ⊥) → bytes_per_char s ≡ 1
-unfolding bytes_per_char
-one_byte s a (inl b) d = simp (ne_eqb s 0 a, lt-leb 12 s b, ne_eqb s 16 d)
-one_byte s a (inr b) d = simp (ne_eqb s 0 a, lt-leb s 14 b, le-leb 12 s (omega arith), ne_eqb s 16 d)
-
-pub two_bytes : (s : ℕ) → 12 ≤ s → s ≤ 14 → bytes_per_char s ≡ 2
-unfolding bytes_per_char
-two_bytes s a b = simp (ne_eqb s 0 (λ q. omega arith), le-leb 12 s a, le-leb s 14 b)
-
-pub final_low : (s : ℕ) → s < 16 → final_byte s ≡ get_or final_bytes s 0
-unfolding final_byte
-final_low s h = simp (lt-ltb s 16 h)
-
-pub final_high : (s : ℕ) → 16 ≤ s → final_byte s ≡ 0x40 + s % 16
-unfolding final_byte
-final_high s h = simp (le-ltb s 16 h)
-
--- an answer of `from_designation` compared with a number, and with none
-abbrev holds : Option ℕ → ℕ → Bool
-holds none x = false
-holds (some y) x = eqb y x
-
-from_holds : (o : Option ℕ) (x : ℕ) → T (holds o x) → o ≡ some x
-from_holds none x t = absurd t
-from_holds (some y) x t = ap some (eqb→eq y x t)
-
-abbrev empty : Option ℕ → Bool
-empty none = true
-empty (some y) = false
-
-from_empty : (o : Option ℕ) → T (empty o) → o ≡ none
-from_empty none t = refl
-from_empty (some y) t = absurd t
-
--- DRCS-1 to DRCS-15, computed
-pub drcs_known : (f : ℕ) → 0x41 ≤ f → f ≤ 0x4F → from_designation false true f ≡ some (16 + (f - 0x40))
-unfolding from_designation
-drcs_known f a b =
-    let k : f - 0x41 < 15 = omega arith in
-    let e : from_designation false true (0x41 + (f - 0x41)) ≡ some (17 + (f - 0x41)) =
-    from_holds _ _ (at {A = ℕ} 0 (λ j _. holds (from_designation false true (0x41 + j)) (17 + j)) (replicate 15 0) tt (f - 0x41) k) in
-    let p : 0x41 + (f - 0x41) ≡ f = omega arith in
-    let q : 17 + (f - 0x41) ≡ 16 + (f - 0x40) = omega arith in
-    rw (p, q) at e
-
--- the final bytes of the one_byte DRCS form: DRCS-1 to DRCS-15, and the macro set's
-abbrev known : ℕ → Bool
-known f = leb 0x41 f && leb f 0x4F || eqb f 0x70
-
-unknown : (f : ℕ) → (f ≡ 0x70 → ⊥) → f < 0x41 ⊎ 0x4F < f → known f ≡ false
-unknown f m (inl a) = simp (lt-leb 0x41 f a, ne_eqb f 0x70 m)
-unknown f m (inr a) = simp (lt-leb f 0x4F a, le-leb 0x41 f (omega arith), ne_eqb f 0x70 m)
-
-or_right : (a b : Bool) → T (a || b) → a ≡ false → T b
-or_right true b t e = absurd (subst T e tt)
-or_right false b t e = t
-
--- the form has no set for any other, computed
-pub drcs_unknown : (f : ℕ) → f < 256 → (f ≡ 0x70 → ⊥) → f < 0x41 ⊎ 0x4F < f → from_designation false true f ≡ none
-unfolding from_designation
-drcs_unknown f h m out =
-    from_empty _
-    (or_right (known f) _
-    (at {A = ℕ} 0 (λ k _. known k || empty (from_designation false true k)) (replicate 256 0) tt f h)
-    (unknown f m out))
-
--- a sequence that holds a row of Table 7-2 holds the designation, by what the code knows of the set
-pub designates : {q : Sequence} {count : ℕ} {form : Bool} (s n f : ℕ) (two drcs : Bool) → f ≡ final_byte s → count ≡ bytes_per_char s → eqb count 2 ≡ two → form ≡ is_drcs_form s →
-    form ≡ drcs → HoldsBytes q (sequence two drcs n f) → HoldsBytes q (designation s n)
-unfolding designation
-designates s n f two drcs e p t d u h = rw (← p, ← d, ← e, t, u) h
+use Rattle.sets.specs.Sets.{bytes_per_char, is_drcs_form, final_byte, sequence, designation, has_final, first_from, from_designation, Designation, read_designation}
 
 -- ESC begins a designation
 pub begins : (s n : ℕ) → designation s n ≡ 0x1B ∷ drop 1 (designation s n)

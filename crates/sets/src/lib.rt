@@ -3,7 +3,7 @@
 // ARIB STD-B24 volume 1 part 2, 7.1.1: Table 7-1 (invocation), Table 7-2 (designation), Table 7-3 (sets and final bytes).
 #![tactic(auto)]
 
-ghost use Rattle.std.specs.Prelude.{◌≡◌, true, false, map, ◌%◌};
+ghost use Rattle.std.specs.Prelude.{◌≡◌, ◌≤◌, true, false, map, length, ◌%◌};
 ghost use Rattle.sets.specs.Sets.{
   set_number,
   bytes_per_char,
@@ -12,7 +12,6 @@ ghost use Rattle.sets.specs.Sets.{
   designation,
   from_designation,
   designated,
-  HoldsBytes,
   shift_bytes,
   shift_element,
   Compared,
@@ -22,10 +21,13 @@ ghost use Rattle.sets.specs.Sets.{
   initial_invocations,
 };
 
-use control::ESC;
+use arrayvec::ArrayVec;
+use control::{ESC, LS0, LS1, SS2, SS3};
+
+// A set has its number and its final byte, so `number` and `from_number` say which one is meant, as `From` would not.
 
 /// A graphic set that can be designated to G0 .. G3: Table 7-3.
-#[derive(Clone, Copy)]
+#[derive(Clone, Copy, Debug, PartialEq, Eq)]
 pub enum GraphicSet {
     /// Table 7-4, two bytes a character, F = 04/2.
     Kanji,
@@ -63,20 +65,6 @@ pub enum GraphicSet {
     Macro,
 }
 
-/// The set that a designation selects, if Table 7-3 has one.
-#[derive(Clone, Copy)]
-pub enum Designated {
-    Set(GraphicSet),
-    Unknown,
-}
-
-/// A short byte string: the first `len` of `bytes`, and zeros after them.
-#[derive(Clone, Copy)]
-pub struct Sequence {
-    pub bytes: [u8; 5],
-    pub len: usize,
-}
-
 /// The sets 0 to 15 in the order of their numbers.
 const SETS: [GraphicSet; 16] = [
     GraphicSet::Kanji,
@@ -95,11 +83,6 @@ const SETS: [GraphicSet; 16] = [
     GraphicSet::JisKanjiPlane2,
     GraphicSet::AdditionalSymbols,
     GraphicSet::Macro,
-];
-
-/// The final bytes of the sets 0 to 15: Table 7-3.
-const FINAL_BYTES: [u8; 16] = [
-    0x42, 0x4A, 0x30, 0x31, 0x32, 0x33, 0x34, 0x35, 0x36, 0x37, 0x38, 0x49, 0x39, 0x3A, 0x3B, 0x70,
 ];
 
 impl GraphicSet {
@@ -123,7 +106,7 @@ impl GraphicSet {
             GraphicSet::JisKanjiPlane1 => 12,
             GraphicSet::JisKanjiPlane2 => 13,
             GraphicSet::AdditionalSymbols => 14,
-            GraphicSet::Drcs(n) => 16 + (n as u32),
+            GraphicSet::Drcs(n) => 16 + u32::from(n),
             GraphicSet::Macro => 15,
         }
     }
@@ -133,159 +116,165 @@ impl GraphicSet {
         ensures { set_number result ≡ n }
     {
         if n < 16 {
-            SETS[n as usize]
+            SETS[usize::from(n)]
         } else {
             GraphicSet::Drcs(n - 16)
         }
     }
 
     /// Bytes a character, 2 or 1: Table 7-3, "Remarks".
+    #[tactic(auto, unfolding(crate::specs::Sets::bytes_per_char))]
     pub fn bytes_per_char(self) -> usize
         ensures { result ≡ bytes_per_char (set_number self) }
     {
-        let s = self.number();
-        match s {
-            0 | 12 | 13 | 14 | 16 => 2,
+        match self {
+            GraphicSet::Drcs(0)
+            | GraphicSet::Kanji
+            | GraphicSet::JisKanjiPlane1
+            | GraphicSet::JisKanjiPlane2
+            | GraphicSet::AdditionalSymbols => 2,
             _ => 1,
         }
     }
 
     /// Whether the set is designated in the DRCS form of Table 7-2, with 02/0 before F: the macro set and the DRCS.
+    #[tactic(auto, unfolding(crate::specs::Sets::is_drcs_form))]
     pub fn is_drcs_form(self) -> bool
         ensures { result ≡ is_drcs_form (set_number self) }
     {
-        let s = self.number();
-        15 <= s
+        matches!(self, GraphicSet::Drcs(_) | GraphicSet::Macro)
     }
 
     /// The final byte F of the set's designation: Table 7-3.
+    #[tactic(auto, unfolding(crate::specs::Sets::final_byte))]
     pub fn final_byte(self) -> u8
         ensures { result ≡ final_byte (set_number self) }
     {
-        let s = self.number() as usize;
-        if s < 16 {
-            FINAL_BYTES[s]
-        } else {
-            0x40 + (s % 16) as u8
+        match self {
+            GraphicSet::Kanji => 0x42,
+            GraphicSet::Alphanumeric => 0x4A,
+            GraphicSet::Hiragana => 0x30,
+            GraphicSet::Katakana => 0x31,
+            GraphicSet::MosaicA => 0x32,
+            GraphicSet::MosaicB => 0x33,
+            GraphicSet::MosaicC => 0x34,
+            GraphicSet::MosaicD => 0x35,
+            GraphicSet::ProportionalAlphanumeric => 0x36,
+            GraphicSet::ProportionalHiragana => 0x37,
+            GraphicSet::ProportionalKatakana => 0x38,
+            GraphicSet::JisX0201Katakana => 0x49,
+            GraphicSet::JisKanjiPlane1 => 0x39,
+            GraphicSet::JisKanjiPlane2 => 0x3A,
+            GraphicSet::AdditionalSymbols => 0x3B,
+            GraphicSet::Drcs(n) => 0x40 + n % 16,
+            GraphicSet::Macro => 0x70,
         }
     }
 
     /// The set that a designation selects, by whether it was a two-byte one (ESC 02/4 ..), whether it had the DRCS form
-    /// (.. 02/0 F), and F: Tables 7-2 and 7-3.
-    pub fn from_designation(two_byte: bool, drcs: bool, f: u8) -> Designated
+    /// (.. 02/0 F), and F: Tables 7-2 and 7-3. None where Table 7-3 has no such set.
+    pub fn from_designation(two_byte: bool, drcs: bool, f: u8) -> Option<GraphicSet>
         ensures { designated result ≡ from_designation two_byte drcs f }
     {
-        if drcs {
-            if two_byte {
-                two_byte_drcs(f)
-            } else {
-                one_byte_drcs(f)
-            }
-        } else {
-            if two_byte {
-                two_byte_set(f)
-            } else {
-                one_byte_set(f)
-            }
+        match (two_byte, drcs) {
+            (false, false) => one_byte_set(f),
+            (true, false) => two_byte_set(f),
+            (false, true) => one_byte_drcs(f),
+            (true, true) => two_byte_drcs(f),
         }
     }
 
     /// The escape sequence that designates the set to Gn, n modulo 4: a row of Table 7-2 for each form.
-    pub fn designation(self, n: u8) -> Sequence
-        ensures { HoldsBytes result (designation (set_number self) (n % 4)) }
+    #[tactic(auto, unfolding(crate::specs::Sets::designation, crate::specs::Sets::sequence))]
+    pub fn designation(self, n: u8) -> ArrayVec<u8, 5>
+        ensures { result.items ≡ designation (set_number self) (n % 4) }
     {
         let e = n % 4;
         let g = 0x28 + e;
         let f = self.final_byte();
-        let count = self.bytes_per_char();
-        if self.is_drcs_form() {
-            if count == 2 {
-                return Sequence {
-                    bytes: [ESC, 0x24, g, 0x20, f],
-                    len: 5,
-                };
-            }
-            return Sequence {
-                bytes: [ESC, g, 0x20, f, 0],
-                len: 4,
-            };
-        }
-        if count == 2 {
-            if e == 0 {
-                return Sequence {
-                    bytes: [ESC, 0x24, f, 0, 0],
-                    len: 3,
-                };
-            }
-            return Sequence {
-                bytes: [ESC, 0x24, g, f, 0],
-                len: 4,
-            };
-        }
-        Sequence {
-            bytes: [ESC, g, f, 0, 0],
-            len: 3,
+        match (self.bytes_per_char(), self.is_drcs_form()) {
+            (2, true) => sequence(&[ESC, 0x24, g, 0x20, f]),
+            (2, false) if e == 0 => sequence(&[ESC, 0x24, f]),
+            (2, false) => sequence(&[ESC, 0x24, g, f]),
+            (_, true) => sequence(&[ESC, g, 0x20, f]),
+            (_, false) => sequence(&[ESC, g, f]),
         }
     }
 }
 
+/// These bytes, at most five.
+fn sequence(bytes: &[u8]) -> ArrayVec<u8, 5>
+    requires { length bytes.now ≤ 5 }
+    ensures { result.items ≡ bytes.now }
+{
+    let mut sequence = ArrayVec::new();
+    for x in bytes {
+        sequence.push(*x);
+    }
+    sequence
+}
+
 /// The one-byte sets that are not in the DRCS form: Table 7-3.
-fn one_byte_set(f: u8) -> Designated
+#[tactic(auto, unfolding(crate::specs::Sets::from_designation))]
+fn one_byte_set(f: u8) -> Option<GraphicSet>
     ensures { designated result ≡ from_designation false false f }
 {
     match f {
-        0x4A => Designated::Set(GraphicSet::Alphanumeric),
-        0x30 => Designated::Set(GraphicSet::Hiragana),
-        0x31 => Designated::Set(GraphicSet::Katakana),
-        0x32 => Designated::Set(GraphicSet::MosaicA),
-        0x33 => Designated::Set(GraphicSet::MosaicB),
-        0x34 => Designated::Set(GraphicSet::MosaicC),
-        0x35 => Designated::Set(GraphicSet::MosaicD),
-        0x36 => Designated::Set(GraphicSet::ProportionalAlphanumeric),
-        0x37 => Designated::Set(GraphicSet::ProportionalHiragana),
-        0x38 => Designated::Set(GraphicSet::ProportionalKatakana),
-        0x49 => Designated::Set(GraphicSet::JisX0201Katakana),
-        _ => Designated::Unknown,
+        0x4A => Some(GraphicSet::Alphanumeric),
+        0x30 => Some(GraphicSet::Hiragana),
+        0x31 => Some(GraphicSet::Katakana),
+        0x32 => Some(GraphicSet::MosaicA),
+        0x33 => Some(GraphicSet::MosaicB),
+        0x34 => Some(GraphicSet::MosaicC),
+        0x35 => Some(GraphicSet::MosaicD),
+        0x36 => Some(GraphicSet::ProportionalAlphanumeric),
+        0x37 => Some(GraphicSet::ProportionalHiragana),
+        0x38 => Some(GraphicSet::ProportionalKatakana),
+        0x49 => Some(GraphicSet::JisX0201Katakana),
+        _ => None,
     }
 }
 
 /// The two-byte sets that are not in the DRCS form: Table 7-3.
-fn two_byte_set(f: u8) -> Designated
+#[tactic(auto, unfolding(crate::specs::Sets::from_designation))]
+fn two_byte_set(f: u8) -> Option<GraphicSet>
     ensures { designated result ≡ from_designation true false f }
 {
     match f {
-        0x42 => Designated::Set(GraphicSet::Kanji),
-        0x39 => Designated::Set(GraphicSet::JisKanjiPlane1),
-        0x3A => Designated::Set(GraphicSet::JisKanjiPlane2),
-        0x3B => Designated::Set(GraphicSet::AdditionalSymbols),
-        _ => Designated::Unknown,
+        0x42 => Some(GraphicSet::Kanji),
+        0x39 => Some(GraphicSet::JisKanjiPlane1),
+        0x3A => Some(GraphicSet::JisKanjiPlane2),
+        0x3B => Some(GraphicSet::AdditionalSymbols),
+        _ => None,
     }
 }
 
 /// The one-byte sets in the DRCS form, DRCS-1 to DRCS-15 and the macro set: Table 7-3.
-fn one_byte_drcs(f: u8) -> Designated
+#[tactic(auto, unfolding(crate::specs::Sets::from_designation))]
+fn one_byte_drcs(f: u8) -> Option<GraphicSet>
     ensures { designated result ≡ from_designation false true f }
 {
     match f {
-        0x41..=0x4F => Designated::Set(GraphicSet::Drcs(f - 0x40)),
-        0x70 => Designated::Set(GraphicSet::Macro),
-        _ => Designated::Unknown,
+        0x41..=0x4F => Some(GraphicSet::Drcs(f - 0x40)),
+        0x70 => Some(GraphicSet::Macro),
+        _ => None,
     }
 }
 
 /// The two-byte set in the DRCS form, DRCS-0: Table 7-3.
-fn two_byte_drcs(f: u8) -> Designated
+#[tactic(auto, unfolding(crate::specs::Sets::from_designation))]
+fn two_byte_drcs(f: u8) -> Option<GraphicSet>
     ensures { designated result ≡ from_designation true true f }
 {
     if f == 0x40 {
-        Designated::Set(GraphicSet::Drcs(0))
+        Some(GraphicSet::Drcs(0))
     } else {
-        Designated::Unknown
+        None
     }
 }
 
 /// Locking and single shifts: Table 7-1.
-#[derive(Clone, Copy)]
+#[derive(Clone, Copy, Debug, PartialEq, Eq)]
 pub enum Shift {
     /// LS0, 00/15: G0 to GL, locking.
     Ls0,
@@ -309,46 +298,19 @@ pub enum Shift {
 
 impl Shift {
     /// The coded representation: Table 7-1.
-    pub fn bytes(self) -> Sequence
-        ensures { HoldsBytes result (shift_bytes self) }
+    pub fn bytes(self) -> &'static [u8]
+        ensures { result.now ≡ shift_bytes self }
     {
         match self {
-            Shift::Ls0 => Sequence {
-                bytes: *b"\x0F\0\0\0\0",
-                len: 1,
-            },
-            Shift::Ls1 => Sequence {
-                bytes: *b"\x0E\0\0\0\0",
-                len: 1,
-            },
-            Shift::Ls2 => Sequence {
-                bytes: *b"\x1B\x6E\0\0\0",
-                len: 2,
-            },
-            Shift::Ls3 => Sequence {
-                bytes: *b"\x1B\x6F\0\0\0",
-                len: 2,
-            },
-            Shift::Ls1r => Sequence {
-                bytes: *b"\x1B\x7E\0\0\0",
-                len: 2,
-            },
-            Shift::Ls2r => Sequence {
-                bytes: *b"\x1B\x7D\0\0\0",
-                len: 2,
-            },
-            Shift::Ls3r => Sequence {
-                bytes: *b"\x1B\x7C\0\0\0",
-                len: 2,
-            },
-            Shift::Ss2 => Sequence {
-                bytes: *b"\x19\0\0\0\0",
-                len: 1,
-            },
-            Shift::Ss3 => Sequence {
-                bytes: *b"\x1D\0\0\0\0",
-                len: 1,
-            },
+            Shift::Ls0 => &[LS0],
+            Shift::Ls1 => &[LS1],
+            Shift::Ls2 => &[ESC, 0x6E],
+            Shift::Ls3 => &[ESC, 0x6F],
+            Shift::Ls1r => &[ESC, 0x7E],
+            Shift::Ls2r => &[ESC, 0x7D],
+            Shift::Ls3r => &[ESC, 0x7C],
+            Shift::Ss2 => &[SS2],
+            Shift::Ss3 => &[SS3],
         }
     }
 
@@ -356,17 +318,7 @@ impl Shift {
     pub fn is(self, seq: &[u8]) -> bool
         ensures { Compared result seq.now (shift_bytes self) }
     {
-        match self {
-            Shift::Ls0 => same(seq, b"\x0F"),
-            Shift::Ls1 => same(seq, b"\x0E"),
-            Shift::Ls2 => same(seq, b"\x1B\x6E"),
-            Shift::Ls3 => same(seq, b"\x1B\x6F"),
-            Shift::Ls1r => same(seq, b"\x1B\x7E"),
-            Shift::Ls2r => same(seq, b"\x1B\x7D"),
-            Shift::Ls3r => same(seq, b"\x1B\x7C"),
-            Shift::Ss2 => same(seq, b"\x19"),
-            Shift::Ss3 => same(seq, b"\x1D"),
-        }
+        seq == self.bytes()
     }
 
     /// The code element, 0 to 3 for G0 to G3, that the shift invokes.
@@ -387,25 +339,8 @@ impl Shift {
     }
 }
 
-/// Whether two byte strings are the same.
-pub fn same(a: &[u8], b: &[u8]) -> bool
-    ensures { Compared result a.now b.now }
-{
-    if a.len() != b.len() {
-        return false;
-    }
-    let mut i = 0;
-    while i < a.len() {
-        if a[i] != b[i] {
-            return false;
-        }
-        i += 1;
-    }
-    true
-}
-
 /// The character size that SSZ, MSZ, NSZ or SZX selects: Table 7-16.
-#[derive(Clone, Copy)]
+#[derive(Clone, Copy, Debug, PartialEq, Eq)]
 pub enum CharSize {
     /// SSZ, 08/8.
     Small,
@@ -422,24 +357,22 @@ impl CharSize {
     pub fn is_narrow(self) -> bool
         ensures { result ≡ is_narrow self }
     {
-        match self {
-            CharSize::Small => true,
-            CharSize::Middle => true,
-            CharSize::Normal => false,
-            CharSize::Szx(p) => p == 0x60,
-        }
+        matches!(
+            self,
+            CharSize::Small | CharSize::Middle | CharSize::Szx(0x60)
+        )
     }
 }
 
 /// What is designated and invoked before the first byte: for captions by part 3, Table 8-2, for SI with katakana in G3.
-#[derive(Clone, Copy)]
+#[derive(Clone, Copy, Debug, PartialEq, Eq)]
 pub enum InitialState {
     Si,
     Caption,
 }
 
 /// The code elements in GL and GR.
-#[derive(Clone, Copy)]
+#[derive(Clone, Copy, Debug, PartialEq, Eq)]
 pub struct Invocations {
     pub gl: u8,
     pub gr: u8,

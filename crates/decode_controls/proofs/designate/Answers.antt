@@ -9,13 +9,13 @@ use Rattle.decode_controls.proofs.designate.Goals as goal
 
 pub overflow_cast-result : goal.overflow_cast-result
 overflow_cast-result c =
-    let q = known_set _ _ _ _ (sym c.from_designation-d.ensures ∙ ap designated c.in-Set.is) in
-    record { fits = omega (arith, q, c.number-number.ensures) }
+    let q = known_set _ _ _ _ (sym c.from_designation.ensures ∙ ap designated c.in-Some.is) in
+    record { fits = omega (arith, q, c.number.ensures) }
 
-pub returns-in-Set : goal.returns-in-Set
-returns-in-Set c =
-    let found = c.from_designation-d.ensures in
-    means_set _ _ _ c.requires (sym found ∙ ap designated c.in-Set.is ∙ ap some (sym c.number-number.ensures))
+pub returns-in-Some : goal.returns-in-Some
+returns-in-Some c =
+    let found = c.from_designation.ensures in
+    means_set _ _ _ c.requires (sym found ∙ ap designated c.in-Some.is ∙ ap some (sym c.number.ensures))
 
-pub returns-in-Unknown : goal.returns-in-Unknown
-returns-in-Unknown c = means_none _ _ (sym c.from_designation-d.ensures ∙ ap designated c.in-Unknown.is)
+pub returns-in-None : goal.returns-in-None
+returns-in-None c = means_none _ _ (sym c.from_designation.ensures ∙ ap designated c.in-None.is)

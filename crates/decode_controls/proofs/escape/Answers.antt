@@ -1,9 +1,12 @@
 -- `escape` meets its contract. Assumes nothing.
-use mathlib.Core.Path.{refl, sym, ◌∙◌}
+use Prim.Native.Nat.{◌+◌, ◌-◌}
+use mathlib.Core.Path.{◌≡◌, refl, sym, ◌∙◌}
+use lib.ListN.{take, drop}
 use native.Mathlib.Omega.{arith}
 use Rattle.decode_controls.proofs.Effects.{reads_of, bounded}
 use Rattle.decode_controls.proofs.Cases.{escape_cut, escape_final, escape_none}
-use Rattle.decode_controls.specs.Controls.{step_of}
+use Rattle.decode_controls.specs.Controls.{step_of, Means}
+use Rattle.reading.specs.Controls.{applied}
 use Rattle.decode_controls.proofs.escape.Goals as goal
 
 pub returns-then-b-j : goal.returns-then-b-j
@@ -18,7 +21,8 @@ returns-then-is_final c =
     let inside = c.requires.0 in
     let led = c.leading-j in
     let more = c.if-b-j.false in
-    let means = c.escape_at.ensures in
+    let n : led.result + 1 - (a.i + 1) ≡ led.result - a.i = omega arith in
+    let means : Means (applied (take (led.result - a.i) (drop (a.i + 1) a.b.now))) c.escape_at.result = rw n at c.escape_at.ensures in
     reads_of _ _ means.bounded (omega (arith, led.ensures)) (omega (arith, led.ensures))
     (λ place at s.
     escape_final a.b.now a.i led.result place at s inside led.ensures more (sym c.is_final.ensures ∙ c.if-is_final.true) ∙ means.says _ place at s)

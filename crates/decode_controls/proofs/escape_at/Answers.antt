@@ -1,41 +1,12 @@
--- `escape_at` meets its contract. Assumes nothing.
-use lib.ListN.{get_or}
-use native.Mathlib.Omega.{arith}
-use Rattle.decode_controls.proofs.Escapes.{shift_bytes_lem, means_shift, means_one, means_two, means_three, past_four, means_many}
+-- `escape_at` meets its contract: a row of Tables 7-1 and 7-2 for each number of bytes. Assumes nothing.
+use Rattle.decode_controls.proofs.Escapes.{means_shift, few_none, many_none}
 use Rattle.decode_controls.proofs.escape_at.Goals as goal
 
-pub returns-in-1 : goal.returns-in-1
-returns-in-1 c =
-    let b = c.args.b.now in
-    let i = c.args.i in
-    let j = c.args.j in
-    means_shift b i j c.requires.1 c.in-1.is
-    (c.locking_shift.ensures (get_or b j 0) (shift_bytes_lem b i j c.requires.1 c.in-1.is c.requires.2))
-
-pub returns-in-2 : goal.returns-in-2
-returns-in-2 c =
-    let b = c.args.b.now in
-    let i = c.args.i in
-    let j = c.args.j in
-    means_one b i j c.requires.1 c.in-2.is c.designation1.ensures
-
-pub returns-in-3 : goal.returns-in-3
-returns-in-3 c =
-    let b = c.args.b.now in
-    let i = c.args.i in
-    let j = c.args.j in
-    means_two b i j c.requires.1 c.in-3.is c.designation2.ensures
-
-pub returns-in-4 : goal.returns-in-4
-returns-in-4 c =
-    let b = c.args.b.now in
-    let i = c.args.i in
-    let j = c.args.j in
-    means_three b i j c.requires.1 c.in-4.is c.designation3.ensures
+pub returns-in-len1 : goal.returns-in-len1
+returns-in-len1 c = means_shift _ c.in-len1.len_at_least c.in-len1.len_below c.locking_shift.ensures
 
 pub returns-in_default : goal.returns-in_default
-returns-in_default c =
-    let b = c.args.b.now in
-    let i = c.args.i in
-    let j = c.args.j in
-    means_many b i j c.requires.1 (past_four _ (omega (arith, c.requires.0)) c.in_default.in_default-own.rest.0.0.0.1 c.in_default.in_default-own.rest.0.0.1 c.in_default.in_default-own.rest.0.1 c.in_default.in_default-own.rest.1)
+returns-in_default c = few_none _ c.in_default.len_below
+
+pub returns-in_default-2 : goal.returns-in_default-2
+returns-in_default-2 c = many_none _ c.in_default.len_at_least

@@ -7,26 +7,20 @@ use Rattle.decode_controls.proofs.Cases.{fixed_all, fixed_cut, fixed_undefined}
 use Rattle.decode_controls.specs.Controls.{step_of}
 use Rattle.decode_controls.proofs.fixed.Goals as goal
 
-pub returns-then-n-b : goal.returns-then-n-b
-returns-then-n-b c =
+pub returns-in-Some : goal.returns-in-Some
+returns-in-Some c =
     let a = c.args in
-    let inside = c.requires in
-    let all = c.if-n-b.true in
     reads_nothing _ (omega arith) (omega arith)
-    (λ at s. fixed_all a.b.now a.i at s inside _ (sym c.fixed_params-params.ensures ∙ ap params_of c.in-Fixed.is) all)
+    (λ at s. fixed_all a.b.now a.i at s c.requires _ (sym c.fixed_params.ensures ∙ ap params_of c.in-Some.is) c.if-n-b.true)
 
-pub returns-else-n-b : goal.returns-else-n-b
-returns-else-n-b c =
+pub returns-in-Some-2 : goal.returns-in-Some-2
+returns-in-Some-2 c =
     let a = c.args in
-    let inside = c.requires in
-    let answer = c.fixed_params-params.ensures in
-    let few = c.if-n-b.false in
-    c.cut.ensures _ (λ place at s. fixed_cut a.b.now a.i at s inside _ (sym answer ∙ ap params_of c.in-Fixed.is) few)
+    c.cut.ensures _ (λ place at s. fixed_cut a.b.now a.i at s c.requires _ (sym c.fixed_params.ensures ∙ ap params_of c.in-Some.is) c.if-n-b.false)
 
-pub returns-in-NoEntry : goal.returns-in-NoEntry
+pub returns-in-None : goal.returns-in-None
 unfolding step_of
-returns-in-NoEntry c =
+returns-in-None c =
     let a = c.args in
-    let inside = c.requires in
     reads_of _ _ (bounded refl refl) (omega arith) (omega arith)
-    (λ place at s. fixed_undefined a.b.now a.i at s inside (sym c.fixed_params-params.ensures ∙ ap params_of c.in-NoEntry.is))
+    (λ place at s. fixed_undefined a.b.now a.i at s c.requires (sym c.fixed_params.ensures ∙ ap params_of c.in-None.is))

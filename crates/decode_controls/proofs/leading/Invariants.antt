@@ -1,12 +1,9 @@
--- `leading` meets its contract: what it passed lies in the range, so what leads from `from` on ends where what leads from `j` on does. Assumes nothing.
-use Prim.Native.Nat.{◌+◌, ◌-◌, ◌≤◌}
+-- `leading` meets its contract: what leads from `from` on ends where what leads from `j` on does. Assumes nothing.
+use Prim.Native.Nat.{◌+◌}
 use mathlib.Core.Path.{◌≡◌}
-use lib.ListN.{length, drop}
+use lib.ListN.{drop}
 use Rattle.reading.specs.Controls.{leading}
 use Rattle.decode_controls.proofs.leading.Given as goal
 
 abbrev pub invariant-loop-j : goal.invariant-loop-j
-invariant-loop-j l = (l.j ≤ length l.b) × (l.from + leading 0x20 l.high (drop l.from l.b) ≡ l.j + leading 0x20 l.high (drop l.j l.b))
-
-abbrev pub decreases-loop-j : goal.decreases-loop-j
-decreases-loop-j l = length l.b - l.j
+invariant-loop-j l = l.from + leading 0x20 l.high (drop l.from l.b) ≡ l.j + leading 0x20 l.high (drop l.j l.b)

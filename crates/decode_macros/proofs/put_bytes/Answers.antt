@@ -1,28 +1,10 @@
--- `put_bytes` meets its contract. The invariant: the first i bytes of s are written. Assumes nothing.
-use mathlib.Core.Path.{◌≡◌, refl, ◌∙◌}
+-- `put_bytes` meets its contract: the bytes stand between what was before and behind them. Assumes nothing.
+use mathlib.Core.Path.{refl}
 use native.Mathlib.Omega.{arith}
-use lib.ListN.{take, length-set}
-use lib.Seq.{take_all}
-use Rattle.lent.proofs.Stores.{sets_more}
+use Rattle.decode_macros.proofs.Laws.{middle}
 use Rattle.decode_macros.proofs.put_bytes.Goals as goal
-
-pub loop-i-init : goal.loop-i-init
-loop-i-init c = (omega arith, refl, refl)
-
-pub bounds-body-at : goal.bounds-body-at
-bounds-body-at c = omega arith
-
-pub loop-i-preserved : goal.loop-i-preserved
-loop-i-preserved c =
-    let e = sets_more _ _ _ _ _ c.loop-i-test.true c.loop-i.invariant.1 in
-    (omega arith, e, simp length-set c.loop-i.invariant.2)
-
-pub shape_of-body : goal.shape_of-body
-shape_of-body c = c.loop-i.invariant.2
 
 pub returns : goal.returns
 returns c =
-    let i = c.loop-i.i in
-    let s = c.args.s.now in
-    let e : take i s ≡ s = take_all i s (omega arith) in
-    record { written = c.loop-i.invariant.1 ∙ rw e; next = omega arith }
+    let a = c.args in
+    record { written = middle a.body.now a.at _ a.s.now (omega arith) c.requires c.copy_from_slice.ensures.after; next = refl }
