@@ -12,7 +12,7 @@ use borrow.Author.Tests.{eqb-true, ltb-true, ltb-false}
 use Rattle.base.proofs.Table.{at}
 use Rattle.addsym.specs.Table719.{numbers, rows}
 use Rattle.addsym.specs.Symbols.{place_in, row_place, table719, symbol, FoundReads}
-use Rattle.addsym.specs.declared.Found.TheVariants.{Symbol}
+use Rattle.std.specs.Prelude.{Some}
 
 -- the row and the cell of a place
 abbrev pub row_at : ℕ → ℕ
@@ -101,5 +101,5 @@ past_cells row cell h =
 
 -- the answer for a value of Table 7-19 and a scalar
 pub found : (row cell t u : ℕ) → t ≡ table719 row cell → u ≡ symbol row cell → (t ≡ 0 → ⊥) → FoundReads
-    (Symbol (record { row = row; cell = cell; table_7_19 = t; unicode = u })) row cell
+    (Some (record { row = row; cell = cell; table_7_19 = t; unicode = u })) row cell
 found row cell t u e f h = ((λ i. record { row = row; cell = cell; table_7_19 = e i; unicode = f i }), omega (arith, e, h))

@@ -1,8 +1,7 @@
 -- The additional symbols set: what `additional_symbol` answers at a row and a cell.
-use Rattle.std.specs.Prelude.{ℕ, suc, ◌+◌, ◌*◌, ◌-◌, ◌≤◌, List, [], ◌∷◌, Bool, cond, ◌&&◌, ◌≡◌, refl, eqb, leb, ltb, get_or}
+use Rattle.std.specs.Prelude.{ℕ, suc, ◌+◌, ◌*◌, ◌-◌, ◌≤◌, List, [], ◌∷◌, Bool, cond, ◌&&◌, ◌≡◌, refl, eqb, leb, ltb, get_or, Option, Some, None}
 use Rattle.addsym.specs.Table719.{numbers, rows, Replacement, replacements}
-use Rattle.addsym.specs.declared.Found.{Found}
-use Rattle.addsym.specs.declared.Found.TheVariants.{Symbol, Blank}
+use Rattle.addsym.specs.declared.AdditionalSymbol.{AdditionalSymbol}
 
 -- The place of a number in a list, and the list's length where it is not there.
 unfoldable pub place_in : List ℕ → ℕ → ℕ
@@ -36,9 +35,9 @@ unfolding table719 replaced_by
 symbol row cell = cond (eqb (table719 row cell) 0) 0 (replaced_by replacements row cell)
 
 -- What an answer of `additional_symbol` says of a row and a cell: the value of Table 7-19 and the scalar, or that the table is blank there.
-abbrev pub FoundReads : Found → ℕ → ℕ → Type 0
-FoundReads (Symbol s) row cell = (s ≡ record { row = row; cell = cell; table_7_19 = table719 row cell; unicode = symbol row cell }) × (1 ≤ table719 row cell)
-FoundReads Blank row cell = table719 row cell ≡ 0
+abbrev pub FoundReads : Option AdditionalSymbol → ℕ → ℕ → Type 0
+FoundReads (Some s) row cell = (s ≡ record { row = row; cell = cell; table_7_19 = table719 row cell; unicode = symbol row cell }) × (1 ≤ table719 row cell)
+FoundReads None row cell = table719 row cell ≡ 0
 
 -- The number at a row and a cell of a list of the seven rows, row by row; 0 outside them.
 unfoldable pub cell_in : List ℕ → ℕ → ℕ → ℕ

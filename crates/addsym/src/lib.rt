@@ -2,7 +2,7 @@
 // (additional symbols, Table 7-10), by the code values of Table 7-19.
 #![tactic(auto)]
 
-ghost use Rattle.std.specs.Prelude.{◌≡◌, ◌+◌, ◌≤◌, length};
+ghost use Rattle.std.specs.Prelude.{◌≡◌, ℕ, ◌+◌, ◌≤◌, ◌<◌, List, length, get_or, MatchOption};
 ghost use Rattle.std.proofs.lemmas.List.Edits.{sets};
 ghost use Rattle.addsym.specs.Symbols.{row_place, symbol, FoundReads, cell_in, SymbolsIn};
 
@@ -23,50 +23,43 @@ pub struct AdditionalSymbol {
     pub unicode: u32,
 }
 
-/// What stands at a row and a cell.
-#[derive(Clone, Copy)]
-pub enum Found {
-    Symbol(AdditionalSymbol),
-    Blank,
-}
-
-/// The place of a row in the tables, and 7 for a row that Table 7-19 does not have.
-fn row_place(row: u8) -> usize
-    ensures { result ≡ row_place row }
+/// The place of a row in the tables.
+fn row_place(row: u8) -> Option<usize>
+    ensures { MatchOption result (row_place row ≡ 7) (λ p. (p ≡ row_place row) × (p < 7)) }
 {
     match row {
-        85 => 0,
-        86 => 1,
-        90 => 2,
-        91 => 3,
-        92 => 4,
-        93 => 5,
-        94 => 6,
-        _ => 7,
+        85 => Some(0),
+        86 => Some(1),
+        90 => Some(2),
+        91 => Some(3),
+        92 => Some(4),
+        93 => Some(5),
+        94 => Some(6),
+        _ => None,
     }
 }
 
-/// The symbol at a row and a cell, by Tables 7-10, 7-11 and 7-19. `Blank` where Table 7-19 is blank, and outside
-/// its rows and cells.
-pub fn additional_symbol(row: u8, cell: u8) -> Found
+/// The place of a cell in a table of the seven rows, row by row; none outside the rows and the cells of Table 7-19.
+fn index(row: u8, cell: u8) -> Option<usize>
+    ensures { MatchOption result ((cells : List ℕ) → cell_in cells row cell ≡ 0) (λ i. (i < 658) × ((cells : List ℕ) → cell_in cells row cell ≡ get_or cells i 0)) }
+{
+    let place = row_place(row)?;
+    if cell == 0 || 94 < cell {
+        return None;
+    }
+    Some(place * 94 + (cell as usize) - 1)
+}
+
+/// The symbol at a row and a cell, by Tables 7-10, 7-11 and 7-19. None where Table 7-19 is blank, and outside its rows
+/// and cells.
+pub fn additional_symbol(row: u8, cell: u8) -> Option<AdditionalSymbol>
     ensures { FoundReads result row cell }
 {
-    let place = row_place(row);
-    if 7 <= place {
-        return Found::Blank;
-    }
-    if cell == 0 {
-        return Found::Blank;
-    }
-    if 94 < cell {
-        return Found::Blank;
-    }
-    let i = place * 94 + (cell as usize) - 1;
-    let table_7_19 = T719[i];
+    let table_7_19 = T719[index(row, cell)?];
     if table_7_19 == 0 {
-        return Found::Blank;
+        return None;
     }
-    Found::Symbol(AdditionalSymbol {
+    Some(AdditionalSymbol {
         row,
         cell,
         table_7_19,
@@ -74,7 +67,8 @@ pub fn additional_symbol(row: u8, cell: u8) -> Found
     })
 }
 
-/// The scalar at a row and a cell, 0 where Table 7-19 is blank, and outside its rows and cells.
+/// The scalar at a row and a cell, 0 where Table 7-19 is blank, and outside its rows and cells. A number of a table, as the
+/// lent table's are, which `kanji_at` and `symbol_in` hand on as it is: no Option.
 pub fn scalar(row: u8, cell: u8) -> u32
     ensures { result ≡ symbol row cell }
 {
@@ -102,11 +96,7 @@ fn put_row(all: &mut [u32], at: usize, row: &[u32])
     requires { at + length row.now ≤ length all.old }
     ensures { all.new ≡ sets all.old at row.now }
 {
-    let mut i = 0;
-    while i < row.len() {
-        all[at + i] = row[i];
-        i += 1;
-    }
+    all[at..at + row.len()].copy_from_slice(row);
 }
 
 /// The scalars of all the cells, row by row, 0 for a blank cell: for a search over many cells.
@@ -128,16 +118,8 @@ pub fn symbols() -> [u32; 658]
 pub fn symbol_in(cells: &[u32; 658], row: u8, cell: u8) -> u32
     ensures { result ≡ cell_in cells.now row cell }
 {
-    let place = row_place(row);
-    if 7 <= place {
-        return 0;
+    match index(row, cell) {
+        Some(i) => cells[i],
+        None => 0,
     }
-    if cell == 0 {
-        return 0;
-    }
-    if 94 < cell {
-        return 0;
-    }
-    let i = place * 94 + (cell as usize) - 1;
-    cells[i]
 }

@@ -1,57 +1,51 @@
--- The lists of marks and overrides one step further, which is what the loops over them go by, and what a place found
--- says. Assumes nothing.
-use mathlib.Core.Path.{◌≡◌, refl, sym, ◌∙◌}
+-- What a search of the lists of marks and overrides says in the words of specs/, and what a place found says. Assumes
+-- nothing.
+use mathlib.Core.Path.{◌≡◌, refl, sym, ap, ◌∙◌}
 use mathlib.Core.Bool.{Bool, true, false, cond}
 use mathlib.Core.List.{List, [], ◌∷◌}
 use mathlib.Core.Option.{none, some}
+use Rattle.std.specs.Prelude.{Option, Some, None, is_some}
+use Rattle.std.specs.List.{position, position_or_len}
+use Rattle.std.proofs.lemmas.Option.{cond_some, none-some}
+use Rattle.std.proofs.lemmas.List.Recursion.{is_position_or_len}
 use Prim.Native.Nat.{ℕ, suc, ◌+◌, ◌<◌, ◌≤◌}
-use native.Mathlib.Numerals.{add-one}
 use native.Mathlib.Omega.{arith}
 use lib.Dec.{eqb, ltb}
-use lib.ListN.{length, get_or, drop, drop_of_length-le}
-use lib.Seq.{drop-cons}
-use borrow.Author.Tests.{eq-eqb, ne_eqb, lt-ltb, le-ltb, ltb-true, ltb-false}
-use Rattle.tables.specs.Kanji.{assigned, has_character, cell_with}
+use lib.ListN.{length, get_or}
+use borrow.Author.Tests.{lt-ltb, le-ltb, ltb-true, ltb-false}
+use Rattle.tables.specs.Kanji.{has_character, cell_with}
 use Rattle.tables.specs.Marks.{place_with}
 use Rattle.tables.specs.declared.Assignment.{Assignment}
 
 abbrev pub outside : Assignment
 outside = record { row = 0; cell = 0; character = 0 }
 
-module _ (list : List Assignment) (i : ℕ) (h : i < length list) where
-  here : drop i list ≡ get_or list i outside ∷ drop (i + 1) list
-  here = rw (add-one, drop-cons list i outside h)
+-- the answers of the searches over a list, in the words of specs/
+place_is : (list : List Assignment) (c : ℕ) → place_with list c ≡ position_or_len (λ (a : Assignment). eqb a.character c) list
+unfolding place_with
+place_is list c = is_position_or_len (λ l. place_with l c) (λ (a : Assignment). eqb a.character c) refl (λ a more. grind arith) list
 
-  pub place_hit : (c : ℕ) → (get_or list i outside).character ≡ c → place_with (drop i list) c ≡ 0
-  unfolding place_with
-  place_hit c e = rw (here, eq-eqb _ _ e)
+pub place_found : (list : List Assignment) (c k : ℕ) → position (λ (a : Assignment). eqb a.character c) list ≡ Some k
+    → (place_with list c < length list) × (suc (place_with list c) ≡ k + 1)
+place_found list c k e =
+    let p = place_is list c in
+    let q = cond_some _ _ _ e in
+    let h = ltb-true _ _ q.0 in
+    (omega arith, omega (arith, q.1))
 
-  pub place_miss : (c : ℕ) → ((get_or list i outside).character ≡ c → ⊥) → place_with (drop i list) c ≡ suc (place_with (drop (i + 1) list) c)
-  unfolding place_with
-  place_miss c e = rw (here, ne_eqb _ _ e)
+none_only : (b : Bool) (x : ℕ) → ◌≡◌ {A = Option ℕ} (cond b (Some x) None) None → b ≡ false
+none_only true x e = absurd (none-some x (sym e))
+none_only false x e = refl
 
-  module _ (row cell x : ℕ) where
-    pub assigned_hit : (get_or list i outside).row ≡ row → (get_or list i outside).cell ≡ cell → assigned (drop i list) row cell x ≡ (get_or list i outside).character
-    unfolding assigned
-    assigned_hit er ec = rw (here, eq-eqb _ _ er, eq-eqb _ _ ec)
+pub place_missing : (list : List Assignment) (c : ℕ) → position (λ (a : Assignment). eqb a.character c) list ≡ None → length list ≤ place_with list c
+place_missing list c e =
+    let p = place_is list c in
+    let h = ltb-false _ _ (none_only _ _ e) in
+    omega arith
 
-    pub assigned_row : ((get_or list i outside).row ≡ row → ⊥) → assigned (drop i list) row cell x ≡ assigned (drop (i + 1) list) row cell x
-    unfolding assigned
-    assigned_row er = rw (here, ne_eqb _ _ er)
-
-    pub assigned_cell : (get_or list i outside).row ≡ row → ((get_or list i outside).cell ≡ cell → ⊥) → assigned (drop i list) row cell x ≡ assigned (drop (i + 1) list) row cell x
-    unfolding assigned
-    assigned_cell er ec = rw (here, eq-eqb _ _ er, ne_eqb _ _ ec)
-
--- past the end nothing is left
-module _ (list : List Assignment) (i : ℕ) (h : length list ≤ i) where
-  pub place_end : (c : ℕ) → place_with (drop i list) c ≡ 0
-  unfolding place_with
-  place_end c = rw (drop_of_length-le list h)
-
-  pub assigned_end : (row cell x : ℕ) → assigned (drop i list) row cell x ≡ x
-  unfolding assigned
-  assigned_end row cell x = rw (drop_of_length-le list h)
+some_only : (b : Bool) (x : ℕ) → is_some (cond b (Some x) None) ≡ b
+some_only true x = refl
+some_only false x = refl
 
 ltb_suc : (a b : ℕ) → ltb (suc a) (suc b) ≡ ltb a b
 ltb_suc a b = go (ltb a b) refl
@@ -69,6 +63,9 @@ has_place (a ∷ more) c = go (eqb a.character c) (has_place more c)
     go : (b : Bool) → ltb (place_with more c) (length more) ≡ has_character more c → ltb (cond b 0 (suc (place_with more c))) (suc (length more)) ≡ cond b true (has_character more c)
     go true e = lt-ltb 0 (suc (length more)) (omega arith)
     go false e = ltb_suc (place_with more c) (length more) ∙ e
+
+pub has_position : (list : List Assignment) (c : ℕ) → is_some (position (λ (a : Assignment). eqb a.character c) list) ≡ has_character list c
+has_position list c = some_only _ _ ∙ ap (λ (n : ℕ). ltb n (length list)) (sym (place_is list c)) ∙ has_place list c
 
 -- and its cell is that of the place
 pub cell_there : (list : List Assignment) (c : ℕ) → place_with list c < length list →

@@ -7,7 +7,7 @@ use native.Mathlib.Omega.{arith}
 use lib.Dec.{eqb, leb, ltb}
 use lib.ListN.{get_or}
 use borrow.Author.Tests.{le-leb, lt-leb, ne_eqb, leb-true, ltb-true, ltb-false}
-use Rattle.base.specs.Lists.{All}
+use Rattle.std.specs.Prelude.{Option, Some, unwrap_or, option_map, find}
 use Rattle.tables.specs.Kanji.{non_spacing, kanji_overrides, assigned, place, table_at, kanji_symbol, kanji_of, kanji_at}
 use Rattle.tables.specs.declared.Assignment.{Assignment}
 
@@ -16,10 +16,17 @@ pub on_grid_lem : (t : List ℕ) (row cell : ℕ) → 1 ≤ row → row ≤ 94 �
 unfolding table_at
 on_grid_lem t row cell a b c d = rw (le-leb 1 row a, le-leb row 94 b, le-leb 1 cell c, le-leb cell 94 d)
 
--- past row 94 there is none
-off_grid : (t : List ℕ) (row cell : ℕ) → 94 < row → table_at t row cell ≡ 0
+-- and off the grid there is none
+pub off_grid : (t : List ℕ) (row cell : ℕ) → (1 ≤ row → row ≤ 94 → 1 ≤ cell → cell ≤ 94 → ⊥) → table_at t row cell ≡ 0
 unfolding table_at
-off_grid t row cell h = let a : 1 ≤ row = omega arith in rw (le-leb 1 row a, lt-leb row 94 h)
+off_grid t row cell n = go (leb 1 row) (leb row 94) (leb 1 cell) (leb cell 94) refl refl refl refl
+  where
+    go : (a b d e : Bool) → leb 1 row ≡ a → leb row 94 ≡ b → leb 1 cell ≡ d → leb cell 94 ≡ e → cond (a && b && d && e) (get_or t (place row cell) 0) 0 ≡ 0
+    go true true true true p q r s = absurd (n (leb-true 1 row p) (leb-true row 94 q) (leb-true 1 cell r) (leb-true cell 94 s))
+    go true true true false p q r s = refl
+    go true true false e p q r s = refl
+    go true false d e p q r s = refl
+    go false b d e p q r s = refl
 
 module _ (row cell : ℕ) (h : 3 ≤ row) where
   not_1 : 1 ≡ row → ⊥
@@ -37,30 +44,19 @@ module _ (row cell : ℕ) (h : 3 ≤ row) where
   unfolding assigned
   no_override x = rw (ne_eqb 1 row not_1, ne_eqb 2 row not_2)
 
--- a list with a character for the cell has it whatever the cell would be without, and a list that has none leaves it
-module _ (row cell x : ℕ) where
-  pub assigned_there : (l : List Assignment) → (assigned l row cell 0 ≡ 0 → ⊥) → assigned l row cell x ≡ assigned l row cell 0
-  unfolding assigned
-  assigned_there [] n = absurd (n refl)
-  assigned_there (a ∷ l) n = go (eqb a.row row && eqb a.cell cell) n (assigned_there l)
-    where
-      go : (b : Bool) → (cond b a.character (assigned l row cell 0) ≡ 0 → ⊥) → ((assigned l row cell 0 ≡ 0 → ⊥) → assigned l row cell x ≡ assigned l row cell 0)
-          → cond b a.character (assigned l row cell x) ≡ cond b a.character (assigned l row cell 0)
-      go true n r = refl
-      go false n r = r n
+-- what a search for the cell found, or the number below
+abbrev found_or : ℕ → Option Assignment → ℕ
+found_or x o = unwrap_or (option_map (λ (a : Assignment). a.character) o) x
 
-  pub assigned_nowhere : (l : List Assignment) → All (λ (a : Assignment). 1 ≤ a.character) l → assigned l row cell 0 ≡ 0 → assigned l row cell x ≡ x
-  unfolding assigned
-  assigned_nowhere [] some e = refl
-  assigned_nowhere (a ∷ l) some e = go (eqb a.row row && eqb a.cell cell) e (assigned_nowhere l some.1)
-    where
-      go : (b : Bool) → cond b a.character (assigned l row cell 0) ≡ 0 → (assigned l row cell 0 ≡ 0 → assigned l row cell x ≡ x)
-          → cond b a.character (assigned l row cell x) ≡ x
-      go true e r = absurd (omega (arith, e, some.0))
-      go false e r = r e
-
-pub marks_some : All (λ (a : Assignment). 1 ≤ a.character) non_spacing
-marks_some = (omega arith, (omega arith, (omega arith, (omega arith, (omega arith, (omega arith, (omega arith, tt)))))))
+pub assigned_find : (list : List Assignment) (row cell x : ℕ)
+    → unwrap_or (option_map (λ (a : Assignment). a.character) (find (λ (a : Assignment). eqb a.row row && eqb a.cell cell) list)) x ≡ assigned list row cell x
+unfolding assigned
+assigned_find [] row cell x = refl
+assigned_find (a ∷ more) row cell x = go (eqb a.row row && eqb a.cell cell) _ (assigned_find more row cell x)
+  where
+    go : (b : Bool) (o : Option Assignment) → found_or x o ≡ assigned more row cell x → found_or x (cond b (Some a) o) ≡ cond b a.character (assigned more row cell x)
+    go true o e = refl
+    go false o e = e
 
 -- rows 1 and 2
 pub rows_1_2 : (row cell x : ℕ) → row < 3 → kanji_of row cell x ≡ assigned non_spacing row cell (assigned kanji_overrides row cell x)
@@ -83,7 +79,7 @@ unfolding kanji_at kanji_of
 past_rows t row cell h =
     let a : 90 ≤ row = omega arith in
     let b : 3 ≤ row = omega arith in
-    rw (le-leb 90 row a, lt-leb row 94 h, kanji_of) (no_mark row cell b _ ∙ no_override row cell b _ ∙ off_grid t row cell h)
+    rw (le-leb 90 row a, lt-leb row 94 h, kanji_of) (no_mark row cell b _ ∙ no_override row cell b _ ∙ off_grid t row cell (λ p q r s. omega arith))
 
 -- where the table alone decides
 pub table_row : (t : List ℕ) (row cell : ℕ) → (leb 3 row && ltb row 90) ≡ true → kanji_at t row cell ≡ table_at t row cell

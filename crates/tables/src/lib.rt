@@ -3,7 +3,7 @@
 // there is none.
 #![tactic(auto)]
 
-ghost use Rattle.std.specs.Prelude.{◌≡◌, ◌&&◌, leb, ltb};
+ghost use Rattle.std.specs.Prelude.{◌≡◌, ◌==◌, ◌&&◌, leb, ltb, position, find, option_map};
 ghost use Rattle.addsym.specs.Symbols.{symbol};
 ghost use Rattle.tables.specs.Kanji.{CellReads, non_spacing, kanji_overrides, assigned, has_character, place_value, cell_with, table_at, jis_x0208_at, gap, kanji_symbol, kanji_at};
 ghost use Rattle.tables.specs.Marks.{mark_test};
@@ -16,13 +16,6 @@ pub enum Cell {
     Undefined,
 }
 
-/// A row and a cell, each from 1.
-#[derive(Clone, Copy)]
-pub enum Place {
-    At(u8, u8),
-    Nowhere,
-}
-
 /// A cell of the Kanji set and its character.
 #[derive(Clone, Copy)]
 pub struct Assignment {
@@ -31,7 +24,8 @@ pub struct Assignment {
     pub character: u32,
 }
 
-/// Whether a character is a mark, and the turns that the test for it took.
+/// Whether a character is a mark, and the turns that the test for it took. No Option of the turns: those of a character
+/// that is no mark count too (`TurnsNone`, `TurnsMost`).
 #[derive(Clone, Copy)]
 pub struct MarkTest {
     pub mark: bool,
@@ -129,6 +123,13 @@ pub const KANJI_OVERRIDES: [Assignment; 7] = [
     },
 ];
 
+/// The place of the first cell of a list with a character, counted from 0.
+fn place_with(list: &[Assignment], c: u32) -> Option<usize>
+    ensures { result ≡ position (λ a. a.character == c) list.now }
+{
+    list.iter().position(|a| a.character == c)
+}
+
 /// Whether `c` is one of the combining characters of Table E-1, and how many of them it was compared with. None is lower
 /// than U+0300.
 pub fn is_non_spacing(c: u32) -> MarkTest
@@ -140,85 +141,55 @@ pub fn is_non_spacing(c: u32) -> MarkTest
             turns: 0,
         };
     }
-    let mut turns = 0;
-    while turns < 7 {
-        let place = turns;
-        turns += 1;
-        let a = NON_SPACING[place];
-        if a.character == c {
-            return MarkTest { mark: true, turns };
-        }
+    match place_with(&NON_SPACING, c) {
+        Some(place) => MarkTest {
+            mark: true,
+            turns: place + 1,
+        },
+        None => MarkTest {
+            mark: false,
+            turns: 7,
+        },
     }
-    MarkTest { mark: false, turns }
 }
 
 /// Whether `c` is the character of an override.
 pub fn is_override(c: u32) -> bool
     ensures { result ≡ has_character kanji_overrides c }
 {
-    let mut i = 0;
-    while i < 7 {
-        let a = KANJI_OVERRIDES[i];
-        if a.character == c {
-            return true;
-        }
-        i += 1;
-    }
-    false
+    place_with(&KANJI_OVERRIDES, c).is_some()
 }
 
-/// The cell of the Kanji set that codes a mark: its turns name its place.
-pub fn mark_cell(c: u32) -> Place
+/// The row and the cell of the Kanji set that code a mark: its turns name its place.
+pub fn mark_cell(c: u32) -> Option<(u8, u8)>
     ensures { place_value result ≡ cell_with non_spacing c }
 {
     let test = is_non_spacing(c);
     if test.mark {
         let a = NON_SPACING[test.turns - 1];
-        return Place::At(a.row, a.cell);
+        return Some((a.row, a.cell));
     }
-    Place::Nowhere
+    None
 }
 
-/// The character that a list assigns to a cell, `x` where it assigns none.
-fn assigned_at(list: [Assignment; 7], row: u8, cell: u8, x: u32) -> u32
-    ensures { result ≡ assigned list row cell x }
+/// The character that a list assigns to a cell.
+fn assigned_at(list: &[Assignment], row: u8, cell: u8) -> Option<u32>
+    ensures { result ≡ option_map (λ a. a.character) (find (λ a. a.row == row && a.cell == cell) list.now) }
 {
-    let mut i = 0;
-    while i < 7 {
-        let a = list[i];
-        i += 1;
-        if a.row != row {
-            continue;
-        }
-        if a.cell != cell {
-            continue;
-        }
-        return a.character;
-    }
-    x
+    list.iter()
+        .find(|a| a.row == row && a.cell == cell)
+        .map(|a| a.character)
 }
 
 /// The lent table's number at a cell.
 fn table_at(t: &[u16], row: u8, cell: u8) -> u32
     ensures { result ≡ table_at t.now row cell }
 {
-    if row == 0 {
-        return 0;
-    }
-    if row > 94 {
-        return 0;
-    }
-    if cell == 0 {
-        return 0;
-    }
-    if cell > 94 {
+    if row == 0 || 94 < row || cell == 0 || 94 < cell {
         return 0;
     }
     let place = (row as usize - 1) * 94 + (cell as usize - 1);
-    if place < t.len() {
-        return t[place] as u32;
-    }
-    0
+    u32::from(t.get(place).copied().unwrap_or(0))
 }
 
 /// Whether a cell is in one of row 90's gaps, which the additional symbols set alone fills (Table 7-10).
@@ -255,7 +226,16 @@ fn in_table(row: u8) -> bool
     row < 90
 }
 
-/// The Kanji set at a cell: marks, the row 90 gaps, rows 90 to 94 from the additional symbols, JIS X 0208.
+/// JIS X 0208 at a cell: the overrides over the lent table.
+fn jis_x0208_at(t: &[u16], row: u8, cell: u8) -> u32
+    ensures { result ≡ jis_x0208_at t.now row cell }
+{
+    assigned_at(&KANJI_OVERRIDES, row, cell).unwrap_or(table_at(t, row, cell))
+}
+
+/// The Kanji set at a cell: marks, the row 90 gaps, rows 90 to 94 from the additional symbols, JIS X 0208. The search of a
+/// row cell by cell has it inside its loop: a call for each cell makes it a third dearer.
+#[inline(always)]
 pub fn kanji_at(t: &[u16], row: u8, cell: u8) -> u32
     ensures { result ≡ kanji_at t.now row cell }
 {
@@ -263,11 +243,10 @@ pub fn kanji_at(t: &[u16], row: u8, cell: u8) -> u32
         return table_at(t, row, cell);
     }
     if row < 3 {
-        let mark = assigned_at(NON_SPACING, row, cell, 0);
-        if mark != 0 {
+        if let Some(mark) = assigned_at(&NON_SPACING, row, cell) {
             return mark;
         }
-        return assigned_at(KANJI_OVERRIDES, row, cell, table_at(t, row, cell));
+        return jis_x0208_at(t, row, cell);
     }
     if row < 95 {
         return kanji_symbol_at(row, cell);
@@ -279,7 +258,7 @@ pub fn kanji_at(t: &[u16], row: u8, cell: u8) -> u32
 pub fn jis_x0208(t: &[u16], row: u8, cell: u8) -> Cell
     ensures { CellReads result (jis_x0208_at t.now row cell) }
 {
-    cell_of(assigned_at(KANJI_OVERRIDES, row, cell, table_at(t, row, cell)))
+    cell_of(jis_x0208_at(t, row, cell))
 }
 
 /// The Kanji set, over the lent table. Table 7-4.

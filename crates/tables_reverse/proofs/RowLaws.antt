@@ -7,7 +7,9 @@ use native.Mathlib.Omega.{arith}
 use lib.Dec.{T, eqb, leb, ltb}
 use lib.ListN.{length, get_or, take, drop, length-take, length-drop}
 use lib.Seq.{get_or-drop, get_or-take}
-use borrow.Author.Tests.{ltb-true, ltb-false, leb-true, eqb-false, ne_eqb}
+use borrow.Author.Tests.{ltb-true, leb-true, eqb-false, eq-eqb, ne_eqb}
+use Rattle.std.specs.List.{list_any}
+use Rattle.std.proofs.lemmas.List.Folds.{list_any_at}
 use Rattle.base.proofs.Table.{at}
 use Rattle.addsym.specs.Symbols.{row_place, symbol, cell_in, SymbolsIn}
 use Rattle.addsym.proofs.Places.{values}
@@ -20,20 +22,9 @@ use Rattle.tables.proofs.KanjiLaws.{rows_1_2}
 abbrev pub None : List ℕ → ℕ → ℕ → Type 0
 None l c n = (i : ℕ) → i < n → get_or l i 0 ≡ c → ⊥
 
-neither : (a b : Bool) → a || b ≡ false → (a ≡ false) × (b ≡ false)
-neither true b e = absurd (false≢true (sym e))
-neither false b e = (refl, e)
-
--- one more place of the loops
-pub turn : (l : List ℕ) (c n : ℕ) (hit : Bool) → (hit ≡ false → None l c n) → hit || eqb (get_or l n 0) c ≡ false → None l c (n + 1)
-turn l c n hit h e i b r = go (ltb i n) refl
-  where
-    go : (d : Bool) → ltb i n ≡ d → ⊥
-    go true q = h (neither hit (eqb (get_or l n 0) c) e).0 i (ltb-true i n q) r
-    go false q =
-        let u = ltb-false i n q in
-        let z : i ≡ n = omega arith in
-        eqb-false (get_or l n 0) c (neither hit (eqb (get_or l n 0) c) e).1 (subst (λ (m : ℕ). get_or l m 0 ≡ c) z r)
+-- a number that a search of the whole list does not find
+pub absent : (l : List ℕ) (c : ℕ) → list_any (λ x. eqb x c) l ≡ false → None l c (length l)
+absent l c e i h r = false≢true (sym e ∙ list_any_at (λ x. eqb x c) l i 0 h (eq-eqb (get_or l i 0) c r))
 
 -- a number that a part of a list has not is not in the list there
 pub in_part : (t : List ℕ) (f n c k : ℕ) → f + n ≤ length t → k < n → ((i : ℕ) → i < length (take n (drop f t)) → get_or (take n (drop f t)) i 0 ≡ c → ⊥) → get_or t (f + k) 0 ≡ c → ⊥

@@ -1,37 +1,21 @@
 // Reverse look-ups in the two-byte sets: the first cell in row order that reads as a character.
 #![tactic(auto)]
 
-ghost use Rattle.std.specs.Prelude.{◌≡◌, true, false, List, ℕ, ◌≤◌, ◌<◌, length, get_or, drop};
+ghost use Rattle.std.specs.Prelude.{◌≡◌, true, false, List, ℕ, ◌≤◌, ◌<◌, drop};
+ghost use Rattle.std.specs.List.{list_any};
 ghost use Rattle.base.specs.First.{first_from};
 ghost use Rattle.addsym.specs.Symbols.{symbol};
 ghost use Rattle.tables.specs.Kanji.{place_value, table_at, kanji_at};
 ghost use Rattle.tables_reverse.specs.Reverse.{kanji_reverse, additional_reverse, place_of, kanji_place};
 
-use tables::Place;
-
-/// Whether one of the numbers is `c`. There is no early way out, so that several are compared at a time; so in
-/// `among_symbols`.
-fn among(cells: &[u16], c: u16) -> bool
-    ensures { result ≡ false → (i : ℕ) → i < length cells.now → get_or cells.now i 0 ≡ c → ⊥ }
+/// Whether one of the numbers is `c`. There is no early way out, so that several are compared at a time.
+#[tactic(auto, using(std::proofs::lemmas::List::Folds::list_any_more))]
+fn among<T: Copy + Eq>(cells: &[T], c: T) -> bool
+    ensures { result ≡ list_any (λ x. T.eq x c) cells.now }
 {
     let mut hit = false;
-    let mut i = 0;
-    while i < cells.len() {
-        hit = hit | (cells[i] == c);
-        i += 1;
-    }
-    hit
-}
-
-/// Whether one of the symbols is `c`.
-fn among_symbols(cells: &[u32; 658], c: u32) -> bool
-    ensures { result ≡ false → (i : ℕ) → i < 658 → get_or cells.now i 0 ≡ c → ⊥ }
-{
-    let mut hit = false;
-    let mut i = 0;
-    while i < 658 {
-        hit = hit | (cells[i] == c);
-        i += 1;
+    for x in cells {
+        hit |= *x == c;
     }
     hit
 }
@@ -84,91 +68,64 @@ fn is_no_symbol(c: u32) -> bool
 }
 
 /// The first cell in row order of rows 90 to 94 that `kanji` reads as `c`.
-fn kanji_symbol_reverse(c: u32) -> Place
+fn kanji_symbol_reverse(c: u32) -> Option<(u8, u8)>
     requires { c ≡ 0 → ⊥ }
     ensures { (t : List ℕ) → place_value result ≡ place_of (first_from kanji_place c 470 8366 (drop 8366 t)) }
 {
     if is_no_symbol(c) {
-        return Place::Nowhere;
+        return None;
     }
     let scalars = addsym::symbols();
-    let mut found = Place::Nowhere;
-    let mut row: u8 = 90;
-    'rows: while row < 95 {
-        let mut cell: u8 = 1;
-        'cells: while cell < 95 {
-            if tables::in_gap(row, cell) {
-                cell += 1;
-                continue 'cells;
+    for row in 90..95 {
+        for cell in 1..95 {
+            if !tables::in_gap(row, cell) && addsym::symbol_in(&scalars, row, cell) == c {
+                return Some((row, cell));
             }
-            if addsym::symbol_in(&scalars, row, cell) == c {
-                found = Place::At(row, cell);
-                break 'rows;
-            }
-            cell += 1;
         }
-        row += 1;
     }
-    found
+    None
 }
 
 /// The first cell in row order that `kanji` reads as `c`.
-pub fn kanji_reverse(t: &[u16], c: u32) -> Place
+pub fn kanji_reverse(t: &[u16], c: u32) -> Option<(u8, u8)>
     ensures { place_value result ≡ kanji_reverse t.now c }
 {
     if c == 0 {
-        return Place::Nowhere;
+        return None;
     }
-    let mut found = Place::Nowhere;
-    let mut row: u8 = 1;
-    'rows: loop {
-        if row == 90 {
-            found = kanji_symbol_reverse(c);
-            break 'rows;
-        }
+    for row in 1..90 {
         if row_lacks(t, row, c) {
-            row += 1;
-            continue 'rows;
+            continue;
         }
-        let mut cell: u8 = 1;
-        'cells: while cell < 95 {
+        for cell in 1..95 {
             if tables::kanji_at(t, row, cell) == c {
-                found = Place::At(row, cell);
-                break 'rows;
+                return Some((row, cell));
             }
-            cell += 1;
         }
-        row += 1;
     }
-    found
+    kanji_symbol_reverse(c)
 }
 
 /// The first cell in row order that `additional_symbols` reads as `c`. Rows 1 to 84 have none.
-pub fn additional_reverse(c: u32) -> Place
+pub fn additional_reverse(c: u32) -> Option<(u8, u8)>
     ensures { place_value result ≡ additional_reverse c }
 {
     if c == 0 {
-        return Place::Nowhere;
+        return None;
     }
     if is_no_symbol(c) {
-        return Place::Nowhere;
+        return None;
     }
     let scalars = addsym::symbols();
-    if !among_symbols(&scalars, c) {
-        return Place::Nowhere;
+    if !among(&scalars, c) {
+        return None;
     }
-    let mut found = Place::Nowhere;
-    let mut row: u8 = 85;
-    'rows: while row < 95 {
-        let mut cell: u8 = 1;
-        'cells: while cell < 95 {
+    for row in 85..95 {
+        for cell in 1..95 {
             if addsym::symbol_in(&scalars, row, cell) == c {
-                found = Place::At(row, cell);
-                break 'rows;
+                return Some((row, cell));
             }
-            cell += 1;
         }
-        row += 1;
     }
-    found
+    None
 }

@@ -1,28 +1,21 @@
--- `addsym::put_row` meets its contract. The invariant: the first i numbers of the row are written. Assumes nothing.
-use mathlib.Core.Path.{◌≡◌, refl, ◌∙◌}
+-- `addsym::put_row` meets its contract. Assumes nothing.
+use mathlib.Core.Path.{◌≡◌, sym, ◌∙◌}
+use mathlib.Core.List.{List, ◌++◌}
+use Prim.Native.Nat.{ℕ, ◌+◌, ◌-◌, ◌≤◌}
 use native.Mathlib.Omega.{arith}
-use lib.ListN.{take, length-set}
-use lib.Seq.{take_all}
-use Rattle.lent.proofs.Stores.{sets_more}
+use lib.ListN.{length, take, drop}
+use lib.Seq.{drop-drop}
+use Rattle.std.proofs.Common.{append_assoc}
+use Rattle.std.proofs.lemmas.List.Edits.{sets, sets-eq}
 use Rattle.addsym.proofs.put_row.Goals as goal
 
-pub loop-i-init : goal.loop-i-init
-loop-i-init c = (omega arith, refl, refl)
-
-pub bounds-all-at : goal.bounds-all-at
-bounds-all-at c = omega arith
-
-pub loop-i-preserved : goal.loop-i-preserved
-loop-i-preserved c =
-    let e = sets_more _ _ _ _ _ c.loop-i-test.true c.loop-i.invariant.1 in
-    (omega arith, e, simp length-set c.loop-i.invariant.2)
-
-pub shape_of-all : goal.shape_of-all
-shape_of-all c = c.loop-i.invariant.2
+-- a part that was written, between what stands before it and behind it
+written : (vs l : List ℕ) (i k : ℕ) → k ≡ length vs → i + length vs ≤ length l → take i l ++ (vs ++ drop k (drop i l)) ≡ sets l i vs
+written vs l i k e h =
+    rw (e, drop-drop (length vs) i l) (sym (sets-eq vs l i h ∙ append_assoc (take i l) vs (drop (i + length vs) l)))
 
 pub returns : goal.returns
 returns c =
-    let i = c.loop-i.i in
-    let s = c.args.row.now in
-    let e : take i s ≡ s = take_all i s (omega arith) in
-    c.loop-i.invariant.1 ∙ rw e
+    let at = c.args.at in
+    let row = c.args.row.now in
+    rw c.copy_from_slice.ensures.after (written row c.args.all.now at (at + length row - at) (omega arith) c.requires)

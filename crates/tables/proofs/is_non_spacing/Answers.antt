@@ -1,37 +1,20 @@
--- `tables::is_non_spacing` meets its contract. The invariant: the place is as far on as it is among the marks that are
--- left. Assumes nothing.
-use native.Mathlib.Nat.{zero-add}
-use native.Mathlib.Omega.{arith}
+-- `tables::is_non_spacing` meets its contract. Assumes nothing.
+use Rattle.std.proofs.Common.{◌∙◌, sym, refl}
 use Rattle.tables.specs.Kanji.{non_spacing}
-use Rattle.tables.proofs.CellLaws.{place_hit, place_miss, place_end}
+use Rattle.tables.proofs.CellLaws.{place_found, place_missing}
 use Rattle.tables.proofs.MarkLaws.{lower, met, unmet}
 use Rattle.tables.proofs.is_non_spacing.Goals as goal
 
 pub returns-then-c-lt768 : goal.returns-then-c-lt768
 returns-then-c-lt768 c = lower c.args.c c.if-c-lt768.true
 
-pub loop-turns-init : goal.loop-turns-init
-loop-turns-init c = (omega arith, zero-add _)
-
-pub returns-then-a-c : goal.returns-then-a-c
-returns-then-a-c c =
+pub returns-in-Some : goal.returns-in-Some
+returns-in-Some c =
     let x = c.args.c in
-    let h = c.loop-turns-test.true in
-    let e = place_hit non_spacing c.loop-turns.turns h x c.if-a-c.true in
-    met x c.if-c-lt768.false (omega (arith, h, c.loop-turns.invariant.1, e)) (omega (arith, c.loop-turns.invariant.1, e))
+    let p = place_found non_spacing x c.in-Some.place (sym c.place_with.ensures ∙ c.in-Some.is) in
+    met x c.if-c-lt768.false p.0 p.1
 
-pub loop-turns-smaller : goal.loop-turns-smaller
-loop-turns-smaller c = omega arith
-
-pub loop-turns-preserved : goal.loop-turns-preserved
-loop-turns-preserved c =
+pub returns-in-None : goal.returns-in-None
+returns-in-None c =
     let x = c.args.c in
-    let e = place_miss non_spacing c.loop-turns.turns c.loop-turns-test.true x c.if-a-c.false in
-    (omega arith, omega (arith, c.loop-turns.invariant.1, e))
-
-pub returns : goal.returns
-returns c =
-    let x = c.args.c in
-    let h = c.loop-turns-test.false in
-    let e = place_end non_spacing c.loop-turns.turns h x in
-    unmet x c.if-c-lt768.false (omega (arith, h, c.loop-turns.invariant.1, e)) (omega (arith, h, c.loop-turns.invariant.0))
+    unmet x c.if-c-lt768.false (place_missing non_spacing x (sym c.place_with.ensures ∙ c.in-None.is)) refl

@@ -1,15 +1,16 @@
--- `tables_reverse::additional_reverse` meets its contract. The invariant: nothing is found before the cell. Assumes nothing.
+-- `tables_reverse::additional_reverse` meets its contract. Assumes nothing.
 use mathlib.Core.Path.{◌≡◌, refl, sym, ap, ◌∙◌}
 use mathlib.Core.List.{[]}
 use mathlib.Core.Option.{none}
 use Prim.Native.Nat.{ℕ}
+use Rattle.std.proofs.Common.{rules, length}
 use native.Mathlib.Omega.{arith}
 use Rattle.addsym.specs.Symbols.{symbol}
 use Rattle.tables_reverse.specs.Reverse.{symbol_place, additional_reverse, place_of}
 use Rattle.base.proofs.FirstLaws.{first_char, first_zero}
 use Rattle.tables_reverse.proofs.PlaceLaws.{symbol_place_lem}
-use Rattle.tables_reverse.proofs.RowLaws.{no_cell}
-use Rattle.tables_reverse.proofs.PassedLaws.{next_cell, next_row, past_rows, found_here, found_nowhere}
+use Rattle.tables_reverse.proofs.RowLaws.{absent, no_cell}
+use Rattle.tables_reverse.proofs.PassedLaws.{next_cell, past_rows, found_here, found_nowhere}
 use Rattle.tables_reverse.proofs.SymbolLaws.{from_85}
 use Rattle.tables_reverse.proofs.additional_reverse.Goals as goal
 
@@ -29,51 +30,34 @@ returns-then-is_no_symbol c =
     let h = c.if-c-eq0.false in
     nowhere c.args.c h (λ r k. c.is_no_symbol.ensures c.if-is_no_symbol.true r k h)
 
-pub returns-then-not-among_symbols : goal.returns-then-not-among_symbols
-returns-then-not-among_symbols c =
+pub returns-then-not-among : goal.returns-then-not-among
+returns-then-not-among c =
     let h = c.if-c-eq0.false in
     let x = c.args.c in
-    nowhere x h (no_cell c.symbols-scalars.result x c.symbols-scalars.ensures h (c.among_symbols.ensures c.if-not-among_symbols.true))
+    let s = c.symbols-scalars in
+    let n : length s.result ≡ 658 = search rules in
+    nowhere x h (no_cell s.result x s.ensures h (λ i b. absent s.result x (sym c.among.ensures ∙ c.if-not-among.true) i (omega (arith, n))))
 
-pub rows-init : goal.rows-init
-rows-init c =
-    from_85 c.args.c c.if-c-eq0.false
+pub loop-row-init : goal.loop-row-init
+loop-row-init c = from_85 c.args.c c.if-c-eq0.false
 
-pub cells-init : goal.cells-init
-cells-init c = c.rows.invariant
-
-pub overflow_add-cell : goal.overflow_add-cell
-overflow_add-cell c = omega arith
-
-pub cells-smaller : goal.cells-smaller
-cells-smaller c = omega arith
-
-pub cells-preserved : goal.cells-preserved
-cells-preserved c =
-    let p = c.cells.invariant in
-    let e = symbol_place_lem c.rows.row c.cells.cell p.row_from (omega arith) p.cell_from (omega arith) 0 in
-    let s = c.symbol_in.ensures ∙ c.symbols-scalars.ensures c.rows.row c.cells.cell in
-    next_cell p c.rows-test.true c.cells-test.true (λ q. c.if-symbol_in-c.false (s ∙ sym e ∙ q))
-
-pub overflow_add-row : goal.overflow_add-row
-overflow_add-row c = omega arith
-
-pub rows-smaller : goal.rows-smaller
-rows-smaller c = omega arith
-
-pub rows-preserved : goal.rows-preserved
-rows-preserved c = next_row c.cells.invariant c.rows-test.true (omega arith)
-
-pub returns-after-rows : goal.returns-after-rows
-unfolding additional_reverse
-returns-after-rows c =
-    found_nowhere c.rows.invariant (omega arith) ∙ ap place_of (sym (first_char symbol_place c.args.c [] 8836 c.if-c-eq0.false))
+pub loop-cell-preserved : goal.loop-cell-preserved
+loop-cell-preserved c =
+    let p = c.loop-cell.invariant in
+    let e = symbol_place_lem c.loop-row.row c.loop-cell.cell p.row_from (omega arith) p.cell_from (omega arith) 0 in
+    let s = c.symbol_in.ensures ∙ c.symbols-scalars.ensures c.loop-row.row c.loop-cell.cell in
+    next_cell p c.loop-row-test.true c.loop-cell-test.true (λ q. c.if-symbol_in-c.false (s ∙ sym e ∙ q))
 
 pub returns-then-symbol_in-c : goal.returns-then-symbol_in-c
 unfolding additional_reverse
 returns-then-symbol_in-c c =
-    let p = c.cells.invariant in
-    let e = symbol_place_lem c.rows.row c.cells.cell p.row_from (omega arith) p.cell_from (omega arith) 0 in
-    let s = c.symbol_in.ensures ∙ c.symbols-scalars.ensures c.rows.row c.cells.cell in
-    found_here p c.rows-test.true c.cells-test.true (e ∙ sym s ∙ c.if-symbol_in-c.true)
+    let p = c.loop-cell.invariant in
+    let e = symbol_place_lem c.loop-row.row c.loop-cell.cell p.row_from (omega arith) p.cell_from (omega arith) 0 in
+    let s = c.symbol_in.ensures ∙ c.symbols-scalars.ensures c.loop-row.row c.loop-cell.cell in
+    found_here p c.loop-row-test.true c.loop-cell-test.true (e ∙ sym s ∙ c.if-symbol_in-c.true)
     ∙ ap place_of (sym (first_char symbol_place c.args.c [] 8836 c.if-c-eq0.false))
+
+pub returns : goal.returns
+unfolding additional_reverse
+returns c =
+    found_nowhere c.loop-row.invariant (omega arith) ∙ ap place_of (sym (first_char symbol_place c.args.c [] 8836 c.if-c-eq0.false))

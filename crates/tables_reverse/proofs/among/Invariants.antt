@@ -1,13 +1,7 @@
--- `tables_reverse::among` meets its contract. The invariant: where nothing was hit, the number is at no place so far. Assumes nothing.
-use Prim.Native.Nat.{◌-◌, ◌≤◌}
-use mathlib.Core.Path.{◌≡◌}
-use mathlib.Core.Bool.{false}
-use lib.ListN.{length}
-use Rattle.tables_reverse.proofs.RowLaws.{None}
+-- `tables_reverse::among` meets its contract. The invariant: whether one of the numbers so far was hit. Assumes nothing.
+use Rattle.std.proofs.Common.{◌≡◌, take}
+use Rattle.std.specs.List.{list_any}
 use Rattle.tables_reverse.proofs.among.Given as goal
 
-abbrev pub invariant-loop-i : goal.invariant-loop-i
-invariant-loop-i l = (l.i ≤ length l.cells) × (l.hit ≡ false → None l.cells l.c l.i)
-
-abbrev pub decreases-loop-i : goal.decreases-loop-i
-decreases-loop-i l = length l.cells - l.i
+abbrev pub invariant-loop-x : goal.invariant-loop-x
+invariant-loop-x g l = l.hit ≡ list_any (λ x. g.T.PartialEq.eq x l.c) (take l.x-index l.cells)

@@ -1,4 +1,4 @@
--- `tables_reverse::kanji_symbol_reverse` meets its contract. The invariant: nothing is found before the cell. Assumes nothing.
+-- `tables_reverse::kanji_symbol_reverse` meets its contract. Assumes nothing.
 use mathlib.Core.Path.{◌≡◌, refl, sym, ◌∙◌}
 use mathlib.Core.Bool.{Bool, true, false}
 use mathlib.Core.List.{List}
@@ -8,14 +8,14 @@ use lib.ListN.{get_or}
 use Rattle.addsym.specs.Symbols.{symbol}
 use Rattle.tables.specs.Kanji.{place, gap}
 use Rattle.tables_reverse.specs.Reverse.{kanji_place}
-use Rattle.tables.specs.declared.Place.TheVariants.{Nowhere}
 use Rattle.tables_reverse.proofs.PlaceLaws.{symbol_cell, in_gap, off_gap}
-use Rattle.tables_reverse.proofs.PassedLaws.{next_cell, next_row, past_rows, found_here, found_nowhere}
+use Rattle.tables_reverse.proofs.PassedLaws.{next_cell, past_rows, found_here, found_nowhere}
 use Rattle.tables_reverse.proofs.kanji_symbol_reverse.Invariants.{Over}
+use Rattle.tables_reverse.proofs.kanji_symbol_reverse.Goals.{else-not-in_gap-via-then-not-in_gap+else-symbol_in-c, else-not-in_gap-via-else-not-in_gap}
 use Rattle.tables_reverse.proofs.kanji_symbol_reverse.Goals as goal
 
-from-90 : (c : ℕ) → Over c 90 1 Nowhere
-from-90 c t = record { row_from = omega arith; row_to = omega arith; cell_from = omega arith; cell_to = omega arith; nowhere = refl; same = refl }
+from-90 : (c : ℕ) → Over c 90 1
+from-90 c t = record { row_from = omega arith; row_to = omega arith; cell_from = omega arith; cell_to = omega arith; same = refl }
 
 -- what a cell reads as, in a gap and elsewhere
 module _ (c row cell : ℕ) (h : c ≡ 0 → ⊥) (a : 90 ≤ row) (b : row ≤ 94) (d : 1 ≤ cell) (e : cell ≤ 94) (t : List ℕ) where
@@ -37,62 +37,32 @@ returns-then-is_no_symbol c t =
     past_rows 5 90 refl (from-90 c.args.c t)
     (λ r k a b d e. no-miss c.args.c r k c.requires a b d e t (c.is_no_symbol.ensures c.if-is_no_symbol.true r k c.requires))
 
-pub rows-init : goal.rows-init
-rows-init c = (omega arith, from-90 c.args.c)
-
-pub cells-init : goal.cells-init
-cells-init c = c.rows.invariant
-
-pub overflow_add-cell : goal.overflow_add-cell
-overflow_add-cell c = omega arith
-
-pub cells-smaller-then-in_gap : goal.cells-smaller-then-in_gap
-cells-smaller-then-in_gap c = omega arith
-
-pub cells-preserved-then-in_gap : goal.cells-preserved-then-in_gap
-cells-preserved-then-in_gap c =
-    let p = c.cells.invariant in
-    let e = sym c.in_gap.ensures ∙ c.if-in_gap.true in (
-      p.0,
-      λ t. next_cell (p.1 t) c.rows-test.true c.cells-test.true
-          (gap-miss c.args.c c.rows.row c.cells.cell c.requires p.0 (omega arith) (p.1 t).cell_from (omega arith) t e),
-    )
-
-pub overflow_add-cell-in-cells : goal.overflow_add-cell-in-cells
-overflow_add-cell-in-cells c = omega arith
-
-pub cells-smaller : goal.cells-smaller
-cells-smaller c = omega arith
-
-pub cells-preserved : goal.cells-preserved
-cells-preserved c =
-    let p = c.cells.invariant in
-    let g = sym c.in_gap.ensures ∙ c.if-in_gap.false in
-    let s = c.symbol_in.ensures ∙ c.symbols-scalars.ensures c.rows.row c.cells.cell in (
-      p.0,
-      λ t. next_cell (p.1 t) c.rows-test.true c.cells-test.true
-          (λ q. c.if-symbol_in-c.false
-          (s ∙ sym (off-reads c.args.c c.rows.row c.cells.cell c.requires p.0 (omega arith) (p.1 t).cell_from (omega arith) t g) ∙ q)),
-    )
-
-pub overflow_add-row : goal.overflow_add-row
-overflow_add-row c = omega arith
-
-pub rows-smaller : goal.rows-smaller
-rows-smaller c = omega arith
-
-pub rows-preserved : goal.rows-preserved
-rows-preserved c =
-    let p = c.cells.invariant in
-    (omega arith, λ t. next_row (p.1 t) c.rows-test.true c.cells-test.false)
-
-pub returns-after-rows : goal.returns-after-rows
-returns-after-rows c t = found_nowhere (c.rows.invariant.1 t) c.rows-test.false
+pub loop-cell-preserved : goal.loop-cell-preserved
+loop-cell-preserved c t =
+    let x = c.args.c in
+    let row = c.loop-row.row in
+    let cell = c.loop-cell.cell in
+    let p = c.loop-cell.invariant t in
+    let a : 90 ≤ row = omega arith in
+    let b : row ≤ 94 = omega arith in
+    let e : cell ≤ 94 = omega arith in
+    next_cell p c.loop-row-test.true c.loop-cell-test.true
+    (elim c.else-not-in_gap.branch [
+      | else-not-in_gap-via-then-not-in_gap+else-symbol_in-c w ↦
+          no-miss x row cell c.requires a b p.cell_from e t (λ q. w.if-symbol_in-c.false (w.symbol_in.ensures ∙ c.symbols-scalars.ensures row cell ∙ q))
+      | else-not-in_gap-via-else-not-in_gap w ↦
+          gap-miss x row cell c.requires a b p.cell_from e t (sym c.in_gap.ensures ∙ w.if-not-in_gap.false)
+    ])
 
 pub returns-then-symbol_in-c : goal.returns-then-symbol_in-c
 returns-then-symbol_in-c c t =
-    let p = c.cells.invariant in
-    let g = sym c.in_gap.ensures ∙ c.if-in_gap.false in
-    let s = c.symbol_in.ensures ∙ c.symbols-scalars.ensures c.rows.row c.cells.cell in
-    found_here (p.1 t) c.rows-test.true c.cells-test.true
-    (off-reads c.args.c c.rows.row c.cells.cell c.requires p.0 (omega arith) (p.1 t).cell_from (omega arith) t g ∙ sym s ∙ c.if-symbol_in-c.true)
+    let row = c.loop-row.row in
+    let cell = c.loop-cell.cell in
+    let p = c.loop-cell.invariant t in
+    let g = sym c.in_gap.ensures ∙ c.if-not-in_gap.true in
+    let s = c.symbol_in.ensures ∙ c.symbols-scalars.ensures row cell in
+    found_here p c.loop-row-test.true c.loop-cell-test.true
+    (off-reads c.args.c row cell c.requires (omega arith) (omega arith) p.cell_from (omega arith) t g ∙ sym s ∙ c.if-symbol_in-c.true)
+
+pub returns : goal.returns
+returns c t = found_nowhere (c.loop-row.invariant t) c.loop-row-test.false

@@ -1,16 +1,12 @@
 -- `tables_reverse::table_lacks` meets its contract. Assumes nothing.
 use mathlib.Core.Path.{sym, ◌∙◌}
-use mathlib.Core.Bool.{false≢true}
 use Prim.Native.Nat.{◌+◌, ◌*◌, ◌-◌}
 use native.Mathlib.Omega.{arith}
 use borrow.Author.Tests.{not-true}
 use Rattle.tables.specs.Kanji.{place}
 use Rattle.tables.proofs.KanjiLaws.{on_grid_lem}
-use Rattle.tables_reverse.proofs.RowLaws.{in_part}
+use Rattle.tables_reverse.proofs.RowLaws.{absent, in_part}
 use Rattle.tables_reverse.proofs.table_lacks.Goals as goal
-
-pub returns-then-t-from : goal.returns-then-t-from
-returns-then-t-from c e = absurd (false≢true e)
 
 pub returns-then-c-gt65535 : goal.returns-then-c-gt65535
 returns-then-c-gt65535 c e cell a b r =
@@ -23,4 +19,4 @@ returns c e cell a b r =
     let q = on_grid_lem t c.args.row cell c.requires.le_row (omega (arith, c.requires.row_bound)) a b in
     let f = (c.args.row - 1) * 94 in
     in_part t f (f + 96 - f) c.args.c (cell - 1) (omega (arith, c.if-t-from.false)) (omega arith)
-    (c.among.ensures (not-true c.among.result e)) (sym q ∙ r)
+    (absent _ c.args.c (sym c.among.ensures ∙ not-true c.among.result e)) (sym q ∙ r)
