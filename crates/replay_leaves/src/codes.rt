@@ -1,21 +1,15 @@
 // The answers of `control` and `sets`, for number i of each part. Where there is none, 255.
-use crate::numbers::{low, string, value, wide, yes};
-use control::Params;
-use sets::{CharSize, Designated, GraphicSet, InitialState, Shift};
+use crate::numbers::{low, string, wide};
+use sets::{CharSize, GraphicSet, InitialState, Shift};
 
 /// Codes 00 to FF.
 pub fn fixed_params(i: usize) -> usize {
-    match control::fixed_params(low(i)) {
-        Params::Fixed(n) => n,
-        Params::NoEntry => 255,
-    }
+    control::fixed_params(low(i)).unwrap_or(255)
 }
 
 /// Codes 00 to FF, six numbers each: the name, a string with room for five.
 pub fn name(i: usize) -> usize {
-    let name = control::name(low(i / 6));
-    let bytes = name.bytes;
-    string(name.len, bytes, i % 6)
+    string(control::name(low(i / 6)).as_bytes(), i % 6)
 }
 
 /// Sets 0 to 31, 27 numbers each: bytes a character, final byte, whether in the DRCS form, then the designations to G0,
@@ -27,21 +21,20 @@ pub fn graphic_sets(i: usize) -> usize {
         return set.bytes_per_char();
     }
     if k == 1 {
-        return value(set.final_byte());
+        return usize::from(set.final_byte());
     }
     if k == 2 {
-        return yes(set.is_drcs_form());
+        return usize::from(set.is_drcs_form());
     }
     let sequence = set.designation(low((k - 3) / 6));
-    let bytes = sequence.bytes;
-    string(sequence.len, bytes, (k - 3) % 6)
+    string(sequence.as_slice(), (k - 3) % 6)
 }
 
 /// Final bytes 00 to FF in four forms: one-byte plain, one-byte DRCS, two-byte plain, two-byte DRCS.
 pub fn from_designation(i: usize) -> usize {
     match GraphicSet::from_designation(512 <= i, i / 256 % 2 == 1, low(i)) {
-        Designated::Set(set) => wide(set.number()),
-        Designated::Unknown => 255,
+        Some(set) => wide(set.number()),
+        None => 255,
     }
 }
 
@@ -65,11 +58,9 @@ pub fn shifts(i: usize) -> usize {
     let shift = shift(i / 4);
     let k = i % 4;
     if k == 3 {
-        return value(shift.element());
+        return usize::from(shift.element());
     }
-    let sequence = shift.bytes();
-    let bytes = sequence.bytes;
-    string(sequence.len, bytes, k)
+    string(shift.bytes(), k)
 }
 
 /// The sizes in the file's order.
@@ -84,7 +75,7 @@ fn size(i: usize) -> CharSize {
 
 /// Small, middle, normal, then SZX 00 to FF.
 pub fn is_narrow(i: usize) -> usize {
-    yes(size(i).is_narrow())
+    usize::from(size(i).is_narrow())
 }
 
 /// The initial states in the file's order.
@@ -107,7 +98,7 @@ pub fn initial_states(i: usize) -> usize {
     }
     let invocations = state.invocations();
     if k == 4 {
-        return value(invocations.gl);
+        return usize::from(invocations.gl);
     }
-    value(invocations.gr)
+    usize::from(invocations.gr)
 }

@@ -1,32 +1,16 @@
 // Answers as the numbers of `leaves.bin`, and its places as arguments.
-ghost use Rattle.std.specs.Prelude.{◌<◌};
-
-/// A byte as a number.
-pub fn value(x: u8) -> usize
-    ensures { result < 256 }
-{
-    x as usize
-}
 
 /// A character, or a set's number, as a number.
 pub fn wide(x: u32) -> usize {
     x as usize
 }
 
-/// A yes is 1, a no 0.
-pub fn yes(b: bool) -> usize {
-    if b { 1 } else { 0 }
-}
-
-/// Number k of a byte string: its length, then its bytes.
-pub fn string(len: usize, bytes: [u8; 5], k: usize) -> usize {
+/// Number k of a byte string: its length, then its bytes, and zeros behind them.
+pub fn string(bytes: &[u8], k: usize) -> usize {
     if k == 0 {
-        return len;
+        return bytes.len();
     }
-    if k < 6 {
-        return value(bytes[k - 1]);
-    }
-    0
+    bytes.get(k - 1).map_or(0, |&byte| usize::from(byte))
 }
 
 /// A number up to FF as a byte.
