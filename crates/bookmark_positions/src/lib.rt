@@ -15,10 +15,8 @@ pub fn shift(issues: &mut [u32], n: usize, by: u32)
     requires by_index { (k : ℕ) → k < n → by + get_or issues.old (5 * k + 4) 0 ≤ 0xFFFFFFFF }
     ensures { issues.new ≡ moved n by issues.old }
 {
-    let mut k = 0;
-    while k < n {
-        let at = NUMBERS * k + POSITION;
-        issues[at] = by + issues[at];
-        k += 1;
+    // By number: a proof knows nothing of what a loop over `chunks_exact_mut` writes.
+    for k in 0..n {
+        issues[NUMBERS * k + POSITION] += by;
     }
 }

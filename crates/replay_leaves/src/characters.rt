@@ -1,5 +1,5 @@
 // The answers of `tables`, for number i of each part.
-use crate::numbers::{low, scalar, wide, yes};
+use crate::numbers::{low, scalar, wide};
 use tables::Cell;
 
 /// The character of a cell, 0 for none.
@@ -53,5 +53,5 @@ pub fn fullwidth(i: usize) -> usize {
 
 /// U+0000 to U+2FFF.
 pub fn is_non_spacing(i: usize) -> usize {
-    yes(tables::is_non_spacing(scalar(i)).mark)
+    usize::from(tables::is_non_spacing(scalar(i)).mark)
 }

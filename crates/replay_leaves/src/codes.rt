@@ -1,5 +1,5 @@
 // The answers of `control` and `sets`, for number i of each part. Where there is none, 255.
-use crate::numbers::{low, string, value, wide, yes};
+use crate::numbers::{low, string, wide};
 use sets::{CharSize, GraphicSet, InitialState, Shift};
 
 /// Codes 00 to FF.
@@ -21,10 +21,10 @@ pub fn graphic_sets(i: usize) -> usize {
         return set.bytes_per_char();
     }
     if k == 1 {
-        return value(set.final_byte());
+        return usize::from(set.final_byte());
     }
     if k == 2 {
-        return yes(set.is_drcs_form());
+        return usize::from(set.is_drcs_form());
     }
     let sequence = set.designation(low((k - 3) / 6));
     string(sequence.as_slice(), (k - 3) % 6)
@@ -58,7 +58,7 @@ pub fn shifts(i: usize) -> usize {
     let shift = shift(i / 4);
     let k = i % 4;
     if k == 3 {
-        return value(shift.element());
+        return usize::from(shift.element());
     }
     string(shift.bytes(), k)
 }
@@ -75,7 +75,7 @@ fn size(i: usize) -> CharSize {
 
 /// Small, middle, normal, then SZX 00 to FF.
 pub fn is_narrow(i: usize) -> usize {
-    yes(size(i).is_narrow())
+    usize::from(size(i).is_narrow())
 }
 
 /// The initial states in the file's order.
@@ -98,7 +98,7 @@ pub fn initial_states(i: usize) -> usize {
     }
     let invocations = state.invocations();
     if k == 4 {
-        return value(invocations.gl);
+        return usize::from(invocations.gl);
     }
-    value(invocations.gr)
+    usize::from(invocations.gr)
 }

@@ -8,37 +8,41 @@ mod codes;
 mod numbers;
 mod part;
 
-use part::{Part, compare};
+use part::compare;
 use replay_vectors::files::{cells, read};
 use replay_vectors::tally::{Tally, line};
 
 /// The code tables of the graphic sets.
 fn code_tables(rt: &impl Print, answers: &[u8], t: &[u16]) -> Tally {
-    let kanji = line(rt, b"kanji", compare(Part::Kanji, answers, t, 0, 0, 8836));
+    let kanji = line(
+        rt,
+        b"kanji",
+        compare(|i| characters::kanji(t, i), answers, 0, 0, 8836),
+    );
     let additional = line(
         rt,
         b"additional_symbols",
-        compare(Part::AdditionalSymbols, answers, t, 8836, 0, 8836),
+        compare(characters::additional_symbols, answers, 8836, 0, 8836),
     );
     let alphanumeric = line(
         rt,
         b"alphanumeric",
-        compare(Part::Alphanumeric, answers, t, 17672, 0, 256),
+        compare(characters::alphanumeric, answers, 17672, 0, 256),
     );
     let hiragana = line(
         rt,
         b"hiragana",
-        compare(Part::Hiragana, answers, t, 17928, 0, 256),
+        compare(characters::hiragana, answers, 17928, 0, 256),
     );
     let katakana = line(
         rt,
         b"katakana",
-        compare(Part::Katakana, answers, t, 18184, 0, 256),
+        compare(characters::katakana, answers, 18184, 0, 256),
     );
     let x0201 = line(
         rt,
         b"jis_x0201_katakana",
-        compare(Part::JisX0201Katakana, answers, t, 18440, 0, 256),
+        compare(characters::jis_x0201_katakana, answers, 18440, 0, 256),
     );
     kanji
         .plus(additional)
@@ -49,37 +53,33 @@ fn code_tables(rt: &impl Print, answers: &[u8], t: &[u16]) -> Tally {
 }
 
 /// The control codes, the graphic sets, the shifts, the sizes and the initial states.
-fn codes_and_sets(rt: &impl Print, answers: &[u8], t: &[u16]) -> Tally {
+fn codes_and_sets(rt: &impl Print, answers: &[u8]) -> Tally {
     let params = line(
         rt,
         b"fixed_params",
-        compare(Part::FixedParams, answers, t, 18696, 0, 256),
+        compare(codes::fixed_params, answers, 18696, 0, 256),
     );
-    let names = line(rt, b"name", compare(Part::Name, answers, t, 18952, 0, 1536));
+    let names = line(rt, b"name", compare(codes::name, answers, 18952, 0, 1536));
     let sets = line(
         rt,
         b"graphic_sets",
-        compare(Part::GraphicSets, answers, t, 20488, 0, 864),
+        compare(codes::graphic_sets, answers, 20488, 0, 864),
     );
     let designated = line(
         rt,
         b"from_designation",
-        compare(Part::FromDesignation, answers, t, 21352, 0, 1024),
+        compare(codes::from_designation, answers, 21352, 0, 1024),
     );
-    let shifts = line(
-        rt,
-        b"shifts",
-        compare(Part::Shifts, answers, t, 22376, 0, 36),
-    );
+    let shifts = line(rt, b"shifts", compare(codes::shifts, answers, 22376, 0, 36));
     let sizes = line(
         rt,
         b"is_narrow",
-        compare(Part::IsNarrow, answers, t, 22412, 0, 259),
+        compare(codes::is_narrow, answers, 22412, 0, 259),
     );
     let initial = line(
         rt,
         b"initial_states",
-        compare(Part::InitialStates, answers, t, 22671, 0, 12),
+        compare(codes::initial_states, answers, 22671, 0, 12),
     );
     params
         .plus(names)
@@ -91,14 +91,14 @@ fn codes_and_sets(rt: &impl Print, answers: &[u8], t: &[u16]) -> Tally {
 }
 
 /// What is asked of Unicode characters. Of surrogates, D800 to DFFF, the Rust has no answer.
-fn unicode(rt: &impl Print, answers: &[u8], t: &[u16]) -> Tally {
-    let low = compare(Part::Fullwidth, answers, t, 22683, 0, 0xD800);
-    let high = compare(Part::Fullwidth, answers, t, 22683, 0xE000, 0x10000);
+fn unicode(rt: &impl Print, answers: &[u8]) -> Tally {
+    let low = compare(characters::fullwidth, answers, 22683, 0, 0xD800);
+    let high = compare(characters::fullwidth, answers, 22683, 0xE000, 0x10000);
     let fullwidth = line(rt, b"fullwidth", low.plus(high));
     let marks = line(
         rt,
         b"is_non_spacing",
-        compare(Part::IsNonSpacing, answers, t, 88219, 0, 12288),
+        compare(characters::is_non_spacing, answers, 88219, 0, 12288),
     );
     fullwidth.plus(marks)
 }
@@ -106,8 +106,8 @@ fn unicode(rt: &impl Print, answers: &[u8], t: &[u16]) -> Tally {
 /// All parts, and the sums.
 fn replay(rt: &impl Print, answers: &[u8], t: &[u16]) {
     let sum = code_tables(rt, answers, t)
-        .plus(codes_and_sets(rt, answers, t))
-        .plus(unicode(rt, answers, t));
+        .plus(codes_and_sets(rt, answers))
+        .plus(unicode(rt, answers));
     line(rt, b"leaves", sum);
 }
 

@@ -19,26 +19,15 @@ pub fn number_room() -> [u32; 65536]
 
 /// The bytes that are wanted, and zeros behind them.
 pub fn same_bytes(buffer: &[u8], want: &[u8]) -> bool {
-    let mut same = want.len() <= buffer.len();
-    let mut i = 0;
-    while i < buffer.len() {
-        let mut x: u8 = 0;
-        if i < want.len() {
-            x = want[i];
-        }
-        same = same & (buffer[i] == x);
-        i += 1;
-    }
-    same
+    buffer.starts_with(want) && buffer[want.len()..].iter().all(|&byte| byte == 0)
 }
 
 /// The numbers that are wanted, and zeros behind them.
 pub fn same_numbers(buffer: &[u32], want: &[u8]) -> bool {
-    let mut same = want.len() / 4 <= buffer.len();
-    let mut i = 0;
-    while i < buffer.len() {
-        same = same & (buffer[i] == number(want, 4 * i));
-        i += 1;
+    for i in 0..buffer.len() {
+        if buffer[i] != number(want, 4 * i) {
+            return false;
+        }
     }
-    same
+    want.len() / 4 <= buffer.len()
 }

@@ -25,6 +25,7 @@ fn read_full(reader: &mut impl Read, buffer: &mut [u8]) -> usize
     ensures within { result ≤ length buffer.new }
     ensures prefix { result ≡ length (take result buffer.new) }
 {
+    // A loop, since `read_exact` does not say how many bytes a shorter file gave.
     let mut done = 0;
     while done < buffer.len() {
         let n = read_once(reader, &mut buffer[done..]);
@@ -51,18 +52,11 @@ pub fn read(rt: &impl Files, path: &[u8], buffer: &mut [u8]) -> usize
     }
 }
 
-/// A byte as a number.
-fn value(x: u8) -> usize
-    ensures { result < 256 }
-{
-    x as usize
-}
-
 /// The byte at a place, 0 past the end.
 pub fn byte(bytes: &[u8], i: usize) -> usize
     ensures { result < 256 }
 {
-    if i < bytes.len() { value(bytes[i]) } else { 0 }
+    bytes.get(i).map_or(0, |&x| usize::from(x))
 }
 
 /// Fills the cell table from `jis.tab`, and answers whether the file has the bytes of one, no more and no fewer; where

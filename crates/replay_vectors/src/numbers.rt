@@ -8,10 +8,12 @@ pub fn number(bytes: &[u8], at: usize) -> u32 {
     if at >= bytes.len() {
         return 0;
     }
-    (byte(bytes, at) * 0x1000000
-        + byte(bytes, at + 1) * 0x10000
-        + byte(bytes, at + 2) * 0x100
-        + byte(bytes, at + 3)) as u32
+    u32::from_be_bytes([
+        byte(bytes, at) as u8,
+        byte(bytes, at + 1) as u8,
+        byte(bytes, at + 2) as u8,
+        byte(bytes, at + 3) as u8,
+    ])
 }
 
 /// The same as a count.

@@ -1,48 +1,29 @@
 // How many answers were compared, and how many of them differ.
-#[derive(Clone, Copy)]
+#[derive(Clone, Copy, Debug, Default, PartialEq, Eq)]
 pub struct Tally {
     pub compared: usize,
     pub differing: usize,
 }
 
-/// A sum; where it does not fit, the largest number.
-fn sum(a: usize, b: usize) -> usize {
-    if a <= usize::MAX - b {
-        a + b
-    } else {
-        usize::MAX
-    }
-}
-
 impl Tally {
     /// Nothing compared.
     pub fn none() -> Tally {
-        Tally {
-            compared: 0,
-            differing: 0,
-        }
+        Tally::default()
     }
 
     /// One answer compared.
     pub fn one(same: bool) -> Tally {
-        if same {
-            Tally {
-                compared: 1,
-                differing: 0,
-            }
-        } else {
-            Tally {
-                compared: 1,
-                differing: 1,
-            }
+        Tally {
+            compared: 1,
+            differing: usize::from(!same),
         }
     }
 
-    /// Both counts added.
+    /// Both counts added; a sum that does not fit is the largest number.
     pub fn plus(self, other: Tally) -> Tally {
         Tally {
-            compared: sum(self.compared, other.compared),
-            differing: sum(self.differing, other.differing),
+            compared: self.compared.saturating_add(other.compared),
+            differing: self.differing.saturating_add(other.differing),
         }
     }
 }
