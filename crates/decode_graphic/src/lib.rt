@@ -1,5 +1,6 @@
 // Graphic characters: `graphic`, `char1` and `char2` of decode.rs, but for the macro set, whose characters run bodies.
 // What a code reads as is in `decode_codes`. Sets are 01's numbers, codes are in GL form.
+// The lent buffers go as parameters and not in a struct of references: each clause would say `lent.entry.text` for `text`.
 #![tactic(auto)]
 
 ghost use Rattle.std.specs.Prelude.{◌≡◌, true, ℕ, ◌+◌, ◌≤◌, ◌<◌, List, length, drop, get_or};

@@ -20,18 +20,20 @@ pub struct Invoked {
     pub narrow: bool,
 }
 
+impl Invoked {
+    /// The set in the area of the byte `x`.
+    pub fn set_of(self, x: u8) -> u8
+        ensures { result ≡ cond (ltb x 128) self.gl self.gr }
+    {
+        if x < 128 { self.gl } else { self.gr }
+    }
+}
+
 /// A character, or none, and the bytes that it takes.
 #[derive(Clone, Copy)]
 pub struct Taken {
     pub cell: Cell,
     pub used: usize,
-}
-
-/// The set in the area of the byte `x`.
-pub fn set_of(x: u8, gl: u8, gr: u8) -> u8
-    ensures { result ≡ cond (ltb x 128) gl gr }
-{
-    if x < 128 { gl } else { gr }
 }
 
 /// The character of the Kanji set at the bytes `i` and `i + 1`, of rows 3 to 84, which the lent table alone decides, from
@@ -51,10 +53,7 @@ pub fn kanji_at(cells: &[u16], b: &[u8], i: usize) -> Option<u32>
         return None;
     }
     let c = cells[(row - 0x21) * 94 + (cell - 0x21)] as u32;
-    match c {
-        0x3000..=0xDFFF => Some(c),
-        _ => None,
-    }
+    matches!(c, 0x3000..=0xDFFF).then_some(c)
 }
 
 /// The letter of the alphanumeric, the hiragana or the katakana set, with which a reading begins; none of any other.
@@ -110,7 +109,7 @@ fn graphic(cells: &[u16], b: &[u8], i: usize, to: usize, sets: Invoked) -> Taken
     ensures { Takes cells.now b.now i to sets result.used result.cell }
 {
     let x = b[i];
-    let set = set_of(x, sets.gl, sets.gr);
+    let set = sets.set_of(x);
     if decode_codes::two_bytes(set) {
         return Taken {
             cell: pair_at(cells, b, i, to, set),

@@ -73,7 +73,7 @@ fn run_from<const FITS: bool>(
     let mut m = from.len;
     while i < to {
         let x = b[i];
-        let set = decode_letters::set_of(x, sets.gl, sets.gr);
+        let set = sets.set_of(x);
         if set == 0 {
             let Some(kanji) = decode_letters::kanji_at(cells, b, i) else {
                 break;
