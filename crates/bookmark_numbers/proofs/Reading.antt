@@ -13,8 +13,8 @@ use Rattle.decode_output.specs.declared.Out.{Out}
 use Rattle.decode_output.specs.Promises as output
 use Rattle.reading.specs.Macros.{end_of, limit}
 use Rattle.decode_state.specs.declared.Core.{Core}
-use Rattle.decode_state.specs.declared.Extent.{Extent}
-use Rattle.decode_state.specs.Promises.{starts_of, lens_of, whole}
+use Rattle.decode_state.specs.declared.Macros.{Macros}
+use Rattle.decode_state.specs.Promises.{whole}
 use Rattle.decode_bodies.specs.Promises.{body_at, Inside}
 use Rattle.bookmark_form.specs.Numbers.{waits, state_of}
 use Rattle.bookmark_form.specs.Form.{resumable}
@@ -121,8 +121,8 @@ module _ (input l : List ℕ) (h : length input ≤ 65535) (e : length l ≡ 287
           rw (starts_at code p, lens_at code p) (b.1 ∙ sym n)
       far code false q = rw ((none code q).0, (none code q).1) refl
 
-  pub restored : (width : ℕ) {t : List ℕ} {o : Out} {t' : List ℕ} {macros : List Extent} → ((i : List ℕ) → output.Holds t i (waits l) o t' i) → Waits o
-      → starts_of macros ≡ map (λ (n : ℕ). n - 1) (take 128 (drop 28 l)) → lens_of macros ≡ take 128 (drop 156 l)
+  pub restored : (width : ℕ) {t : List ℕ} {o : Out} {t' : List ℕ} {macros : Macros} → ((i : List ℕ) → output.Holds t i (waits l) o t' i) → Waits o
+      → macros.starts ≡ map (λ (n : ℕ). n - 1) (take 128 (drop 28 l)) → macros.lens ≡ take 128 (drop 156 l)
       → Restored input width l t (record { core = core_of l width o; macros = macros }) t'
   unfolding state_of limit
   restored width {o = o} w k p q =

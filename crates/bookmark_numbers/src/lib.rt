@@ -6,10 +6,9 @@ ghost use Rattle.lent.specs.Put.{Put};
 ghost use Rattle.bookmark_form.specs.Numbers.{plus_one};
 ghost use Rattle.bookmark_form.specs.Form.{resumable};
 ghost use Rattle.bookmark_marks.specs.Marks.{unpacked};
-ghost use Rattle.decode_state.specs.Promises.{starts_of, lens_of};
 ghost use Rattle.bookmark_numbers.specs.Promises.{Stored, Restored};
 
-use decode_state::{Core, Decoder, Extent};
+use decode_state::{Core, Decoder, Macros};
 
 /// A start plus 1, 0 for none.
 fn plus_one(start: u16) -> u32
@@ -29,17 +28,17 @@ fn put_all(store: &mut [u32], at: usize, s: &[u32]) -> usize
 }
 
 /// The starts of macro bodies, each plus 1.
-fn starts(macros: &[Extent; 128]) -> [u32; 128]
-    ensures { result ≡ map plus_one (starts_of macros.now) }
+fn starts(macros: &Macros) -> [u32; 128]
+    ensures { result ≡ map plus_one macros.now.starts }
 {
-    macros.map(|body| plus_one(body.start))
+    macros.starts.map(plus_one)
 }
 
 /// Their lengths.
-fn lens(macros: &[Extent; 128]) -> [u32; 128]
-    ensures { result ≡ lens_of macros.now }
+fn lens(macros: &Macros) -> [u32; 128]
+    ensures { result ≡ macros.now.lens }
 {
-    macros.map(|body| body.len as u32)
+    macros.lens.map(u32::from)
 }
 
 /// The numbers before the marks.
@@ -84,20 +83,19 @@ pub fn put(store: &mut [u32], at: usize, place: u32, d: Decoder) -> usize
 }
 
 /// Reads the macro bodies of a bookmark; each lies in an input.
-fn read_bodies(l: &[u32]) -> [Extent; 128]
+fn read_bodies(l: &[u32]) -> Macros
     requires l_len { length l.now ≡ 287 }
     requires by_index { (code : ℕ) → code < 128 → (get_or l.now (28 + code) 0 - 1 ≤ 65535) × (get_or l.now (156 + code) 0 ≤ 65535) }
-    ensures starts { starts_of result ≡ map (λ (n : ℕ). n - 1) (take 128 (drop 28 l.now)) }
-    ensures lens { lens_of result ≡ take 128 (drop 156 l.now) }
+    ensures starts { result.starts ≡ map (λ (n : ℕ). n - 1) (take 128 (drop 28 l.now)) }
+    ensures lens { result.lens ≡ take 128 (drop 156 l.now) }
 {
-    let mut macros = [Extent { start: 0, len: 0 }; 128];
+    let mut starts = [0; 128];
+    let mut lens = [0; 128];
     for code in 0..128 {
-        macros[code] = Extent {
-            start: bookmark_form::start_of(l[28 + code]) as u16,
-            len: l[156 + code] as u16,
-        };
+        starts[code] = bookmark_form::start_of(l[28 + code]) as u16;
+        lens[code] = l[156 + code] as u16;
     }
-    macros
+    Macros { starts, lens }
 }
 
 /// The decoder at the state that numbers say, for a reading of the input: nothing is written yet but the marks that wait.

@@ -16,8 +16,8 @@ use Rattle.reading.specs.State.{Given, State, took, issue, charge}
 use Rattle.reading.specs.Characters.{char1, graphic, graphic_of}
 use Rattle.reading.specs.Macros.{Run, run_macro, run_body, builtin, limit}
 use Rattle.reading.specs.Steps.{run}
-use Rattle.decode_state.specs.declared.Extent.{Extent}
-use Rattle.decode_state.specs.Promises.{starts_of, lens_of, Whole, whole, HoldsOrCut}
+use Rattle.decode_state.specs.declared.Macros.{Macros}
+use Rattle.decode_state.specs.Promises.{Whole, whole, HoldsOrCut}
 use Rattle.decode_state.proofs.Lift.{holds_charged, with_charged}
 use Rattle.decode_macros.specs.Promises.{Built}
 use Rattle.decode_macros.proofs.Laws.{builtin_bare}
@@ -113,24 +113,14 @@ body_inside {input} {starts} {lens} code start end h k p q =
       bare = rw (← n, p) (k.bare code);
     }
 
--- the body of a code as the struct has it
-abbrev pub extent : List Extent → ℕ → Extent
-extent macros code = get_or macros code (record { start = 0; len = 0 })
+-- the body of a code lies in the input
+pub body_within : {input : List ℕ} (macros : Macros) (code : ℕ) → Inside input macros.starts macros.lens
+    → get_or macros.starts code 0 + get_or macros.lens code 0 ≤ length input
+body_within macros code h = h.within code
 
-pub start_at : (macros : List Extent) (code : ℕ) → get_or (starts_of macros) code 0 ≡ (extent macros code).start
-start_at macros code = get_or-map (λ (e : Extent). e.start) macros code (record { start = 0; len = 0 })
-
-pub len_at : (macros : List Extent) (code : ℕ) → get_or (lens_of macros) code 0 ≡ (extent macros code).len
-len_at macros code = get_or-map (λ (e : Extent). e.len) macros code (record { start = 0; len = 0 })
-
-pub extent_within : {input : List ℕ} (macros : List Extent) (code : ℕ) → Inside input (starts_of macros) (lens_of macros)
-    → (extent macros code).start + (extent macros code).len ≤ length input
-extent_within macros code h = omega (arith, h.within code, start_at macros code, len_at macros code)
-
-pub extent_body : {input : List ℕ} (macros : List Extent) (code : ℕ) → length input ≤ 65535 → Inside input (starts_of macros) (lens_of macros)
-    → Body (take ((extent macros code).start + (extent macros code).len - (extent macros code).start) (drop (extent macros code).start input))
-extent_body macros code h k =
-    body_inside code _ _ h k (sym (start_at macros code)) (sym (ap₂ (λ (a b : ℕ). a + b) (start_at macros code) (len_at macros code)))
+pub body_bare : {input : List ℕ} (macros : Macros) (code : ℕ) → length input ≤ 65535 → Inside input macros.starts macros.lens
+    → Body (take (get_or macros.starts code 0 + get_or macros.lens code 0 - get_or macros.starts code 0) (drop (get_or macros.starts code 0) input))
+body_bare macros code h k = body_inside code _ _ h k refl refl
 
 -- ---- a built-in body
 

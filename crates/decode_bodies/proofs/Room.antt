@@ -6,7 +6,7 @@ use native.Mathlib.Omega.{arith}
 use lib.ListN.{length}
 use Rattle.reading.specs.Macros.{limit}
 use Rattle.decode_state.specs.declared.Core.{Core}
-use Rattle.decode_state.specs.declared.Extent.{Extent}
+use Rattle.decode_state.specs.declared.Macros.{Macros}
 use Rattle.decode_state.specs.Promises.{MayTake, Kept}
 use Rattle.decode_state.proofs.Lift.{with_charged}
 use Rattle.decode_bodies.specs.declared.Place.{Place}
@@ -61,7 +61,7 @@ ready_body h k = record {
 }
 
 -- what a callee is given at q, with what room there is then
-pub opens_to : {input : List ℕ} {macros : List Extent} {p : Place} {e e' : ℕ} {c c' : Core} (q : Place) → q.base ≤ 65535 → q.at < 65535 → Ready (limit input) e' c'
+pub opens_to : {input : List ℕ} {macros : Macros} {p : Place} {e e' : ℕ} {c c' : Core} (q : Place) → q.base ≤ 65535 → q.at < 65535 → Ready (limit input) e' c'
     → Opens input macros p e c → Opens input macros q e' c'
 opens_to q b a r h = record { input_short = h.input_short; base = b; at = a; inside = h.inside; ready = r }
 

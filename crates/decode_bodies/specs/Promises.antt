@@ -5,8 +5,8 @@ use Rattle.reading.specs.State.{Given, State, Step}
 use Rattle.reading.specs.Macros.{Run, end_of, limit}
 use Rattle.reading.specs.Steps.{step, run}
 use Rattle.decode_state.specs.declared.Core.{Core}
-use Rattle.decode_state.specs.declared.Extent.{Extent}
-use Rattle.decode_state.specs.Promises.{starts_of, lens_of, Whole, Holds, DoesOrCut, TakenOrCut}
+use Rattle.decode_state.specs.declared.Macros.{Macros}
+use Rattle.decode_state.specs.Promises.{Whole, Holds, DoesOrCut, TakenOrCut}
 use Rattle.decode_bodies.specs.declared.Place.{Place}
 
 -- to run a body one deeper, where `left` more may be opened
@@ -46,11 +46,11 @@ pub record Ready (n e : ℕ) (c : Core) : Type 0 where
   pub room : output.Room (n - c.charged + e) (n - c.charged + e) c.out
 
 -- what a function of the cycle is given that takes e bytes at p
-pub record Opens (input : List ℕ) (macros : List Extent) (p : Place) (e : ℕ) (c : Core) : Type 0 where
+pub record Opens (input : List ℕ) (macros : Macros) (p : Place) (e : ℕ) (c : Core) : Type 0 where
   pub input_short : length input ≤ 65535
   pub base : p.base ≤ 65535
   pub at : p.at < 65535
-  pub inside : Inside input (starts_of macros) (lens_of macros)
+  pub inside : Inside input macros.starts macros.lens
   pub ready : Ready (limit input) e c
 
 -- ---- what it gives

@@ -14,7 +14,7 @@ ghost use Rattle.decode_bodies.specs.Promises.{below, Body, Opens, Ran, RanStep,
 
 use control::MACRO;
 use decode_macros::Command;
-use decode_state::{Core, Extent, Stepped};
+use decode_state::{Core, Macros, Stepped};
 use decode_steps::{Source, Stop, Stretched};
 use issues::IssueKind;
 
@@ -23,7 +23,7 @@ use issues::IssueKind;
 pub struct Inputs<'a> {
     pub cells: &'a [u16],
     pub input: &'a [u8],
-    pub macros: &'a [Extent; 128],
+    pub macros: &'a Macros,
 }
 
 /// Where a body runs.
@@ -89,10 +89,9 @@ pub fn run_macro<'a>(
         (over s inputs.entry.macros.now) text.old issues.old (over result inputs.entry.macros.now) text.new
         issues.new }
 {
-    let body = inputs.macros[code];
-    let start = body.start as usize;
+    let start = inputs.macros.starts[code] as usize;
     if start > 0 {
-        let end = start + body.len as usize;
+        let end = start + inputs.macros.lens[code] as usize;
         let q = Place {
             base: start as u32,
             at: p.at,
@@ -100,15 +99,15 @@ pub fn run_macro<'a>(
         };
         return run_body(inputs, &inputs.input[start..end], q, s, text, issues);
     }
-    let mut bytes = [0u8; 19];
-    let n = decode_macros::default_macro(&mut bytes, code);
+    let mut body = [0u8; 19];
+    let n = decode_macros::default_macro(&mut body, code);
     if n > 0 {
         let q = Place {
             base: 0,
             at: p.at,
             left: p.left,
         };
-        run_body(inputs, &bytes[..n], q, s, text, issues)
+        run_body(inputs, &body[..n], q, s, text, issues)
     } else {
         decode_characters::report(p.at, IssueKind::UndefinedMacro(code as u8), s, issues)
     }

@@ -8,12 +8,10 @@ use native.Mathlib.Decide.{ℕ_discrete}
 use native.Mathlib.Omega.{arith}
 use lib.ListN.{length, drop, get_or, set, replicate, length-set}
 use lib.Seq.{get_or-set_other, get_or-set_same}
-use Rattle.std.proofs.lemmas.List.{map-set}
 use Rattle.reading.specs.State.{Given, State, Step, define}
 use Rattle.reading.specs.Macros.{run_macro, defined, macro_cmd, end_of}
 use Rattle.decode_state.specs.declared.Decoder.{Decoder}
-use Rattle.decode_state.specs.declared.Extent.{Extent}
-use Rattle.decode_state.specs.Promises.{starts_of, lens_of, whole, view, Holds, Does}
+use Rattle.decode_state.specs.Promises.{view, Holds, Does}
 use Rattle.decode_macros.specs.declared.Command.{Command}
 use Rattle.decode_macros.specs.declared.Command.TheVariants.{Ends}
 use Rattle.decode_macros.specs.Promises.{Defined, commanded}
@@ -67,27 +65,19 @@ unfolding end_of
 inside_start input = record { starts_count = refl; lens_count = refl; within = λ c. omega (arith, zeros_at 128 c); bare = λ c. rw (zeros_at 128 c) }
 
 -- a macro is defined
-starts_defining : (l : List Extent) (code place len : ℕ) → starts_of (set l code (record { start = place; len = len })) ≡ set (starts_of l) code place
-starts_defining l code place len = map-set (λ (e : Extent). e.start) l code (record { start = place; len = len })
-
-lens_defining : (l : List Extent) (code place len : ℕ) → lens_of (set l code (record { start = place; len = len })) ≡ set (lens_of l) code len
-lens_defining l code place len = map-set (λ (e : Extent). e.len) l code (record { start = place; len = len })
-
 pub outside_define : {input : List ℕ} {d : Decoder} {code len j : ℕ} → Defined code len input j → Outside input 1 d
-    → Outside input 1 (defining d code (record { start = j + 3; len = len }))
+    → Outside input 1 (defining d code (j + 3) len)
 outside_define {input = input} {d = d} {code = code} {len = len} {j = j} h o = record {
   short = o.short;
-  inside = rw (starts_defining d.macros code (j + 3) len, lens_defining d.macros code (j + 3) len) (inside_define input (starts_of d.macros) (lens_of d.macros) code len j h o.inside);
+  inside = inside_define input d.macros.starts d.macros.lens code len j h o.inside;
   ready = o.ready;
 }
 
 does_define : (g : Given) (d : Decoder) (t i : List ℕ) (code place len : ℕ)
-    → Does g (define code place len) (view d) t i (view (defining d code (record { start = place; len = len }))) t i
+    → Does g (define code place len) (view d) t i (view (defining d code place len)) t i
 unfolding define
 does_define g d t i code place len t₀ i₀ s h = record {
-  state =
-      ap₂ (λ (a b : List ℕ). whole d.core a b) (starts_defining d.macros code place len) (lens_defining d.macros code place len)
-      ∙ (λ j. record { core = (h.state j).core; starts = set (h.state j).starts code place; lens = set (h.state j).lens code len });
+  state = λ j. record { core = (h.state j).core; starts = set (h.state j).starts code place; lens = set (h.state j).lens code len };
   out = h.out;
 }
 
@@ -95,7 +85,7 @@ does_define g d t i code place len t₀ i₀ s h = record {
 
 module _ {cells input : List ℕ} {d : Decoder} {t i : List ℕ} where
   -- a step of u bytes
-  pub outer : {j u : ℕ} {f : Given → State → Step} {r : Decoder} {t' i' : List ℕ} → Inside input (starts_of r.macros) (lens_of r.macros)
+  pub outer : {j u : ℕ} {f : Given → State → Step} {r : Decoder} {t' i' : List ℕ} → Inside input r.macros.starts r.macros.lens
       → RanStep cells input input j f (view d) t i u (view r) t' i' → OuterStep cells input j f d t i (record { at = j + u; decoder = r }) t' i'
   outer {j = j} {u = u} {f = f} {r = r} {t' = t'} {i' = i'} h v =
       let e : u ≡ j + u - j = omega arith in
@@ -138,7 +128,7 @@ module _ (cells input : List ℕ) (j : ℕ) (d : Decoder) (t i : List ℕ) where
   -- MACRO 40 and 41
   module _ (code len : ℕ) (h : Defined code len input j) (o : Outside input 1 d) where
     abbrev defines : Decoder
-    defines = defining d code (record { start = j + 3; len = len })
+    defines = defining d code (j + 3) len
 
     at_end : j + (len + 5) ≡ j + len + 5
     at_end = omega arith
@@ -163,7 +153,7 @@ module _ (cells input : List ℕ) (j : ℕ) (d : Decoder) (t i : List ℕ) where
     unfolding defined
     outer_runs false q v = absurd (false≢true q)
     outer_runs {r} {t'} {i'} true q v =
-        let inside : Inside input (starts_of r.macros) (lens_of r.macros) = rw v.macros (outside_define h o).inside in
+        let inside : Inside input r.macros.starts r.macros.lens = rw v.macros (outside_define h o).inside in
         subst (λ (k : ℕ). OuterStep cells input j (λ g. defined g 4 (below g 4) 0x41 code len j j) d t i (record { at = k; decoder = r }) t' i') at_end
         (outer inside
         (record {

@@ -16,7 +16,7 @@ use Rattle.reading.specs.Steps.{run}
 use Rattle.reading.specs.Between.{until}
 use Rattle.decode_state.specs.declared.Core.{Core}
 use Rattle.decode_state.specs.declared.Decoder.{Decoder}
-use Rattle.decode_state.specs.Promises.{starts_of, lens_of, start_of, undefined, view, Holds, Cut, HoldsOrCut}
+use Rattle.decode_state.specs.Promises.{start_of, undefined, view, Holds, Cut, HoldsOrCut}
 use Rattle.decode_state.proofs.Begun.{holds_start}
 use Rattle.decode_state.proofs.Steps.{until_all}
 use Rattle.decode_bodies.specs.Promises.{below, Inside}
@@ -29,7 +29,7 @@ use Rattle.decode_outer.proofs.Defining.{inside_start}
 
 -- the steps that the loop went
 pub top_ran : {cells input : List ℕ} {from to : ℕ} {d : Decoder} {t i : List ℕ} {at : ℕ} {d₁ : Decoder} {t₁ i₁ : List ℕ}
-    → Went cells input 4 0 0 input to from (view d) t i at (view d₁) t₁ i₁ → Inside input (starts_of d₁.macros) (lens_of d₁.macros)
+    → Went cells input 4 0 0 input to from (view d) t i at (view d₁) t₁ i₁ → Inside input d₁.macros.starts d₁.macros.lens
     → TopRan cells input from to d t i (record { at = at; decoder = d₁ }) t₁ i₁
 unfolding below
 top_ran {input = input} {from} {to} {at = at} {d₁} {t₁} {i₁} w inside = record {

@@ -1,5 +1,5 @@
-// Steps outside every body. There alone macros are defined, so the decoder's struct with its
-// array goes in and comes back by value here, and is lent to the cycle.
+// Steps outside every body. There alone macros are defined, so the decoder's struct with its two
+// arrays goes in and comes back by value here, and is lent to the cycle.
 #![tactic(auto)]
 
 ghost use Rattle.std.specs.Prelude.{◌≡◌, ℕ, ◌+◌, ◌-◌, ◌≤◌, ◌<◌, length, drop, get_or, cond};
@@ -13,7 +13,7 @@ ghost use Rattle.decode_outer.specs.Promises.{Outside, Executed, OuterStep, defi
 use control::MACRO;
 use decode_bodies::{Inputs, Place};
 use decode_macros::Command;
-use decode_state::{Decoder, Extent};
+use decode_state::Decoder;
 use decode_steps::{Source, Stop};
 use issues::IssueKind;
 
@@ -35,12 +35,13 @@ pub struct Reached {
 const MAX_MACRO_DEPTH: usize = 4;
 
 /// The macro of `code` gets a body.
-fn define(d: Decoder, code: usize, body: Extent) -> Decoder
+fn define(d: Decoder, code: usize, start: u16, len: u16) -> Decoder
     requires { code < 128 }
-    ensures { result ≡ defining d code body }
+    ensures { result ≡ defining d code start len }
 {
     let mut r = d;
-    r.macros[code] = body;
+    r.macros.starts[code] = start;
+    r.macros.lens[code] = len;
     r
 }
 
@@ -123,11 +124,7 @@ fn definition<'a>(
     ensures { OuterStep given.entry.cells.now given.entry.input.now i (λ g. defined g 4 (below g 4) (cond runs 0x41 0x40) code len i i) d
         text.old issues.old result text.new issues.new }
 {
-    let body = Extent {
-        start: (i + 3) as u16,
-        len: len as u16,
-    };
-    let defined = define(d, code, body);
+    let defined = define(d, code, (i + 3) as u16, len as u16);
     if runs {
         return Reached {
             at: i + len + 5,

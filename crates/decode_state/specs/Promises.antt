@@ -8,19 +8,12 @@ use Rattle.reading.specs.Macros.{Run}
 use Rattle.reading.specs.Between.{until}
 use Rattle.decode_state.specs.declared.Core.{Core}
 use Rattle.decode_state.specs.declared.Decoder.{Decoder}
-use Rattle.decode_state.specs.declared.Extent.{Extent}
+use Rattle.decode_state.specs.declared.Macros.{Macros}
 use Rattle.decode_state.specs.declared.Stepped.{Stepped}
 
 -- the struct at a state
 abbrev pub core_of : Given → State → ℕ → Out → Core
 core_of g s enough o = record { sets = s.sets; gl = s.gl; gr = s.gr; narrow = s.narrow; annex = g.annex_e; enough = enough; charged = s.charged; out = o }
-
--- where the macros' bodies start, and how long they are
-abbrev pub starts_of : List Extent → List ℕ
-starts_of macros = map (λ (e : Extent). e.start) macros
-
-abbrev pub lens_of : List Extent → List ℕ
-lens_of macros = map (λ (e : Extent). e.len) macros
 
 -- the struct as 01 has it: by code "128 macro bodies' starts in the input .. and lengths"
 pub record Whole : Type 0 where
@@ -31,8 +24,8 @@ pub record Whole : Type 0 where
 abbrev pub whole : Core → List ℕ → List ℕ → Whole
 whole c starts lens = record { core = c; starts = starts; lens = lens }
 
-abbrev pub over : Core → List Extent → Whole
-over c macros = whole c (starts_of macros) (lens_of macros)
+abbrev pub over : Core → Macros → Whole
+over c macros = whole c macros.starts macros.lens
 
 abbrev pub view : Decoder → Whole
 view d = over d.core d.macros
@@ -45,7 +38,7 @@ start_of initial width enough =
 
 -- no macro is defined
 abbrev pub undefined : Core → Decoder
-undefined c = record { core = c; macros = replicate 128 (record { start = 0; len = 0 }) }
+undefined c = record { core = c; macros = record { starts = replicate 128 0; lens = replicate 128 0 } }
 
 -- d and the buffers t and i hold the state s, over buffers that were t₀ and i₀
 pub record Holds (g : Given) (t₀ i₀ : List ℕ) (s : State) (d : Whole) (t i : List ℕ) : Type 0 where

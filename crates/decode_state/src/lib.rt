@@ -27,19 +27,19 @@ pub struct Core {
     pub out: Out,
 }
 
-/// Where a macro's body stands in the input. A start of 0 says that there is none, and no option does: 01's state has a
-/// length beside it all the same, which a bookmark hands over (`state_of` of `bookmark_form`).
-#[derive(Clone, Copy, Debug, PartialEq, Eq)]
-pub struct Extent {
-    pub start: u16,
-    pub len: u16,
+/// The macros' bodies by code: each one's start in the input (0: none) and its length. 01 asks for two arrays of 128, passed
+/// in and handed back by value, where an array of a struct would be plainer ("Where each form goes").
+#[derive(Clone, Copy)]
+pub struct Macros {
+    pub starts: [u16; 128],
+    pub lens: [u16; 128],
 }
 
 /// The whole state, with the macros' bodies by code.
 #[derive(Clone, Copy)]
 pub struct Decoder {
     pub core: Core,
-    pub macros: [Extent; 128],
+    pub macros: Macros,
 }
 
 /// After a step: the bytes it took.
@@ -89,7 +89,10 @@ pub fn undefined(core: Core) -> Decoder
 {
     Decoder {
         core,
-        macros: [Extent { start: 0, len: 0 }; 128],
+        macros: Macros {
+            starts: [0; 128],
+            lens: [0; 128],
+        },
     }
 }
 

@@ -3,8 +3,6 @@ use Prim.Native.Nat.{ℕ, ◌-◌}
 use mathlib.Core.Path.{refl, sym, ap, ◌∙◌}
 use native.Mathlib.Omega.{arith}
 use lib.ListN.{take, drop}
-use Rattle.std.proofs.lemmas.List.{map-set}
-use Rattle.decode_state.specs.declared.Extent.{Extent}
 use Rattle.bookmark_numbers.proofs.Reading.{read_none, read_one, read_all, length_part, part_at, length_less, less_at}
 use Rattle.bookmark_numbers.proofs.read_bodies.Goals as goal
 
@@ -17,10 +15,8 @@ loop-code-preserved c =
     let code = c.loop-code.code in
     let p = c.loop-code-test.true in
     let a = c.start_of.ensures ∙ ap (λ (n : ℕ). n - 1) (sym (part_at l 28 (omega (arith, c.requires.l_len)) code p)) ∙ sym (less_at (take 128 (drop 28 l)) code) in
-    let b = sym (part_at l 156 (omega (arith, c.requires.l_len)) code p) in (
-      rw (map-set (λ (e : Extent). e.start)) (read_one _ p a c.loop-code.invariant.0),
-      rw (map-set (λ (e : Extent). e.len)) (read_one _ p b c.loop-code.invariant.1),
-    )
+    let b = sym (part_at l 156 (omega (arith, c.requires.l_len)) code p) in
+    (read_one _ p a c.loop-code.invariant.0, read_one _ p b c.loop-code.invariant.1)
 
 pub returns : goal.returns
 returns c =

@@ -2,9 +2,8 @@
 use Prim.Native.Nat.{ℕ, ◌-◌}
 use mathlib.Core.List.{map}
 use lib.ListN.{take, drop}
-use Rattle.decode_state.specs.Promises.{starts_of, lens_of}
 use Rattle.bookmark_numbers.proofs.Reading.{Read}
 use Rattle.bookmark_numbers.proofs.read_bodies.Given as goal
 
 abbrev pub invariant-loop-code : goal.invariant-loop-code
-invariant-loop-code l = Read (map (λ (n : ℕ). n - 1) (take 128 (drop 28 l.l))) l.code (starts_of l.macros) × Read (take 128 (drop 156 l.l)) l.code (lens_of l.macros)
+invariant-loop-code l = Read (map (λ (n : ℕ). n - 1) (take 128 (drop 28 l.l))) l.code l.starts × Read (take 128 (drop 156 l.l)) l.code l.lens

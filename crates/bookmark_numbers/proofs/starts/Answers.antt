@@ -1,24 +1,20 @@
 -- `starts` meets its contract. Assumes nothing.
 use Prim.Native.Nat.{ℕ, ◌<◌}
-use mathlib.Core.Path.{◌≡◌, sym, ap, ◌∙◌}
+use mathlib.Core.Path.{◌≡◌, sym, ◌∙◌}
 use native.Mathlib.Omega.{arith}
 use borrow.Author.Rules.{rules}
 use mathlib.Core.List.{map}
-use lib.ListN.{get_or, get_or-map}
-use Rattle.std.proofs.lemmas.List.{length-map}
+use lib.ListN.{get_or}
 use lib.Seq.{ext_get_or}
 use Rattle.bookmark_form.specs.Numbers.{plus_one}
-use Rattle.decode_state.specs.declared.Extent.{Extent}
-use Rattle.decode_state.specs.Promises.{starts_of}
 use Rattle.bookmark_numbers.proofs.Putting.{plus_at, length_plus}
 use Rattle.bookmark_numbers.proofs.starts.Goals as goal
 
 pub returns : goal.returns
 returns c =
-    let macros = c.args.macros.now in
-    let none : Extent = record { start = 0; len = 0 } in
-    let at : (i : ℕ) → i < 128 → get_or c.map.result i 0 ≡ plus_one (get_or macros i none).start =
-    λ i p. let h = (c.map.ensures.items.at i none 0 p).2 in search rules in
-    ext_get_or 0 c.map.result (map plus_one (starts_of macros))
-    (omega (arith, c.map.ensures.items.long, c.told-macros, length_plus (starts_of macros), length-map macros (λ (e : Extent). e.start)))
-    (λ i p. at i (omega (arith, p, c.map.ensures.items.long)) ∙ sym (plus_at (starts_of macros) i ∙ ap plus_one (get_or-map (λ (e : Extent). e.start) macros i none)))
+    let starts = c.args.macros.now.starts in
+    let at : (i : ℕ) → i < 128 → get_or c.map.result i 0 ≡ plus_one (get_or starts i 0) =
+    λ i p. let h = (c.map.ensures.items.at i 0 0 p).2 in search rules in
+    ext_get_or 0 c.map.result (map plus_one starts)
+    (omega (arith, c.map.ensures.items.long, c.told-macros, length_plus starts))
+    (λ i p. at i (omega (arith, p, c.map.ensures.items.long)) ∙ sym (plus_at starts i))

@@ -1,7 +1,7 @@
 -- The functions that call each other through macro bodies meet their contracts together, over the measure that falls.
 use native.Mathlib.Omega.{arith}
 use Rattle.decode_bodies.proofs.Steps.{ran_as, step_as, one_step, did_ran, shift_step, took_ran}
-use Rattle.decode_bodies.proofs.Bodies.{char1_macro, graphic_macro, macro_defined, macro_built_in, macro_none, extent, start_at, len_at, extent_within, extent_body, built_test, built_none, built_body, deeper, body_deep, body_dear, ran_body, ran_empty}
+use Rattle.decode_bodies.proofs.Bodies.{char1_macro, graphic_macro, macro_defined, macro_built_in, macro_none, body_within, body_bare, built_test, built_none, built_body, deeper, body_deep, body_dear, ran_body, ran_empty}
 use Prim.Native.Nat.{ℕ, ◌+◌, ◌-◌, ◌≤◌, ◌<◌}
 use mathlib.Core.Path.{◌≡◌, refl, sym, ap, ◌∙◌}
 use mathlib.Core.List.{List}
@@ -10,7 +10,6 @@ use lib.Seq.{length-take-le}
 use Rattle.decode_bodies.proofs.Room.{ready_good, opens_to, limit_is, ready_body, ready_left, ready_less}
 use Rattle.reading.specs.Macros.{limit}
 use Rattle.decode_steps.proofs.Dispatch.{step_char, step_shift, step_macro}
-use Rattle.decode_state.specs.Promises.{starts_of}
 use Rattle.decode_bodies.specs.Promises.{below}
 use Rattle.decode_bodies.proofs.Stops.{told, stops, over_at, stops_before, shift_char}
 use Rattle.decode_bodies.proofs.Along.{along_start, along_stretch, along_step, along_cut, along_over, went_all, inside_step}
@@ -39,40 +38,40 @@ graphic-returns t c =
 -- `run_macro`: the body that was defined, the built-in one, or none.
 
 pub run_macro-overflow_add-end : goal.run_macro-overflow_add-end
-run_macro-overflow_add-end t c = omega (arith, extent_within c.args.inputs.macros.now c.args.code c.requires.opens.inside, c.requires.opens.input_short)
+run_macro-overflow_add-end t c = omega (arith, body_within c.args.inputs.macros.now c.args.code c.requires.opens.inside, c.requires.opens.input_short)
 
 pub run_macro-slice_bounds-run_body-count : goal.run_macro-slice_bounds-run_body-count
-run_macro-slice_bounds-run_body-count t c = omega (arith, extent_within c.args.inputs.macros.now c.args.code c.requires.opens.inside, c.requires.opens.input_short)
+run_macro-slice_bounds-run_body-count t c = omega (arith, body_within c.args.inputs.macros.now c.args.code c.requires.opens.inside, c.requires.opens.input_short)
 
 pub run_macro-slice_bounds-run_body-start : goal.run_macro-slice_bounds-run_body-start
-run_macro-slice_bounds-run_body-start t c = omega (arith, extent_within c.args.inputs.macros.now c.args.code c.requires.opens.inside, c.requires.opens.input_short)
+run_macro-slice_bounds-run_body-start t c = omega (arith, body_within c.args.inputs.macros.now c.args.code c.requires.opens.inside, c.requires.opens.input_short)
 
 pub run_macro-slice_bounds-run_body-end : goal.run_macro-slice_bounds-run_body-end
-run_macro-slice_bounds-run_body-end t c = omega (arith, extent_within c.args.inputs.macros.now c.args.code c.requires.opens.inside, c.requires.opens.input_short)
+run_macro-slice_bounds-run_body-end t c = omega (arith, body_within c.args.inputs.macros.now c.args.code c.requires.opens.inside, c.requires.opens.input_short)
 
 pub run_macro-run_body-requires : goal.run_macro-run_body-requires
 run_macro-run_body-requires t c =
     let a = c.args in
     let opens = c.requires.opens in
     let macros = a.inputs.macros.now in
-    let base : (extent macros a.code).start ≤ 65535 = omega (arith, extent_within macros a.code opens.inside, opens.input_short) in (
+    let base : get_or macros.starts a.code 0 ≤ 65535 = omega (arith, body_within macros a.code opens.inside, opens.input_short) in (
       omega arith,
-      (opens_to _ base opens.at opens.ready opens, extent_body macros a.code opens.input_short opens.inside),
+      (opens_to _ base opens.at opens.ready opens, body_bare macros a.code opens.input_short opens.inside),
     )
 
 pub run_macro-returns-then-start-gt0 : goal.run_macro-returns-then-start-gt0
 run_macro-returns-then-start-gt0 t c =
     let a = c.args in
     let macros = a.inputs.macros.now in
-    let start = (extent macros a.code).start in
-    let len = (extent macros a.code).len in
+    let start = get_or macros.starts a.code 0 in
+    let len = get_or macros.lens a.code 0 in
     let k : start + len - start ≡ len = omega arith in
     let n : start ≡ 0 → ⊥ = λ z. omega (arith, c.if-start-gt0.true, z) in
     let at_code : List ℕ → ℕ = λ l. get_or l a.code 0 in
-    ran_as (λ g y s h. macro_defined g _ _ _ _ s start len (ap at_code h.starts ∙ start_at macros a.code) (ap at_code h.lens ∙ len_at macros a.code) n ∙ rw (y, k)) c.run_body.ensures
+    ran_as (λ g y s h. macro_defined g _ _ _ _ s start len (ap at_code h.starts) (ap at_code h.lens) n ∙ rw (y, k)) c.run_body.ensures
 
-pub run_macro-slice_bounds-bytes-end : goal.run_macro-slice_bounds-bytes-end
-run_macro-slice_bounds-bytes-end t c = c.default_macro-n.ensures.fits
+pub run_macro-slice_bounds-body-end : goal.run_macro-slice_bounds-body-end
+run_macro-slice_bounds-body-end t c = c.default_macro-n.ensures.fits
 
 pub run_macro-slice_bounds-run_body-end-then-n-gt0 : goal.run_macro-slice_bounds-run_body-end-then-n-gt0
 run_macro-slice_bounds-run_body-end-then-n-gt0 t c = sym (length-take-le _ _ c.default_macro-n.ensures.fits)
@@ -97,14 +96,14 @@ run_macro-returns-then-n-gt0 t c =
     let a = c.args in
     let built = c.default_macro-n.ensures in
     let test = built_test built c.if-n-gt0.true in
-    let none : get_or (starts_of a.inputs.macros.now) a.code 0 ≡ 0 = omega (arith, c.if-start-gt0.false, start_at a.inputs.macros.now a.code) in
+    let none : get_or a.inputs.macros.now.starts a.code 0 ≡ 0 = omega (arith, c.if-start-gt0.false) in
     let at_code : List ℕ → ℕ = λ l. get_or l a.code 0 in
     ran_as (λ g y s h. macro_built_in g _ _ _ _ s (ap at_code h.starts ∙ none) test ∙ rw (← built.has test)) c.run_body-then-n-gt0.ensures
 
 pub run_macro-returns-else-n-gt0 : goal.run_macro-returns-else-n-gt0
 run_macro-returns-else-n-gt0 t c =
     let a = c.args in
-    let none : get_or (starts_of a.inputs.macros.now) a.code 0 ≡ 0 = omega (arith, c.if-start-gt0.false, start_at a.inputs.macros.now a.code) in
+    let none : get_or a.inputs.macros.now.starts a.code 0 ≡ 0 = omega (arith, c.if-start-gt0.false) in
     let empty : c.default_macro-n.result ≡ 0 = omega (arith, c.if-n-gt0.false) in
     let at_code : List ℕ → ℕ = λ l. get_or l a.code 0 in
     ran_as (λ g y s h. macro_none g _ _ _ _ s (ap at_code h.starts ∙ none) (built_none c.default_macro-n.ensures empty))
