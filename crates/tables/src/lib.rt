@@ -207,6 +207,7 @@ pub fn in_gap(row: u8, cell: u8) -> bool
 }
 
 /// Rows 90 to 94 of the Kanji set.
+#[tactic(auto, unfolding(crate::specs::Kanji::kanji_symbol))]
 fn kanji_symbol_at(row: u8, cell: u8) -> u32
     ensures { result ≡ kanji_symbol row cell }
 {
