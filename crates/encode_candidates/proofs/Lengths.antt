@@ -6,10 +6,9 @@ use Prim.Native.Nat.{ℕ, zero, suc, ◌+◌, ◌<◌, ◌≤◌}
 use native.Mathlib.Decide.{ℕ_discrete}
 use native.Mathlib.Omega.{arith}
 use lib.Dec.{eqb, ltb}
-use lib.ListN.{length, get_or, take}
+use lib.ListN.{length, get_or}
 use Rattle.std.proofs.lemmas.List.{get_or_default}
 use borrow.Author.Tests.{ltb-true, ltb-false, eq-eqb, ne_eqb, lt-ltb, le-ltb}
-use Rattle.base.specs.Lists.{All}
 use Rattle.coding.specs.Candidates.{Size, code_length, shortest}
 use Rattle.encode_candidates.specs.declared.candidate.Candidate.{Candidate}
 use Rattle.encode_candidates.specs.Packed.{size_of, cand_of, cand, cands_of}

@@ -1,6 +1,6 @@
 -- The layers so far, and one more. Assumes nothing.
 use mathlib.Core.Path.{◌≡◌, refl, sym, ap, ◌∙◌, subst}
-use mathlib.Core.Bool.{Bool, true, false, ◌&&◌}
+use mathlib.Core.Bool.{Bool, false, ◌&&◌}
 use mathlib.Core.List.{List, [], ◌∷◌, ◌++◌, map}
 use Prim.Native.Nat.{ℕ, zero, suc, ◌+◌, ◌-◌, ◌*◌, ◌≤◌, ◌<◌}
 use native.Mathlib.Numerals.{add-one}
@@ -27,7 +27,7 @@ use Rattle.encode_layer.proofs.Standing.{of_new}
 use Rattle.encode_layer.proofs.Costs.{length_layer}
 use Rattle.encode_search.specs.declared.Stand.{Stand}
 use Rattle.encode_search.specs.declared.Last.{Last}
-use Rattle.encode_search.specs.Layers.{Next, HasCells, TurnedOn, Turned, last_of, Older, none, Layers, found, Found, Inside, Led, Searched, Begins}
+use Rattle.encode_search.specs.Layers.{Next, HasCells, TurnedOn, Turned, last_of, Older, none, Layers, found, Inside, Led, Searched, Begins}
 use Rattle.encode_search.proofs.Parts.{lent_part, given_back, lent_part_lem, given_back_lem, joined_long, joined_front, joined_part, joined_drop}
 use Rattle.encode_search.proofs.Advancing.{sounder}
 use Rattle.encode_search.proofs.Squeezing.{newest_older}

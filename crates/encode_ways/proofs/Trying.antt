@@ -1,14 +1,11 @@
 -- The candidates one after the other. Assumes nothing.
 use mathlib.Core.Path.{◌≡◌, refl, sym, ap, ◌∙◌, subst}
-use mathlib.Core.Bool.{Bool, true, false, cond}
 use mathlib.Core.List.{List, [], ◌∷◌, ◌++◌}
 use Prim.Native.Nat.{ℕ, suc, ◌+◌, ◌*◌, ◌/◌, ◌%◌, ◌≤◌, ◌<◌}
 use native.Mathlib.Numerals.{add-one}
 use native.Mathlib.Omega.{arith}
-use lib.Dec.{ltb}
 use lib.ListN.{length, get_or, take, drop}
 use lib.Seq.{take-suc, take_all, drop-cons}
-use borrow.Author.Tests.{lt-ltb, le-ltb}
 use Rattle.coding.specs.Candidates.{either, Cand, plain}
 use Rattle.coding.specs.Search.{Node, push_all, by_cand, by_cands}
 use Rattle.encode_layer.specs.Layer.{Bounds, Represents, Changes}

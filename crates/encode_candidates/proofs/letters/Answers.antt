@@ -5,7 +5,6 @@ use lib.ListN.{length}
 use Rattle.tables_reverse.specs.Reverse.{kanji_reverse, additional_reverse}
 use Rattle.coding.specs.Candidates.{letters}
 use Rattle.encode_states.specs.Packed.{set_of}
-use Rattle.encode_candidates.specs.declared.candidate.Candidate.{Candidate}
 use Rattle.encode_candidates.specs.Packed.{size_of}
 use Rattle.encode_candidates.proofs.Adding.{then, cell_more, alone, kanji_grid, symbol_grid}
 use Rattle.encode_candidates.proofs.letters.Goals as goal

@@ -1,7 +1,7 @@
 -- `encode_search::run` meets its contract: where the loop stands after each character. Assumes nothing.
 use native.Mathlib.Omega.{arith}
 use Rattle.std.proofs.lemmas.List.{get_or_default}
-use Rattle.encode_search.proofs.Running.{going_start, part_fits, part_sound, going_on, going_full, going_end}
+use Rattle.encode_search.proofs.Running.{going_start, going_on, going_full, going_end}
 use Rattle.encode_search.proofs.run.Goals as goal
 
 pub loop-character-init : goal.loop-character-init
