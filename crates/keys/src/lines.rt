@@ -1,24 +1,38 @@
 // Standard input in pieces, line by line, and standard output.
-ghost use Rattle.std.specs.Prelude.{◌≡◌, ◌≤◌, true, length};
+ghost use Rattle.std.specs.Prelude.{◌≡◌, ◌≤◌, true, length, IfSome};
+ghost use Rattle.std.specs.ControlFlow.{MatchControlFlow};
 ghost use Rattle.keys_lines.specs.Promises.{PrintRoom};
 ghost use Rattle.keys.specs.Promises.{Buffers, Within};
 
 use files::fail;
 use keys_lines::Printed;
-use std::io::Read;
+use std::io::{Error, Read};
+use std::ops::ControlFlow;
 
 /// How many printed bytes may wait before they are written.
 const WAITING: usize = 65536;
 
 /// Where the reading stands: lines ended, those of them that were malformed, bytes of the line that is being read (one
-/// more than the longest where it is longer), bytes printed and not yet written, and whether nothing failed.
-#[derive(Clone, Copy)]
+/// more than the longest where it is longer), bytes printed and not yet written, and whether nothing failed. A flag and no
+/// `Result`, since behind a write that failed the lines of the piece are still counted.
+#[derive(Clone, Copy, Debug, PartialEq, Eq)]
 pub struct Progress {
     pub lines: u64,
     pub malformed: u64,
     pub len: usize,
     pub used: usize,
     pub good: bool,
+}
+
+/// Whether a write did not fail; why it did goes to standard error.
+fn is_written(rt: &(impl Eprint + AllocGlobal), written: Result<(), Error>) -> bool {
+    match written {
+        Ok(()) => true,
+        Err(why) => {
+            fail(rt, b"standard output", why);
+            false
+        }
+    }
 }
 
 /// Writes the bytes that wait, unless something failed before.
@@ -30,16 +44,7 @@ fn write_waiting(
 ) -> bool
     requires { used ≤ length out.now }
 {
-    if !good {
-        return false;
-    }
-    match rt.write_all(&out[..used]) {
-        Ok(()) => true,
-        Err(why) => {
-            fail(rt, b"standard output", why);
-            false
-        }
-    }
+    good && is_written(rt, rt.write_all(&out[..used]))
 }
 
 /// Says that a line is malformed, behind what waits.
@@ -52,19 +57,10 @@ fn write_malformed(
 ) -> bool
     requires { used ≤ length out.now }
 {
-    if !write_waiting(rt, out, used, good) {
-        return false;
-    }
-    match println!(rt; "line {number}: malformed") {
-        Ok(()) => true,
-        Err(why) => {
-            fail(rt, b"standard output", why);
-            false
-        }
-    }
+    write_waiting(rt, out, used, good) && is_written(rt, println!(rt; "line {number}: malformed"))
 }
 
-/// Prints the line for the line of `len` bytes, and answers how many bytes that is: 0 where the line is malformed, as is
+/// Prints the line for the line of `len` bytes, and answers how many bytes that is; none where the line is malformed, as is
 /// each that is longer than the buffer.
 fn print(
     cells: &[u16],
@@ -73,17 +69,16 @@ fn print(
     len: usize,
     title: &mut [u8],
     out: &mut [u8],
-) -> usize
+) -> Option<usize>
     requires { PrintRoom cells.now admitted (length title.old) (length out.old) }
-    ensures { result ≤ length out.new }
+    ensures { IfSome result (λ n. n ≤ length out.new) }
 {
     if len > line.len() {
-        return 0;
+        return None;
     }
-    let r = keys_lines::print(cells, admitted, &line[..len], title, out);
-    match r {
-        Printed::Bytes(n) => n,
-        Printed::Malformed => 0,
+    match keys_lines::print(cells, admitted, &line[..len], title, out) {
+        Printed::Bytes(n) => Some(n),
+        Printed::Malformed => None,
     }
 }
 
@@ -100,44 +95,27 @@ fn end_line(
     requires { (Buffers cells.now admitted line.now title.old out.old) × (Within p) }
     ensures { Within result }
 {
-    let lines = std::num::wrapping_add_u64(p.lines, 1);
-    let at = p.used;
-    let n = print(cells, admitted, line, p.len, title, &mut out[at..]);
-    if n == 0 {
-        let good = write_malformed(rt, out, at, p.good, lines);
-        let malformed = std::num::wrapping_add_u64(p.malformed, 1);
-        return Progress {
-            lines,
-            malformed,
-            len: 0,
-            used: 0,
-            good,
-        };
-    }
-    let used = at + n;
-    if used <= WAITING {
-        return Progress {
-            lines,
-            malformed: p.malformed,
-            len: 0,
-            used,
-            good: p.good,
-        };
-    }
-    let good = write_waiting(rt, out, used, p.good);
-    Progress {
-        lines,
-        malformed: p.malformed,
+    let ended = Progress {
+        lines: p.lines.wrapping_add(1),
         len: 0,
         used: 0,
-        good,
+        ..p
+    };
+    let at = p.used;
+    let Some(n) = print(cells, admitted, line, p.len, title, &mut out[at..]) else {
+        return Progress {
+            malformed: p.malformed.wrapping_add(1),
+            good: write_malformed(rt, out, at, p.good, ended.lines),
+            ..ended
+        };
+    };
+    let used = at + n;
+    if used <= WAITING {
+        return Progress { used, ..ended };
     }
-}
-
-/// Keeps a byte at a place, if there is such a place.
-fn keep(line: &mut [u8], at: usize, b: u8) {
-    if at < line.len() {
-        line[at] = b;
+    Progress {
+        good: write_waiting(rt, out, used, p.good),
+        ..ended
     }
 }
 
@@ -147,22 +125,16 @@ fn keep_line(piece: &[u8], from: usize, line: &mut [u8], len: usize) -> usize
     requires { (from ≤ length piece.now) × (len ≤ 131083) }
     ensures { (from ≤ result) × (result ≤ length piece.now) }
 {
-    let mut i = from;
-    while i < piece.len() {
+    for i in from..piece.len() {
         let b = piece[i];
-        if b == 0x0A {
+        if b == b'\n' {
             return i;
         }
-        keep(line, len + (i - from), b);
-        i += 1;
+        if let Some(place) = line.get_mut(len + (i - from)) {
+            *place = b;
+        }
     }
-    i
-}
-
-fn least(a: usize, b: usize) -> usize
-    ensures { (result ≤ a) × (result ≤ b) }
-{
-    if a < b { a } else { b }
+    piece.len()
 }
 
 /// The line has n bytes more; past the longest line they are not counted.
@@ -170,13 +142,10 @@ fn count_bytes(p: Progress, n: usize) -> Progress
     requires { Within p }
     ensures { Within result }
 {
-    let more = least(n, keys_lines::LONGEST + 1 - p.len);
+    let more = n.min(keys_lines::LONGEST + 1 - p.len);
     Progress {
-        lines: p.lines,
-        malformed: p.malformed,
         len: p.len + more,
-        used: p.used,
-        good: p.good,
+        ..p
     }
 }
 
@@ -207,14 +176,7 @@ fn take_piece(
     }
 }
 
-/// What a read came to, and whether there may be more to read.
-#[derive(Clone, Copy)]
-pub struct Reading {
-    pub progress: Progress,
-    pub more: bool,
-}
-
-/// Reads a piece, takes its bytes, and writes what was printed.
+/// Reads a piece, takes its bytes, and writes what was printed. It breaks where there is nothing more to read.
 fn read_piece(
     rt: &(impl Print + Eprint + AllocGlobal),
     reader: &mut impl Read,
@@ -224,51 +186,35 @@ fn read_piece(
     title: &mut [u8],
     out: &mut [u8],
     p: Progress,
-) -> Reading
+) -> ControlFlow<Progress, Progress>
     requires { (Buffers cells.now admitted line.old title.old out.old) × (Within p) }
-    ensures { Within result.progress }
+    ensures { MatchControlFlow result Within Within }
 {
     let mut piece = piece_buffer();
     let n = match reader.read(&mut piece) {
         Ok(n) => n,
         Err(why) => {
             fail(rt, b"standard input", why);
-            let failed = Progress {
-                lines: p.lines,
-                malformed: p.malformed,
-                len: p.len,
-                used: p.used,
-                good: false,
-            };
-            return Reading {
-                progress: failed,
-                more: false,
-            };
+            return ControlFlow::Break(Progress { good: false, ..p });
         }
     };
     if n == 0 {
-        return Reading {
-            progress: p,
-            more: false,
-        };
+        return ControlFlow::Break(p);
     }
     let q = take_piece(rt, cells, admitted, &piece[..n], line, title, out, p);
-    let good = write_waiting(rt, out, q.used, q.good);
     let progress = Progress {
-        lines: q.lines,
-        malformed: q.malformed,
-        len: q.len,
         used: 0,
-        good,
+        good: write_waiting(rt, out, q.used, q.good),
+        ..q
     };
-    Reading {
-        progress,
-        more: good,
+    if progress.good {
+        ControlFlow::Continue(progress)
+    } else {
+        ControlFlow::Break(progress)
     }
 }
 
-/// Reads to the end. A proved loop has to end, and nothing says that the input does: the turns are counted down from a
-/// number that no run uses up.
+/// Reads to the end. A proved loop has to end, and nothing says that the input does: the turns are as many as no run takes.
 fn read_all(
     rt: &(impl Print + Eprint + AllocGlobal),
     reader: &mut impl Read,
@@ -288,14 +234,11 @@ fn read_all(
         used: 0,
         good: true,
     };
-    let mut turns = u64::MAX;
-    while turns > 0 {
-        let r = read_piece(rt, reader, cells, admitted, line, title, out, p);
-        p = r.progress;
-        if !r.more {
-            return p;
+    for _ in 0..u64::MAX {
+        match read_piece(rt, reader, cells, admitted, line, title, out, p) {
+            ControlFlow::Continue(next) => p = next,
+            ControlFlow::Break(last) => return last,
         }
-        turns -= 1;
     }
     p
 }
@@ -312,10 +255,7 @@ fn last_line(
 ) -> u64
     requires { (Buffers cells.now admitted line.now title.old out.old) × (Within p) }
 {
-    if !p.good {
-        return p.malformed;
-    }
-    if p.len == 0 {
+    if !p.good || p.len == 0 {
         return p.malformed;
     }
     let q = end_line(rt, cells, admitted, line, title, out, p);

@@ -6,10 +6,10 @@ use Rattle.keys.proofs.lines.print.Goals as goal
 pub slice_bounds-print-end : goal.slice_bounds-print-end
 slice_bounds-print-end c = sym (length-take-le _ _ c.if-len-line.false)
 
-pub print-r-requires : goal.print-r-requires
-print-r-requires c =
+pub print-requires : goal.print-requires
+print-requires c =
     c.requires
 
 pub returns-in-Bytes : goal.returns-in-Bytes
 returns-in-Bytes c =
-    within _ _ _ _ c.in-Bytes.is c.print-r.ensures
+    within _ _ _ _ c.in-Bytes.is c.print.ensures
