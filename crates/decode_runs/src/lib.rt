@@ -101,6 +101,28 @@ fn run_from<const FITS: bool>(
     }
 }
 
+/// Such a run, written or counted.
+fn run(
+    cells: &[u16],
+    b: &[u8],
+    from: Reached,
+    to: usize,
+    fits: bool,
+    sets: Invoked,
+    text: &mut [u8],
+) -> Reached
+    requires at_in_bounds { (from.at ≤ length b.now) × (to ≤ length b.now) × (8836 ≤ length cells.now) }
+    requires space { Space fits from.len (to - from.at) (length text.old) }
+    ensures run { Letters cells.now b.now to from.at sets from.len from.private_use text.old result.at result.len
+        result.private_use text.new }
+    ensures room { Space fits result.len (to - result.at) (length text.new) }
+{
+    if fits {
+        return run_from::<true>(cells, b, from, to, sets, text);
+    }
+    run_from::<false>(cells, b, from, to, sets, text)
+}
+
 /// A character behind what was read, of which so many are private-use: 1 or 0.
 fn behind(from: Reached, c: u32, used: usize, private_use: u32, text: &mut [u8]) -> Reached
     requires { (from.at + used < 2 ^ 63) × (from.len < 2 ^ 63) × (from.private_use + private_use ≤ 0xFFFFFFFF) }
@@ -140,12 +162,13 @@ fn other(
 }
 
 /// Characters and controls that begin before the byte `end`, the characters before the byte `to`: there they surely fit, or
-/// surely do not.
-fn runs_to<const FITS: bool>(
+/// surely do not. One function for both, since it is faster with all that it calls inlined: as two, 2.3 times the time.
+fn runs_to(
     cells: &[u16],
     b: &[u8],
     from: Reached,
     to: usize,
+    fits: bool,
     end: usize,
     annex: bool,
     settings: &mut [u8],
@@ -153,7 +176,7 @@ fn runs_to<const FITS: bool>(
 ) -> Reached
     requires at_le_end { (from.at ≤ end) × (to ≤ end) × (end ≤ length b.now) × (8836 ≤ length cells.now) × Settings settings.old }
     requires few { from.private_use + 3 * (length b.now - from.at) ≤ 0xFFFFFFFF }
-    requires space { Space FITS from.len (to - from.at) (length text.old) }
+    requires space { Space fits from.len (to - from.at) (length text.old) }
     ensures { RunsTo cells.now b.now end from.at annex settings.old from.len from.private_use text.old result.at
         settings.new result.len result.private_use text.new }
 {
@@ -166,11 +189,11 @@ fn runs_to<const FITS: bool>(
             gr: settings[right],
             narrow: decode_codes::is_narrow(annex, settings[NARROW] == 1),
         };
-        let run = run_from::<FITS>(cells, b, reached, to, sets, text);
-        let more = other(cells, b, run, to, sets, text);
+        let plain = run(cells, b, reached, to, fits, sets, text);
+        let more = other(cells, b, plain, to, sets, text);
         let at = decode_settings::controls(b, more.at, end, settings);
         reached = Reached { at, ..more };
-        if at == run.at {
+        if at == plain.at {
             return reached;
         }
     }
@@ -196,9 +219,9 @@ fn runs_from(
     if from.len < room {
         let fit = (room - from.len) / 3;
         let to = from.at + fit.min(end - from.at);
-        return runs_to::<true>(cells, b, from, to, end, annex, settings, text);
+        return runs_to(cells, b, from, to, true, end, annex, settings, text);
     }
-    runs_to::<false>(cells, b, from, end, end, annex, settings, text)
+    runs_to(cells, b, from, end, false, end, annex, settings, text)
 }
 
 /// Whether a run may begin: nothing waits, and the table has its cells.
