@@ -175,7 +175,7 @@ fn macro_cmd(b: &[u8], i: usize, at: u32, s: Core, issues: &mut [u32]) -> Steppe
     }
 }
 
-/// The step at which plain steps stopped.
+/// The step at which plain steps stopped. The stop is an argument beside f, since that of f may be none.
 #[cycle(char1_graphic_run_run_body_run_macro_turn)]
 fn turn<'a>(
     inputs: Inputs<'a>,

@@ -107,7 +107,8 @@ fn execute<'a>(
     Decoder { core, macros }
 }
 
-/// MACRO 40 or 41 at the byte i, with a body of `len` bytes.
+/// MACRO 40 or 41 at the byte i, with a body of `len` bytes. Code, length and whether it runs are three arguments, as
+/// `Command::Defines` hands them over.
 fn definition<'a>(
     given: Given<'a>,
     i: usize,

@@ -49,7 +49,8 @@ pub struct Stepped {
     pub core: Core,
 }
 
-/// After a run of steps: the place where it stopped.
+/// After a run of steps: the place where it stopped. Not one type with `Stepped`: one number counts bytes and one is a
+/// place, and a name for both would say neither.
 #[derive(Clone, Copy)]
 pub struct Far {
     pub at: usize,
