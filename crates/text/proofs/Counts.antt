@@ -9,98 +9,121 @@ use lib.Dec.{leb}
 use lib.ListN.{length, take, drop, length-drop}
 use lib.Seq.{length-take-le}
 use Rattle.reading.specs.Call.{Lent, escape_part}
-use Rattle.decode.specs.declared.call.Answer.{Answer}
 use Rattle.decode.specs.Answers as decoded
 use Rattle.coding.specs.Call as coding
 use Rattle.encode.specs.Answers as codes
-use Rattle.encode.specs.declared.call.Answer as encoded
 use Rattle.reading.specs.WithoutBuffers as unbuffered
 use Rattle.measure.specs.Promises as measures
-use Rattle.measure.specs.declared.MeasureAnswer.{MeasureAnswer}
 use Rattle.clean.specs.Promises as cleans
-use Rattle.clean.specs.declared.CleanAnswer.{CleanAnswer}
 use Rattle.key.specs.Key as key
 use Rattle.key.specs.Promises as keys
-use Rattle.key.specs.declared.KeyAnswer.{KeyAnswer}
 use Rattle.catalogue.specs.Catalogue as catalogue
 use Rattle.catalogue.specs.Promises as catalogues
 use Rattle.catalogue.specs.declared.Found as found
 use Rattle.bookmark.specs.Bookmark as bookmark
 use Rattle.bookmark.specs.Promises as bookmarks
+use Rattle.std.specs.Prelude.{Result, Ok, Err}
+use Rattle.questions.specs.declared.refusal.Refusal.{Refusal}
+use Rattle.questions.specs.Refusal.{refused, refused_at}
 use Rattle.text_counts.specs.Counts.{fronted, escape_start}
+use Rattle.text.specs.Numbers.{reported, of_decoding, of_measuring, of_clean, of_key, of_find, of_coding}
 use Rattle.text.specs.Calls.{counts, Decodes, Escapes, measure_counts, Measures, clean_counts, Cleans, key_counts, Keys, add_counts, Adds, find_counts, Finds, Sets, Returns, coding_counts, Codes}
 
 -- an answer whose numbers were reported
-pub decodes : {c : Lent} {a : Answer} {before after t i : List ℕ} {n p x y z u : ℕ} → decoded.Answered c a t i
-    → n ≡ decoded.number_of a → p ≡ decoded.place_of a → x ≡ decoded.text_of a → y ≡ decoded.issues_of a → z ≡ decoded.charged_of a → u ≡ decoded.private_use_of a
-    → after ≡ fronted before (p ∷ x ∷ y ∷ z ∷ u ∷ []) → Decodes c before n t i after
+
+four : (a : decoded.Answer) → reported of_decoding 4 a ≡ decoded.text_of a ∷ decoded.issues_of a ∷ decoded.charged_of a ∷ decoded.private_use_of a ∷ []
+four (Ok x) = refl
+four (Err e) = refl
+
+pub decodes : {c : Lent} {a : decoded.Answer} {before after t i : List ℕ} {n : ℕ} → decoded.Answered c a t i → n ≡ refused a
+    → after ≡ fronted before (refused_at a ∷ reported of_decoding 4 a) → Decodes c before n t i after
 unfolding counts
-decodes v n p x y z u e = record {
+decodes {a = a} v n e = record {
   number = n ∙ v.number;
-  counted = e ∙ rw (p ∙ v.place, x ∙ v.counted, y ∙ v.reported, z ∙ v.charged, u ∙ v.private_use) refl;
+  counted = e ∙ rw (four a, v.place, v.counted, v.reported, v.charged, v.private_use) refl;
   written = v.written;
   listed = v.listed;
 }
 
 -- so of the rest of a reading
-pub returns_to : {c : bookmark.Returning} {a : Answer} {before after t i : List ℕ} {n p x y z u : ℕ} → bookmarks.Returns c a t i
-    → n ≡ decoded.number_of a → p ≡ decoded.place_of a → x ≡ decoded.text_of a → y ≡ decoded.issues_of a → z ≡ decoded.charged_of a → u ≡ decoded.private_use_of a
-    → after ≡ fronted before (p ∷ x ∷ y ∷ z ∷ u ∷ []) → Returns c before n t i after
+pub returns_to : {c : bookmark.Returning} {a : decoded.Answer} {before after t i : List ℕ} {n : ℕ} → bookmarks.Returns c a t i → n ≡ refused a
+    → after ≡ fronted before (refused_at a ∷ reported of_decoding 4 a) → Returns c before n t i after
 unfolding counts
-returns_to v n p x y z u e = record {
+returns_to {a = a} v n e = record {
   number = n ∙ v.number;
-  counted = e ∙ rw (p ∙ v.place, x ∙ v.counted, y ∙ v.reported, z ∙ v.charged, u ∙ v.private_use) refl;
+  counted = e ∙ rw (four a, v.place, v.counted, v.reported, v.charged, v.private_use) refl;
   written = v.written;
   listed = v.listed;
 }
 
-pub sets_to : {c : bookmark.Setting} {n : ℕ} {before after s : List ℕ} → bookmarks.Sets c n s → after ≡ fronted before (0 ∷ []) → Sets c before n s after
-sets_to v e = record { number = v.number; counted = e; stored = v.stored }
+none : (a : Result (Unit {0}) Refusal) → reported {A = Unit {0}} (λ x. []) 0 a ≡ []
+none (Ok x) = refl
+none (Err e) = refl
 
-pub measured : {c : unbuffered.Lent} {a : MeasureAnswer} {before after : List ℕ} {n p x y z : ℕ} → measures.Answered c a
-    → n ≡ measures.number_of a → p ≡ measures.place_of a → x ≡ measures.text_of a → y ≡ measures.issues_of a → z ≡ measures.charged_of a
-    → after ≡ fronted before (p ∷ x ∷ y ∷ z ∷ []) → Measures c before n after
+pub sets_to : {c : bookmark.Setting} {a : Result (Unit {0}) Refusal} {n : ℕ} {before after s : List ℕ} → bookmarks.Sets c a s → n ≡ refused a
+    → after ≡ fronted before (refused_at a ∷ reported {A = Unit {0}} (λ x. []) 0 a) → Sets c before n s after
+sets_to {a = a} v n e = record { number = n ∙ v.number; counted = e ∙ rw (none a, v.place) refl; stored = v.stored }
+
+three : (a : measures.MeasureAnswer) → reported of_measuring 3 a ≡ measures.text_of a ∷ measures.issues_of a ∷ measures.charged_of a ∷ []
+three (Ok x) = refl
+three (Err e) = refl
+
+pub measured : {c : unbuffered.Lent} {a : measures.MeasureAnswer} {before after : List ℕ} {n : ℕ} → measures.Answered c a → n ≡ refused a
+    → after ≡ fronted before (refused_at a ∷ reported of_measuring 3 a) → Measures c before n after
 unfolding measure_counts
-measured v n p x y z e = record { number = n ∙ v.number; counted = e ∙ rw (p ∙ v.place, x ∙ v.counted, y ∙ v.reported, z ∙ v.charged) refl }
+measured {a = a} v n e = record { number = n ∙ v.number; counted = e ∙ rw (three a, v.place, v.counted, v.reported, v.charged) refl }
 
-pub cleaned : {c : unbuffered.Lent} {a : CleanAnswer} {before after : List ℕ} {n p x : ℕ} → cleans.Answered c a
-    → n ≡ cleans.number_of a → p ≡ cleans.place_of a → x ≡ cleans.clean_of a → after ≡ fronted before (p ∷ x ∷ []) → Cleans c before n after
+one : (a : cleans.CleanAnswer) → reported of_clean 1 a ≡ cleans.clean_of a ∷ []
+one (Ok x) = refl
+one (Err e) = refl
+
+pub cleaned : {c : unbuffered.Lent} {a : cleans.CleanAnswer} {before after : List ℕ} {n : ℕ} → cleans.Answered c a → n ≡ refused a
+    → after ≡ fronted before (refused_at a ∷ reported of_clean 1 a) → Cleans c before n after
 unfolding clean_counts
-cleaned v n p x e = record { number = n ∙ v.number; counted = e ∙ rw (p ∙ v.place, x ∙ v.said) refl }
+cleaned {a = a} v n e = record { number = n ∙ v.number; counted = e ∙ rw (one a, v.place, v.said) refl }
 
-pub keyed : {c : key.Lent} {a : KeyAnswer} {before after b : List ℕ} {n p x y : ℕ} → keys.Answered c a b
-    → n ≡ keys.number_of a → p ≡ keys.place_of a → x ≡ keys.len_of a → y ≡ keys.charged_of a
-    → after ≡ fronted before (p ∷ x ∷ y ∷ []) → Keys c before n b after
+two : (a : keys.KeyAnswer) → reported of_key 2 a ≡ keys.len_of a ∷ keys.charged_of a ∷ []
+two (Ok x) = refl
+two (Err e) = refl
+
+pub keyed : {c : key.Lent} {a : keys.KeyAnswer} {before after b : List ℕ} {n : ℕ} → keys.Answered c a b → n ≡ refused a
+    → after ≡ fronted before (refused_at a ∷ reported of_key 2 a) → Keys c before n b after
 unfolding key_counts
-keyed v n p x y e = record {
+keyed {a = a} v n e = record {
   number = n ∙ v.number;
-  counted = e ∙ rw (p ∙ v.place, x ∙ v.counted, y ∙ v.charged) refl;
+  counted = e ∙ rw (two a, v.place, v.counted, v.charged) refl;
   written = v.written;
 }
 
-pub adds : {c : catalogue.Lent} {a : KeyAnswer} {before after s b : List ℕ} {n p x y : ℕ} → catalogues.Added c a s b
-    → n ≡ keys.number_of a → p ≡ keys.place_of a → x ≡ keys.len_of a → y ≡ keys.charged_of a
-    → after ≡ fronted before (p ∷ x ∷ y ∷ []) → Adds c before n s b after
+pub adds : {c : catalogue.Lent} {a : keys.KeyAnswer} {before after s b : List ℕ} {n : ℕ} → catalogues.Added c a s b → n ≡ refused a
+    → after ≡ fronted before (refused_at a ∷ reported of_key 2 a) → Adds c before n s b after
 unfolding add_counts
-adds v n p x y e = record {
+adds {a = a} v n e = record {
   number = n ∙ v.number;
-  counted = e ∙ rw (p ∙ v.place, x ∙ v.counted, y ∙ v.charged) refl;
+  counted = e ∙ rw (two a, v.place, v.counted, v.charged) refl;
   stored = v.stored;
   written = v.written;
 }
 
-pub finds : {store k before after : List ℕ} {a : found.Found} → catalogues.Finds store k a
-    → after ≡ fronted before (0 ∷ a.entries ∷ a.number ∷ []) → Finds store k before a.refused after
-unfolding find_counts
-finds v e = record { number = v.number; counted = e ∙ rw (v.counted, v.smallest) refl }
+pair : (a : Result found.Found Refusal) → reported of_find 2 a ≡ catalogues.entries_of a ∷ catalogues.smallest_of a ∷ []
+pair (Ok x) = refl
+pair (Err e) = refl
 
-pub coded : {c : coding.Lent} {a : encoded.Answer} {before after s b : List ℕ} {n p x y : ℕ} → codes.Answered c a s b
-    → n ≡ codes.number_of a → p ≡ codes.place_of a → x ≡ codes.length_of a → y ≡ codes.gap_of a
-    → after ≡ fronted before (p ∷ x ∷ y ∷ []) → Codes c before n s b after
+pub finds : {store k before after : List ℕ} {a : Result found.Found Refusal} {n : ℕ} → catalogues.Finds store k a → n ≡ refused a
+    → after ≡ fronted before (refused_at a ∷ reported of_find 2 a) → Finds store k before n after
+unfolding find_counts
+finds {a = a} v n e = record { number = n ∙ v.number; counted = e ∙ rw (pair a, v.place, v.counted, v.smallest) refl }
+
+coding_pair : (a : codes.Answer) → reported of_coding 2 a ≡ codes.length_of a ∷ codes.gap_of a ∷ []
+coding_pair (Ok x) = refl
+coding_pair (Err e) = refl
+
+pub coded : {c : coding.Lent} {a : codes.Answer} {before after s b : List ℕ} {n : ℕ} → codes.Answered c a s b → n ≡ refused a
+    → after ≡ fronted before (refused_at a ∷ reported of_coding 2 a) → Codes c before n s b after
 unfolding coding_counts
-coded v n p x y e = record {
+coded {a = a} v n e = record {
   number = n ∙ v.number;
-  counted = e ∙ rw (p ∙ v.place, x ∙ v.counted, y ∙ v.gap) refl;
+  counted = e ∙ rw (coding_pair a, v.place, v.counted, v.gap) refl;
   written = v.written;
   cleared = v.cleared;
 }

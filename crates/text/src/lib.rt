@@ -2,6 +2,8 @@
 // passes as a pointer and a length. `text_c` exports them.
 #![tactic(auto)]
 
+mod answers;
+
 ghost use Rattle.decode.specs.Answers.{lent};
 ghost use Rattle.reading.specs.WithoutBuffers as unbuffered;
 ghost use Rattle.key.specs.Promises as keys;
@@ -9,6 +11,8 @@ ghost use Rattle.catalogue.specs.Promises as catalogues;
 ghost use Rattle.bookmark.specs.Promises as bookmarks;
 ghost use Rattle.encode.specs.Answers as codes;
 ghost use Rattle.text.specs.Calls.{Decodes, Escapes, Measures, Cleans, Keys, Adds, Removes, Finds, Sets, Returns, Codes};
+
+use answers::report;
 
 /// `decode_with`: the counts are the place of a refusal, then the text's bytes, the issues, the charge
 /// and the private-use characters. Answers the number of the refusal, 0 for none.
@@ -26,14 +30,7 @@ pub extern "C" fn arib_decode(
         text.new issues.new counts.new }
 {
     let answer = decode::call::decode_with(cells, initial, width, input, text, issues);
-    let numbers = [
-        decode::values::text(answer),
-        decode::values::issues(answer),
-        decode::values::charged(answer),
-        decode::values::private_use(answer),
-    ];
-    text_counts::report(counts, decode::values::place(answer), &numbers);
-    decode::values::number(answer)
+    report(counts, answer)
 }
 
 /// The part of the input that an unknown escape is: its start and length go to `part`, and its length
@@ -67,13 +64,7 @@ pub extern "C" fn arib_measure(
     ensures { Measures (unbuffered.lent cells.now initial width input.now) counts.old result counts.new }
 {
     let answer = measure::measure(cells, initial, width, input);
-    let numbers = [
-        measure::values::text(answer),
-        measure::values::issues(answer),
-        measure::values::charged(answer),
-    ];
-    text_counts::report(counts, measure::values::place(answer), &numbers);
-    measure::values::number(answer)
+    report(counts, answer)
 }
 
 /// Whether a string is read without an issue: the counts are the place of a refusal, then 1 for yes or 0. Answers the
@@ -89,9 +80,7 @@ pub extern "C" fn arib_clean(
     ensures { Cleans (unbuffered.lent cells.now initial width input.now) counts.old result counts.new }
 {
     let answer = clean::clean(cells, initial, width, input);
-    let numbers = [clean::values::clean(answer)];
-    text_counts::report(counts, clean::values::place(answer), &numbers);
-    clean::values::number(answer)
+    report(counts, answer)
 }
 
 /// The key of a title: the counts are the place of a refusal, then the key's bytes and the charge.
@@ -108,9 +97,7 @@ pub extern "C" fn arib_key(
     ensures { Keys (keys.lent cells.now initial width input.now buffer.old) counts.old result buffer.new counts.new }
 {
     let answer = key::key(cells, initial, width, input, buffer);
-    let numbers = [key::values::len(answer), key::values::charged(answer)];
-    text_counts::report(counts, key::values::place(answer), &numbers);
-    key::values::number(answer)
+    report(counts, answer)
 }
 
 /// Adds a title to a catalogue, with a number of the caller's own: the counts are the place of a refusal, then the key's
@@ -130,9 +117,7 @@ pub extern "C" fn arib_catalogue_add(
         counts.old result store.new key.new counts.new }
 {
     let answer = catalogue::add(cells, initial, width, title, number, store, key);
-    let of_key = [key::values::len(answer), key::values::charged(answer)];
-    text_counts::report(counts, key::values::place(answer), &of_key);
-    key::values::number(answer)
+    report(counts, answer)
 }
 
 /// Removes the entry of a number from a catalogue. Answers the number of the refusal, 0 for none.
@@ -140,7 +125,10 @@ pub extern "C" fn arib_catalogue_add(
 pub extern "C" fn arib_catalogue_remove(store: &mut [u8], number: u32) -> u32
     ensures { Removes store.old number result store.new }
 {
-    catalogue::remove(store, number)
+    match catalogue::remove(store, number) {
+        Ok(()) => 0,
+        Err(refusal) => refusal.number(),
+    }
 }
 
 /// Finds the entries of a catalogue that have a key: the counts are the place of a refusal, then the entries and the
@@ -149,10 +137,8 @@ pub extern "C" fn arib_catalogue_remove(store: &mut [u8], number: u32) -> u32
 pub extern "C" fn arib_catalogue_find(store: &[u8], key: &[u8], counts: &mut [usize]) -> u32
     ensures { Finds store.now key.now counts.old result counts.new }
 {
-    let found = catalogue::find(store, key);
-    let numbers = [found.entries, found.number as usize];
-    text_counts::report(counts, 0, &numbers);
-    found.refused
+    let answer = catalogue::find(store, key);
+    report(counts, answer)
 }
 
 /// Names a place of an input in a store of bookmarks: the counts are the place of a refusal. Answers the number of the
@@ -171,10 +157,8 @@ pub extern "C" fn arib_bookmark_set(
     ensures { Sets (bookmarks.setting (unbuffered.lent cells.now initial width input.now) place name store.old)
         counts.old result store.new counts.new }
 {
-    let refused = bookmark::set(cells, initial, width, input, place, name, store);
-    let nothing = [0usize; 0];
-    text_counts::report(counts, 0, &nothing);
-    refused
+    let answer = bookmark::set(cells, initial, width, input, place, name, store);
+    report(counts, answer)
 }
 
 /// Returns to a named place: the counts are those of `arib_decode`, of the rest, and the charge of the whole reading.
@@ -194,15 +178,8 @@ pub extern "C" fn arib_bookmark_return(
     ensures { Returns (bookmarks.returning (unbuffered.lent cells.now initial width input.now) name store.now
         text.old issues.old) counts.old result text.new issues.new counts.new }
 {
-    let rest = bookmark::return_to(cells, initial, width, input, name, store, text, issues);
-    let numbers = [
-        decode::values::text(rest),
-        decode::values::issues(rest),
-        decode::values::charged(rest),
-        decode::values::private_use(rest),
-    ];
-    text_counts::report(counts, decode::values::place(rest), &numbers);
-    decode::values::number(rest)
+    let answer = bookmark::return_to(cells, initial, width, input, name, store, text, issues);
+    report(counts, answer)
 }
 
 /// `encode_with`: the counts are the place of a refusal, then the coding's bytes and the gap. Answers
@@ -221,7 +198,5 @@ pub extern "C" fn arib_encode(
         store.new coding.new counts.new }
 {
     let answer = encode::call::encode_with(cells, initial, width, text, store, coding);
-    let numbers = [encode::values::length(answer), encode::values::gap(answer)];
-    text_counts::report(counts, encode::values::place(answer), &numbers);
-    encode::values::number(answer)
+    report(counts, answer)
 }

@@ -8,6 +8,4 @@ pub returns : goal.returns
 returns c =
     let a = c.args in
     let lends = returning (lent a.cells.now a.initial a.width a.input.now) a.name a.store.now a.text.now a.issues.now in
-    returns_to {c = lends} c.return_to-rest.ensures c.number.ensures c.place.ensures c.text.ensures c.issues.ensures
-    c.charged.ensures c.private_use.ensures
-    c.report.ensures
+    returns_to {c = lends} c.return_to-answer.ensures c.report.ensures.number c.report.ensures.counted

@@ -8,4 +8,4 @@ pub returns : goal.returns
 returns c =
     let a = c.args in
     let lends = setting (lent a.cells.now a.initial a.width a.input.now) a.place a.name a.store.now in
-    sets_to {c = lends} c.set-refused.ensures c.report.ensures
+    sets_to {c = lends} c.set-answer.ensures c.report.ensures.number c.report.ensures.counted

@@ -8,5 +8,4 @@ pub returns : goal.returns
 returns c =
     let a = c.args in
     let k = keys.lent a.cells.now a.initial a.width a.title.now a.key.now in
-    adds {c = lent k a.number a.store.now} c.add-answer.ensures c.number.ensures c.place.ensures c.len.ensures
-    c.charged.ensures c.report.ensures
+    adds {c = lent k a.number a.store.now} c.add-answer.ensures c.report.ensures.number c.report.ensures.counted

@@ -4,4 +4,4 @@ use Rattle.text.proofs.arib_catalogue_find.Goals as goal
 
 pub returns : goal.returns
 returns c =
-    finds {store = c.args.store.now} {k = c.args.key.now} c.find-found.ensures c.report.ensures
+    finds {store = c.args.store.now} {k = c.args.key.now} c.find-answer.ensures c.report.ensures.number c.report.ensures.counted

@@ -6,5 +6,4 @@ use Rattle.text.proofs.arib_clean.Goals as goal
 pub returns : goal.returns
 returns c =
     let a = c.args in
-    cleaned {c = lent a.cells.now a.initial a.width a.input.now} c.clean-answer.ensures c.number.ensures c.place.ensures
-    c.clean.ensures c.report.ensures
+    cleaned {c = lent a.cells.now a.initial a.width a.input.now} c.clean-answer.ensures c.report.ensures.number c.report.ensures.counted

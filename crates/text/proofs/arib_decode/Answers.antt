@@ -7,6 +7,4 @@ pub returns : goal.returns
 returns c =
     let a = c.args in
     let lends = lent a.cells.now a.initial a.width a.input.now a.text.now a.issues.now in
-    decodes {c = lends} c.decode_with-answer.ensures c.number.ensures c.place.ensures c.text.ensures
-    c.issues.ensures c.charged.ensures c.private_use.ensures
-    c.report.ensures
+    decodes {c = lends} c.decode_with-answer.ensures c.report.ensures.number c.report.ensures.counted

@@ -7,5 +7,4 @@ pub returns : goal.returns
 returns c =
     let a = c.args in
     let lends = lent a.cells.now a.initial a.width a.text.now a.store.now a.coding.now in
-    coded {c = lends} c.encode_with-answer.ensures c.number.ensures c.place.ensures c.length.ensures c.gap.ensures
-    c.report.ensures
+    coded {c = lends} c.encode_with-answer.ensures c.report.ensures.number c.report.ensures.counted

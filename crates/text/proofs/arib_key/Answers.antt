@@ -7,5 +7,4 @@ pub returns : goal.returns
 returns c =
     let a = c.args in
     let lends = lent a.cells.now a.initial a.width a.input.now a.buffer.now in
-    keyed {c = lends} c.key-answer.ensures c.number.ensures c.place.ensures c.len.ensures c.charged.ensures
-    c.report.ensures
+    keyed {c = lends} c.key-answer.ensures c.report.ensures.number c.report.ensures.counted

@@ -6,5 +6,4 @@ use Rattle.text.proofs.arib_measure.Goals as goal
 pub returns : goal.returns
 returns c =
     let a = c.args in
-    measured {c = lent a.cells.now a.initial a.width a.input.now} c.measure-answer.ensures c.number.ensures c.place.ensures
-    c.text.ensures c.issues.ensures c.charged.ensures c.report.ensures
+    measured {c = lent a.cells.now a.initial a.width a.input.now} c.measure-answer.ensures c.report.ensures.number c.report.ensures.counted
