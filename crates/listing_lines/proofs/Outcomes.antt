@@ -12,8 +12,7 @@ use Rattle.questions.proofs.Refusals.{passed}
 use Rattle.issues.specs.Issue.{numbers}
 use Rattle.reading.specs.Call.{Lent, Outcome, reading, text_bytes, issue_list, fits, refusal, outcome_of, outcome}
 use Rattle.laws_reading.proofs.Reading.{charge_bound, question_8_9}
-use Rattle.decode.specs.declared.call.Answer.{Answer}
-use Rattle.decode.specs.Answers.{number_of, text_of, issues_of, charged_of, lent, Answered}
+use Rattle.decode.specs.Answers.{Answer, number_of, text_of, issues_of, charged_of, lent, Answered}
 use Rattle.jis_tab.specs.CellTable.{cell_table}
 use Rattle.ascii.specs.Ascii.{refused_line}
 use Rattle.listing_form.specs.Lines.{decoding_lines}
