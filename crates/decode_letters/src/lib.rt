@@ -38,6 +38,7 @@ pub struct Taken {
 
 /// The character of the Kanji set at the bytes `i` and `i + 1`, of rows 3 to 84, which the lent table alone decides, from
 /// U+3000 on and before the private-use ones.
+#[inline(always)]
 pub fn kanji_at(cells: &[u16], b: &[u8], i: usize) -> Option<u32>
     requires { (i < length b.now) × (8836 ≤ length cells.now) }
     ensures { IfSome result (Ideograph cells.now b.now i) }
@@ -58,6 +59,7 @@ pub fn kanji_at(cells: &[u16], b: &[u8], i: usize) -> Option<u32>
 
 /// The letter of the alphanumeric, the hiragana or the katakana set, with which a reading begins; none of any other.
 #[tactic(auto, unfolding(reading::specs::Characters::letter))]
+#[inline(always)]
 pub fn initial_at(narrow: bool, set: u8, c: u8) -> Option<u32>
     ensures { IfSome result (λ l. (l ≡ letter narrow set c) × (1 ≤ l)) }
 {
