@@ -4,7 +4,6 @@ ghost use Rattle.keys_lines.specs.Promises.{PrintRoom};
 ghost use Rattle.keys.specs.Promises.{Buffers, Within};
 
 use files::fail;
-use keys_lines::Printed;
 use std::io::Read;
 
 /// How many printed bytes may wait before they are written.
@@ -82,8 +81,8 @@ fn print(
     }
     let r = keys_lines::print(cells, admitted, &line[..len], title, out);
     match r {
-        Printed::Bytes(n) => n,
-        Printed::Malformed => 0,
+        Some(n) => n,
+        None => 0,
     }
 }
 

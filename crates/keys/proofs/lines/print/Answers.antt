@@ -10,6 +10,6 @@ pub print-r-requires : goal.print-r-requires
 print-r-requires c =
     c.requires
 
-pub returns-in-Bytes : goal.returns-in-Bytes
-returns-in-Bytes c =
-    within _ _ _ _ c.in-Bytes.is c.print-r.ensures
+pub returns-in-Some : goal.returns-in-Some
+returns-in-Some c =
+    within _ _ _ _ c.in-Some.is c.print-r.ensures
