@@ -1,11 +1,10 @@
 -- The coding call: the questions in order, and what it leaves in every element of buffer and store. 01, "The questions, put in this order".
-use Rattle.std.specs.Prelude.{ℕ, zero, suc, false, cond, List, [], ◌∷◌, eqb, leb}
+use Rattle.std.specs.Prelude.{ℕ, zero, suc, false, cond, List, [], ◌∷◌, eqb, leb, Some, None}
 use Rattle.std.proofs.Math.Option.{Option, none, some}
 use lib.ListN.{length}
 use Rattle.questions.specs.Questions.{first_refusal, encode_limit}
 use Rattle.questions.specs.Buffer.{padded}
 use Rattle.utf8.specs.Utf8.{first_fault}
-use Rattle.utf8.specs.declared.Text.TheVariants.{WellFormed, FaultAt}
 use Rattle.coding.specs.Tokens.{Token, tokens, in_order, chars, baseless}
 use Rattle.coding.specs.Candidates.{Cand, candidates_of}
 use Rattle.coding.specs.Search.{Coded, code}
@@ -71,7 +70,7 @@ question5 c = elim (baseless false (tokens c.text)) [ some p ↦ refuse 5 p | no
 -- "If no, 4 at the first byte of the first faulty sequence"
 unfoldable pub question4 : Lent → Refusal
 unfolding first_fault question5
-question4 c = elim (first_fault c.text) [ FaultAt p ↦ refuse 4 p | WellFormed ↦ question5 c ]
+question4 c = elim (first_fault c.text) [ Some p ↦ refuse 4 p | None ↦ question5 c ]
 
 -- the first question that fails, of 1 to 8
 unfoldable pub refusal : Lent → Refusal

@@ -10,7 +10,8 @@ use Rattle.coding.specs.State.{State, start}
 use Rattle.coding.specs.Candidates.{Cand}
 use Rattle.coding.specs.Search.{Node, node, begin, run, newest, node_at, back}
 use Rattle.encode_candidates.specs.Packed.{cands_of, StandsForCandidates}
-use Rattle.encode_candidates.specs.declared.Cands.{Cands}
+use Rattle.encode_candidates.specs.declared.candidate.Candidate.{Candidate}
+use Rattle.encode_tokens.specs.declared.Character.{Character}
 use Rattle.encode_states.specs.Written.{written}
 use Rattle.encode_search.specs.Layers.{last_of, Older}
 use Rattle.laws_coding.proofs.Chains.{begins, run_chain}
@@ -153,11 +154,11 @@ module _ {css : List (List Cand)} {s l₀ target : List ℕ} where
     going_before = far_most css s j g.end g.count g.i p g.layers g.state newest_here g.linked g.inside g.place
 
     -- a character more
-    module _ {cells : List ℕ} {annex_e : Bool} {chs ks ss : List ℕ} (K : Cands) (q : Chosen cells annex_e chs ks ss j (get_or css j []))
-        (st : StandsForCandidates (get_or chs j 0) (get_or ks j 0) (get_or ss j 0) annex_e K) where
+    module _ {cells : List ℕ} {annex_e : Bool} {x : Character} (K : List Candidate) (q : Chosen cells annex_e x (get_or css j []))
+        (st : StandsForCandidates x.char x.kanji x.symbol annex_e K) where
       same : cands_of K ≡ last_of css (suc j)
       unfolding last_of
-      same = st.list cells q.kanji q.symbol ∙ sym q.list
+      same = st.list cells q.has.kanji q.has.symbol ∙ sym q.list
 
       pub going_most : length (written (cands_of K) (how_of s p)) ≤ to
       going_most =
@@ -182,8 +183,8 @@ module _ {css : List (List Cand)} {s l₀ target : List ℕ} where
       to_of {k} {p} {to} g = to
 
 -- the whole way
-pub going_start : {annex_e : Bool} {chs ks ss s : List ℕ} {n node bytes : ℕ} (f : Searched annex_e chs ks ss n s node bytes) (l : List ℕ) →
-    Going f.css s n node bytes l l (back (run f.css (begin f.initial)).layers f.place [])
+pub going_start : {annex_e : Bool} {xs : List Character} {s : List ℕ} {node bytes : ℕ} (f : Searched annex_e xs s node bytes) (l : List ℕ) →
+    Going f.css s (length xs) node bytes l l (back (run f.css (begin f.initial)).layers f.place [])
 unfolding begin
 going_start f l =
     record {

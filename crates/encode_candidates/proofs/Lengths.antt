@@ -1,19 +1,22 @@
 -- The shortest code: one byte where some candidate has one, else two. Assumes nothing.
-use mathlib.Core.Path.{◌≡◌, refl, ap, ◌∙◌}
+use mathlib.Core.Path.{◌≡◌, refl, sym, ap, ◌∙◌}
 use mathlib.Core.Bool.{Bool, true, false}
+use mathlib.Core.List.{List, [], ◌∷◌}
 use Prim.Native.Nat.{ℕ, zero, suc, ◌+◌, ◌<◌, ◌≤◌}
-use native.Mathlib.Nat.{add-zero}
+use native.Mathlib.Decide.{ℕ_discrete}
 use native.Mathlib.Omega.{arith}
 use lib.Dec.{eqb, ltb}
-use lib.ListN.{get_or}
-use borrow.Author.Tests.{eq-eqb, ne_eqb, lt-ltb, le-ltb}
-use Rattle.coding.specs.Candidates.{code_length, shortest}
-use Rattle.encode_candidates.specs.declared.Cands.{Cands}
-use Rattle.encode_candidates.specs.Packed.{cand_of, cand_at, cands_from}
+use lib.ListN.{length, get_or, take}
+use Rattle.std.proofs.lemmas.List.{get_or_default}
+use borrow.Author.Tests.{ltb-true, ltb-false, eq-eqb, ne_eqb, lt-ltb, le-ltb}
+use Rattle.base.specs.Lists.{All}
+use Rattle.coding.specs.Candidates.{Size, code_length, shortest}
+use Rattle.encode_candidates.specs.declared.candidate.Candidate.{Candidate}
+use Rattle.encode_candidates.specs.Packed.{size_of, cand_of, cand, cands_of}
 
 -- ---- a candidate's own length
 
-module _ (x b z : ℕ) where
+module _ (x b : ℕ) (z : Size) where
   pub without_set : x ≡ 7 → code_length (cand_of x b z) ≡ 1
   unfolding cand_of code_length
   without_set e = rw (eq-eqb x 7 e)
@@ -39,34 +42,83 @@ module _ (x b z : ℕ) where
       go false true p q = rw (p, q) (omega arith)
       go false false p q = rw (p, q) (omega arith)
 
--- ---- the shortest of n candidates from the i-th on
+  few : code_length (cand_of x b z) ≤ 2
+  unfolding cand_of code_length
+  few = go (eqb x 7) (ltb b 256) refl refl
+    where
+      go : (d e : Bool) → eqb x 7 ≡ d → ltb b 256 ≡ e → code_length (cand_of x b z) ≤ 2
+      go true e p q = rw p (omega arith)
+      go false true p q = rw (p, q) (omega arith)
+      go false false p q = rw (p, q) (omega arith)
 
-module _ (k : Cands) where
-  some_at : (i : ℕ) → 1 ≤ code_length (cand_at k i)
-  unfolding cand_at
-  some_at i = some (get_or k.sets i 0) (get_or k.codes i 0) (get_or k.sizes i 0)
+pub few_length : (c : Candidate) → code_length (cand c) ≤ 2
+unfolding cand
+few_length c = few c.set c.code (size_of c.size)
 
-  one_least : (i n : ℕ) → 1 ≤ shortest (cands_from k i (suc n))
-  unfolding cands_from shortest
-  one_least i zero = some_at i
-  one_least i (suc n) = omega (arith, some_at i, one_least (suc i) n)
+-- where there is no set
+pub plain_length : (c : Candidate) → 6 ≤ c.set → code_length (cand c) ≡ 1
+unfolding cand
+plain_length c h = go (ℕ_discrete c.set 7)
+  where
+    go : Dec (c.set ≡ 7) → code_length (cand_of c.set c.code (size_of c.size)) ≡ 1
+    go (yes e) = without_set c.set c.code (size_of c.size) e
+    go (no e) = absurd (omega (arith, c.six e))
 
-  pub is_one : (i n j : ℕ) → j < n → code_length (cand_at k (i + j)) ≡ 1 → shortest (cands_from k i n) ≡ 1
-  unfolding cands_from shortest
-  is_one i zero j h e = absurd (omega arith)
-  is_one i (suc zero) j h e = let q : i ≡ i + j = omega arith in ap (λ (m : ℕ). code_length (cand_at k m)) q ∙ e
-  is_one i (suc (suc n)) zero h e =
-      let q = ap (λ (m : ℕ). code_length (cand_at k m)) (add-zero i) in
-      omega (arith, q, e, one_least (suc i) n)
-  is_one i (suc (suc n)) (suc j) h e =
-      let s : suc i + j ≡ i + suc j = omega arith in
-      omega (arith, some_at i, is_one (suc i) (suc n) j (omega arith) (ap (λ (m : ℕ). code_length (cand_at k m)) s ∙ e))
+pub some_length : (c : Candidate) → 1 ≤ code_length (cand c)
+unfolding cand
+some_length c = some c.set c.code (size_of c.size)
 
-  pub is_two : (i n : ℕ) → ((j : ℕ) → j < i + suc n → code_length (cand_at k j) ≡ 2) → shortest (cands_from k i (suc n)) ≡ 2
-  unfolding cands_from shortest
-  is_two i zero e = e i (omega arith)
-  is_two i (suc n) e = omega (arith, e i (omega arith), is_two (suc i) n (λ j h. e j (omega arith)))
+-- ---- the shortest of some candidates
 
-  pub is_zero_lem : (n : ℕ) → n ≡ 0 → shortest (cands_from k 0 n) ≡ 0
-  unfolding cands_from shortest
-  is_zero_lem n e = ap (λ (m : ℕ). shortest (cands_from k 0 m)) e
+one_least : (c : Candidate) (l : List Candidate) → 1 ≤ shortest (cands_of (c ∷ l))
+unfolding shortest
+one_least c [] = some_length c
+one_least c (d ∷ l) = omega (arith, some_length c, one_least d l)
+
+-- the first i have two bytes each
+abbrev pub Twos : List Candidate → ℕ → Type 0
+Twos l i = (d : Candidate) (j : ℕ) → j < i → code_length (cand (get_or l j d)) ≡ 2
+
+pub more : (l : List Candidate) (c : Candidate) (i n : ℕ) → Twos l i → c ≡ get_or l i c → i < length l → n ≡ code_length (cand c) → (n ≡ 1 → ⊥) → Twos l (i + 1)
+more l c i n t e h q m d j k = go (ltb j i) refl
+  where
+    go : (b : Bool) → ltb j i ≡ b → code_length (cand (get_or l j d)) ≡ 2
+    go true u = t d j (ltb-true j i u)
+    go false u =
+        let v = ltb-false j i u in
+        let z : i ≡ j = omega arith in
+        let y : get_or l j d ≡ c = ap (λ (x : ℕ). get_or l x d) (sym z) ∙ (get_or_default l i d c h ∙ sym e) in
+        ap (λ (x : Candidate). code_length (cand x)) y ∙ omega (arith, some_length c, few_length c)
+
+pub is_one : (l : List Candidate) (d : Candidate) (j : ℕ) → j < length l → code_length (cand (get_or l j d)) ≡ 1 → 1 ≡ shortest (cands_of l)
+unfolding shortest
+is_one [] d j h e = absurd (omega arith)
+is_one (c ∷ []) d zero h e = sym e
+is_one (c ∷ []) d (suc j) h e = absurd (omega arith)
+is_one (c ∷ b ∷ l) d zero h e = omega (arith, e, one_least b l)
+is_one (c ∷ b ∷ l) d (suc j) h e = omega (arith, some_length c, is_one (b ∷ l) d j (omega arith) e)
+
+pub is_two : (c : Candidate) (l : List Candidate) → Twos (c ∷ l) (suc (length l)) → 2 ≡ shortest (cands_of (c ∷ l))
+unfolding shortest
+is_two c [] t = sym (t c 0 (omega arith))
+is_two c (b ∷ l) t = omega (arith, t c 0 (omega arith), is_two b l (λ d j h. t d (suc j) (omega arith)))
+
+pub all_two : (l : List Candidate) (i : ℕ) → (length l ≡ 0 → ⊥) → length l ≤ i → Twos l i → 2 ≡ shortest (cands_of l)
+all_two [] i n h t = absurd (n refl)
+all_two (c ∷ l) i n h t = is_two c l (λ d j k. t d j (omega arith))
+
+pub none_short : (l : List Candidate) → length l ≡ 0 → 0 ≡ shortest (cands_of l)
+unfolding shortest
+none_short [] e = refl
+none_short (c ∷ l) e = absurd (omega arith)
+
+-- none has more than two bytes, and where there is none there is no candidate
+pub short : (l : List Candidate) → shortest (cands_of l) ≤ 2
+unfolding shortest
+short [] = omega arith
+short (c ∷ []) = few_length c
+short (c ∷ d ∷ l) = omega (arith, short (d ∷ l))
+
+pub nothing : (l : List Candidate) → shortest (cands_of l) ≡ 0 → cands_of l ≡ []
+nothing [] e = refl
+nothing (c ∷ l) e = absurd (omega (arith, one_least c l))

@@ -1,4 +1,3 @@
-pub mod Lists
 pub mod Adding
 pub mod Lengths
 pub mod Cases

@@ -8,174 +8,139 @@ ghost use Rattle.tables_onebyte.specs.Reverse.{one_byte_reverse};
 ghost use Rattle.tables.specs.Kanji.{place_value};
 ghost use Rattle.coding.specs.Candidates.{narrow, wide, plain, of_code, fullwidth, letters, shortest};
 ghost use Rattle.base.specs.Lists.{when};
-ghost use Rattle.encode_states.specs.Packed.{set_of, size_of};
-ghost use Rattle.encode_candidates.specs.Packed.{packed, cand_of, cands_of, Fits, UnderConstruction, Adds, AddsCell, StandsFor, StandsForCandidates};
+ghost use Rattle.encode_states.specs.Packed.{set_of};
+ghost use Rattle.encode_candidates.specs.Packed.{packed, size_of, cand, cands_of, Adds, AddsCell, StandsFor, StandsForCandidates};
+ghost use Rattle.arrayvec.specs.ArrayVec.{array_vec_len};
 
+pub mod candidate;
+
+use arrayvec::ArrayVec;
+use candidate::{Candidate, Size};
 use control::{APR, SP};
-use tables::Place;
-use tables_onebyte::{Code, OneByteTable};
+use tables_onebyte::OneByteTable;
 
-/// Candidates in the order of trial: a set's code (0 to 6: Kanji, Alphanumeric, Hiragana, Katakana, JisX0201Katakana,
-/// AdditionalSymbols, Macro; 7: none, for SP and APR), a code in GL form (one byte, or row byte × 256 + cell byte) and a
-/// size (0 either, 1 narrow, 2 wide) for each.
-#[derive(Clone, Copy)]
-pub struct Cands {
-    pub count: usize,
-    pub sets: [u8; 9],
-    pub codes: [u16; 9],
-    pub sizes: [u8; 9],
-}
-
-/// A cell in one number, row × 256 + cell, 0 for none.
-pub fn pack(p: Place) -> u16
-    ensures { result ≡ packed (place_value p) }
+/// A cell in one number, row × 256 + cell, 0 for none: the characters of a text are lent memory of fixed size, where an
+/// `Option` of a pair would take more.
+pub fn pack(place: Option<(u8, u8)>) -> u16
+    ensures { result ≡ packed (place_value place) }
 {
-    match p {
-        Place::At(row, cell) => row as u16 * 256 + cell as u16,
-        Place::Nowhere => 0,
+    match place {
+        Some((row, cell)) => row as u16 * 256 + cell as u16,
+        None => 0,
     }
 }
 
-/// One candidate more.
-fn with(k: Cands, set: u8, code: u16, size: u8) -> Cands
-    requires count_bound { k.count < 9 }
-    requires under_construction { UnderConstruction k }
-    requires fits { Fits set code size }
-    ensures { Adds k (cand_of set code size ∷ []) 1 result }
-{
-    let n = k.count;
-    let mut sets = k.sets;
-    let mut codes = k.codes;
-    let mut sizes = k.sizes;
-    sets[n] = set;
-    codes[n] = code;
-    sizes[n] = size;
-    Cands {
-        count: n + 1,
-        sets,
-        codes,
-        sizes,
-    }
-}
-
-/// The code of `c` in a one-byte table, where it has one.
-fn with_code(k: Cands, table: OneByteTable, c: u32, set: u8, size: u8) -> Cands
-    requires count_bound { k.count < 9 }
-    requires under_construction { UnderConstruction k }
+/// The code of `c` in a one-byte table, where it has one, behind the candidates before.
+fn with_code(k: &mut ArrayVec<Candidate, 9>, table: OneByteTable, c: u32, set: u8, size: Size)
+    requires count_bound { array_vec_len k.old < 9 }
     requires set_bound { set < 6 }
-    requires size_bound { size ≤ 2 }
-    ensures { Adds k (of_code (set_of set) (size_of size) (one_byte_reverse table c)) 1 result }
+    ensures { Adds k.old.items (of_code (set_of set) (size_of size) (one_byte_reverse table c)) 1 k.new.items }
 {
-    match tables_onebyte::one_byte_reverse(table, c) {
-        Code::Gl(code) => with(k, set, code as u16, size),
-        Code::Nothing => k,
+    if let Some(code) = tables_onebyte::one_byte_reverse(table, c) {
+        k.push(Candidate {
+            set,
+            code: code as u16,
+            size,
+        });
     }
 }
 
 /// A cell of a two-byte set, where there is one. Whatever its number, both bytes are below 128.
-fn with_cell(k: Cands, cell: u16, set: u8, size: u8) -> Cands
-    requires count_bound { k.count < 9 }
-    requires under_construction { UnderConstruction k }
+fn with_cell(k: &mut ArrayVec<Candidate, 9>, cell: u16, set: u8, size: Size)
+    requires count_bound { array_vec_len k.old < 9 }
     requires set_bound { set < 6 }
-    requires size_bound { size ≤ 2 }
-    ensures { AddsCell k set size cell result }
+    ensures { AddsCell k.old.items set (size_of size) cell k.new.items }
 {
-    if cell == 0 {
-        return k;
+    if cell != 0 {
+        let row = (cell / 256 + 0x20) % 128;
+        let last = (cell % 256 + 0x20) % 128;
+        k.push(Candidate {
+            set,
+            code: row * 256 + last,
+            size,
+        });
     }
-    let row = (cell / 256 + 0x20) % 128;
-    let last = (cell % 256 + 0x20) % 128;
-    with(k, set, row * 256 + last, size)
 }
 
 /// The alphanumeric whose full-width form is `c`, in CharacterSize alone.
-fn with_half(k: Cands, c: u32, annex: bool) -> Cands
-    requires count_bound { k.count < 9 }
-    requires under_construction { UnderConstruction k }
-    ensures { Adds k (fullwidth annex c) 1 result }
+fn with_half(k: &mut ArrayVec<Candidate, 9>, c: u32, annex: bool)
+    requires { array_vec_len k.old < 9 }
+    ensures { Adds k.old.items (fullwidth annex c) 1 k.new.items }
 {
-    if annex {
-        return k;
+    if !annex {
+        with_code(k, OneByteTable::Fullwidth, c, 1, Size::Wide);
     }
-    with_code(k, OneByteTable::Fullwidth, c, 1, 2)
 }
 
 /// SP, for U+0020 and, in CharacterSize, for U+3000.
-fn with_space(k: Cands, c: u32, annex: bool) -> Cands
-    requires count_bound { k.count < 9 }
-    requires under_construction { UnderConstruction k }
-    ensures { Adds k (when (eqb c 0x20) (plain SP narrow) ++ cond annex [] (when (eqb c 0x3000) (plain SP wide))) 1 result }
+fn with_space(k: &mut ArrayVec<Candidate, 9>, c: u32, annex: bool)
+    requires { array_vec_len k.old < 9 }
+    ensures { Adds k.old.items (when (eqb c 0x20) (plain SP narrow) ++ cond annex [] (when (eqb c 0x3000) (plain SP wide))) 1 k.new.items }
 {
     if c == 0x20 {
-        return with(k, 7, SP as u16, 1);
+        k.push(without_set(SP, Size::Narrow));
+    } else if !annex && c == 0x3000 {
+        k.push(without_set(SP, Size::Wide));
     }
-    if annex {
-        return k;
+}
+
+/// SP or APR, which need no set.
+fn without_set(byte: u8, size: Size) -> Candidate
+    requires { byte < 128 }
+    ensures { cand result ≡ plain byte (size_of size) }
+{
+    Candidate {
+        set: 7,
+        code: byte as u16,
+        size,
     }
-    if c == 0x3000 {
-        return with(k, 7, SP as u16, 2);
-    }
-    k
 }
 
 /// The candidates of a character that is neither newline nor mark.
-fn letters(c: u32, kanji: u16, symbol: u16, annex: bool) -> Cands
-    ensures { StandsFor (λ cells. letters cells annex c) c kanji symbol result }
+fn letters(c: u32, kanji: u16, symbol: u16, annex: bool) -> ArrayVec<Candidate, 9>
+    ensures { StandsFor (λ cells. letters cells annex c) c kanji symbol result.items }
 {
-    let none = Cands {
-        count: 0,
-        sets: [0; 9],
-        codes: [0; 9],
-        sizes: [0; 9],
-    };
-    let mut k = with_code(none, OneByteTable::Hiragana, c, 2, 2);
-    k = with_code(k, OneByteTable::Katakana, c, 3, 2);
-    k = with_code(k, OneByteTable::Alphanumeric, c, 1, 1);
-    k = with_half(k, c, annex);
-    k = with_cell(k, kanji, 0, 2);
-    k = with_cell(k, symbol, 5, 2);
-    k = with_code(k, OneByteTable::JisX0201Katakana, c, 4, 1);
-    with_space(k, c, annex)
+    let mut k = ArrayVec::new();
+    with_code(&mut k, OneByteTable::Hiragana, c, 2, Size::Wide);
+    with_code(&mut k, OneByteTable::Katakana, c, 3, Size::Wide);
+    with_code(&mut k, OneByteTable::Alphanumeric, c, 1, Size::Narrow);
+    with_half(&mut k, c, annex);
+    with_cell(&mut k, kanji, 0, Size::Wide);
+    with_cell(&mut k, symbol, 5, Size::Wide);
+    with_code(&mut k, OneByteTable::JisX0201Katakana, c, 4, Size::Narrow);
+    with_space(&mut k, c, annex);
+    k
 }
 
-/// The candidates of `c`, given its cells of the Kanji set and of the additional symbols, row × 256 + cell, 0 for none. A
-/// newline is APR, and a mark is coded by its own cell of the seven.
-pub fn candidates(c: u32, kanji: u16, symbol: u16, annex: bool) -> Cands
-    ensures { StandsForCandidates c kanji symbol annex result }
+/// The candidates of `c` in the order of trial, given its cells of the Kanji set and of the additional symbols, row × 256 +
+/// cell, 0 for none. A newline is APR, and a mark is coded by its own cell of the seven.
+pub fn candidates(c: u32, kanji: u16, symbol: u16, annex: bool) -> ArrayVec<Candidate, 9>
+    ensures { StandsForCandidates c kanji symbol annex result.items }
 {
-    let none = Cands {
-        count: 0,
-        sets: [0; 9],
-        codes: [0; 9],
-        sizes: [0; 9],
-    };
+    let mut k = ArrayVec::new();
     if c == 10 {
-        return with(none, 7, APR as u16, 0);
+        k.push(without_set(APR, Size::Either));
+        return k;
     }
     let mark = pack(tables::mark_cell(c));
     if mark != 0 {
-        return with_cell(none, mark, 0, 0);
+        with_cell(&mut k, mark, 0, Size::Either);
+        return k;
     }
     letters(c, kanji, symbol, annex)
 }
 
 /// The bytes of the shortest one's code, 0 where there is none.
-pub fn shortest(k: Cands) -> usize
-    requires { k.count ≤ 9 }
-    ensures { result ≡ shortest (cands_of k) }
+pub fn shortest(candidates: &[Candidate]) -> usize
+    ensures { result ≡ shortest (cands_of candidates.now) }
 {
-    let mut i = 0;
-    while i < k.count {
-        if k.sets[i] == 7 {
-            return 1;
-        }
-        if k.codes[i] < 256 {
-            return 1;
-        }
-        i += 1;
-    }
-    if i == 0 {
+    if candidates.is_empty() {
         return 0;
+    }
+    for candidate in candidates {
+        if candidate.length() == 1 {
+            return 1;
+        }
     }
     2
 }

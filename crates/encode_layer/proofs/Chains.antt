@@ -7,7 +7,8 @@ use native.Mathlib.Nat.{mul-le-mul_right}
 use native.Mathlib.Omega.{arith}
 use lib.ListN.{length, get_or, set, length-set}
 use lib.Seq.{get_or-set_same, get_or-set_other}
-use Rattle.encode_layer.specs.Entries.{Entry, entries, set_entry}
+use Rattle.encode_layer.specs.declared.Entry.{Entry}
+use Rattle.encode_layer.specs.Entries.{entries, set_entry}
 use Rattle.encode_layer.specs.Layer.{bucket_of, head_at, next_at, Leads, here, further, Chained, Indexed, Finds, Entered}
 use Rattle.encode_layer.proofs.Entries.{entries_at, entries_chain, other_set, chain_set}
 use Rattle.encode_layer.proofs.Pushing.{blank}

@@ -11,7 +11,8 @@ use Rattle.base.specs.Lists.{All}
 use Rattle.base.proofs.Every.{all_at}
 use Rattle.coding.specs.Candidates.{Cand}
 use Rattle.coding.specs.Search.{Node, least, lower, floor_of}
-use Rattle.encode_layer.specs.Entries.{Entry, node_of, entries_of, layer_of}
+use Rattle.encode_layer.specs.declared.Entry.{Entry}
+use Rattle.encode_layer.specs.Entries.{node_of, entries_of, layer_of}
 use Rattle.encode_layer.proofs.Entries.{length_of_lem, entry_of}
 use Rattle.encode_layer.proofs.Pushing.{blank}
 

@@ -6,7 +6,8 @@ use native.Mathlib.Nat.{zero-add}
 use native.Mathlib.Omega.{arith}
 use lib.ListN.{length, get_or, set, take, drop, length-set, length-drop}
 use lib.Seq.{take-nil, length-take-le, get_or-take, get_or-drop, get_or-set_other, take-set-le, drop-drop}
-use Rattle.encode_layer.specs.Entries.{Entry, entry, entries, entries_of, entry_at, set_entry}
+use Rattle.encode_layer.specs.declared.Entry.{Entry}
+use Rattle.encode_layer.specs.Entries.{entry, entries, entries_of, entry_at, set_entry}
 
 four : ℕ → ℕ
 four zero = 0

@@ -13,7 +13,8 @@ use borrow.Author.Tests.{le-leb, lt-leb}
 use Rattle.base.specs.Lists.{All}
 use Rattle.coding.specs.Candidates.{Cand}
 use Rattle.coding.specs.Search.{Node, keep}
-use Rattle.encode_layer.specs.Entries.{Entry, node_of, entries_of, layer_of, entry_at, set_entry}
+use Rattle.encode_layer.specs.declared.Entry.{Entry}
+use Rattle.encode_layer.specs.Entries.{node_of, entries_of, layer_of, entry_at, set_entry}
 use Rattle.encode_layer.specs.Layer.{Sound}
 use Rattle.encode_layer.specs.Kept.{Kept}
 use Rattle.encode_layer.proofs.Entries.{length_of_lem, entry_of, length_set_entry, same_entries, entries_behind}

@@ -11,7 +11,8 @@ use Rattle.coding.specs.State.{same_state}
 use Rattle.coding.specs.Candidates.{Cand}
 use Rattle.coding.specs.Search.{Node, push}
 use Rattle.encode_states.proofs.Same.{same_of, differ}
-use Rattle.encode_layer.specs.Entries.{Entry, entry, node_of}
+use Rattle.encode_layer.specs.declared.Entry.{Entry}
+use Rattle.encode_layer.specs.Entries.{entry, node_of}
 
 push_same : (m : Node) (ms : List Node) (n : Node) → same_state m.state n.state ≡ true → push (m ∷ ms) n ≡ cond (leb m.cost n.cost) m n ∷ ms
 unfolding push

@@ -15,7 +15,8 @@ use Rattle.base.proofs.Every.{all_append, all_at, all_set}
 use Rattle.coding.specs.Candidates.{Cand}
 use Rattle.coding.specs.Search.{Node, push, push_all}
 use Rattle.encode_states.proofs.Dense.{dense, spread, spread_dense, dense_small}
-use Rattle.encode_layer.specs.Entries.{Entry, node_of, entries, entries_of, layer_of, entry_at, set_entry}
+use Rattle.encode_layer.specs.declared.Entry.{Entry}
+use Rattle.encode_layer.specs.Entries.{node_of, entries, entries_of, layer_of, entry_at, set_entry}
 use Rattle.encode_layer.specs.Layer.{Sound, Distinct, bucket_of, head_at, Chained, Indexed, Finds, Entered, bounds, Held, Represents, held, over, Pushes}
 use Rattle.encode_layer.proofs.Entries.{length_entries, entries_set, length_of_lem, entry_of, before_set}
 use Rattle.encode_layer.proofs.Pigeonhole.{pigeonhole}

@@ -4,13 +4,9 @@ use Rattle.coding.specs.Candidates.{Cand}
 use Rattle.coding.specs.Search.{Node}
 use Rattle.encode_states.specs.Packed.{unpack}
 use Rattle.encode_states.specs.Written.{written}
+use Rattle.encode_layer.specs.declared.Entry.{Entry}
 
--- the packed state, the cost, and how it was written × 131,072 + its place before
-pub record Entry : Type 0 where
-  pub state : ℕ
-  pub cost : ℕ
-  pub link : ℕ
-
+-- a node's three numbers: the packed state, the cost, and how it was written × 131,072 + its place before
 abbrev pub entry : ℕ → ℕ → ℕ → Entry
 entry a b c = record { state = a; cost = b; link = c }
 

@@ -4,7 +4,8 @@ use Rattle.base.specs.Lists.{All}
 use Rattle.coding.specs.Candidates.{Cand}
 use Rattle.coding.specs.Search.{Node, push_all}
 use Rattle.encode_states.specs.Packed.{Proper}
-use Rattle.encode_layer.specs.Entries.{Entry, entry, entries, entries_of, layer_of}
+use Rattle.encode_layer.specs.declared.Entry.{Entry}
+use Rattle.encode_layer.specs.Entries.{entry, entries, entries_of, layer_of}
 
 -- a node of a state that the coder can reach, that costs at most `most`
 pub record Sound (most : ℕ) (e : Entry) : Type 0 where
@@ -90,11 +91,3 @@ pub record Changes (cs : List Cand) (r : Bounds) (s : List ℕ) (count : ℕ) (s
 -- nodes are pushed
 abbrev pub Pushes : List Cand → Bounds → List ℕ → ℕ → List ℕ → ℕ → List Node → Type 0
 Pushes cs r s count s' count' ns = Changes cs r s count s' count' (λ l. push_all l ns)
-
--- the part has room for cap nodes from the node from on, and for the buckets' heads
-pub record HasRoom (from cap buckets : ℕ) (s : List ℕ) : Type 0 where
-  pub store : (from + cap) * 4 ≤ length s
-  pub few : cap ≤ 48385
-  pub some : 1 ≤ buckets
-  pub heads : buckets ≤ from + cap
-  pub small : buckets ≤ 65536

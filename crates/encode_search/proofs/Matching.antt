@@ -1,68 +1,56 @@
 -- The candidates of a character, as the ways take them. Assumes nothing.
 use mathlib.Core.Path.{◌≡◌, refl, ap, ◌∙◌}
-use mathlib.Core.Bool.{Bool, true, false, cond}
+use mathlib.Core.Bool.{Bool}
 use mathlib.Core.List.{List, [], ◌∷◌}
-use Prim.Native.Nat.{ℕ, zero, suc, ◌+◌, ◌-◌, ◌/◌, ◌%◌, ◌<◌}
+use Prim.Native.Nat.{ℕ, ◌-◌, ◌<◌}
 use native.Mathlib.Decide.{ℕ_discrete}
 use native.Mathlib.Omega.{arith}
-use lib.Dec.{ltb}
-use lib.ListN.{length, get_or}
+use lib.ListN.{length, get_or, length-map, get_or-map}
+use Rattle.std.specs.Prelude.{Option, Some, None}
+use Rattle.std.proofs.lemmas.List.{get_or_default}
 use borrow.Author.Tests.{eq-eqb, ne_eqb}
-use Rattle.coding.specs.Candidates.{either, Cand, plain, shortest}
-use Rattle.encode_candidates.specs.declared.Cands.{Cands}
-use Rattle.encode_candidates.specs.Packed.{code_of, cand_of, cand_at, cands_from, cands_of, Fits, FitsAt, StandsForCandidates}
-use Rattle.encode_ways.specs.Turn.{Matches, MatchAll, length_of}
+use Rattle.coding.specs.Candidates.{either, Cand, plain, code_length, shortest}
+use Rattle.encode_candidates.specs.declared.candidate.Candidate.{Candidate}
+use Rattle.encode_candidates.specs.Packed.{size_of, cand_of, cand, cands_of, StandsForCandidates}
+use Rattle.encode_tokens.specs.declared.Character.{Character}
+use Rattle.encode_ways.specs.Turn.{Matches, MatchAll}
+use Rattle.encode_search.specs.declared.Stand.{Stand}
 use Rattle.encode_search.specs.Layers.{Advanced, Turned}
 
-length_code : (code : ℕ) → length_of code ≡ length (code_of code)
-unfolding length_of code_of
-length_code code = go (ltb code 256)
+matches : (c : Candidate) → Matches c.set (size_of c.size) (code_length (cand c)) (cand c)
+unfolding cand cand_of Matches code_length
+matches c = go (ℕ_discrete c.set 7)
   where
-    go : (b : Bool) → cond b 1 2 ≡ length {A = ℕ} (cond b (code ∷ []) ((code / 256) ∷ (code % 256) ∷ []))
-    go true = refl
-    go false = refl
+    go : Dec (c.set ≡ 7) → Matches c.set (size_of c.size) (code_length (cand c)) (cand c)
+    go (yes e) = rw (eq-eqb c.set 7 e) (omega arith, refl)
+    go (no e) = rw (ne_eqb c.set 7 e) (c.six e, refl, refl, refl)
 
-matches : (x code size : ℕ) → Fits x code size → Matches x size (length_of code) (cand_of x code size)
-unfolding cand_of Matches
-matches x code size f = go (ℕ_discrete x 7)
-  where
-    go : Dec (x ≡ 7) → Matches x size (length_of code) (cand_of x code size)
-    go (yes e) = rw (eq-eqb x 7 e) (omega arith, refl)
-    go (no e) = rw (ne_eqb x 7 e) (f.six e, refl, refl, length_code code)
-
-module _ (k : Cands) where
-  length_from : (i n : ℕ) → length (cands_from k i n) ≡ n
-  unfolding cands_from
-  length_from i zero = refl
-  length_from i (suc n) = ap suc (length_from (suc i) n)
-
-  at_from : (i n j : ℕ) (z : Cand) → j < n → get_or (cands_from k i n) j z ≡ cand_at k (i + j)
-  unfolding cands_from
-  at_from i zero j z h = absurd (omega arith)
-  at_from i (suc n) zero z h = let e : i ≡ i + 0 = omega arith in ap (cand_at k) e
-  at_from i (suc n) (suc j) z h = let e : suc i + j ≡ i + suc j = omega arith in at_from (suc i) n j z (omega arith) ∙ ap (cand_at k) e
-
-  pub matched : ((i : ℕ) → i < k.count → FitsAt k i) → MatchAll (cands_of k) k.count k.sets k.codes k.sizes
-  unfolding cands_of cand_at
-  matched f =
-      record {
-        many = length_from 0 k.count;
-        each = λ j h. let e : 0 + j ≡ j = omega arith in rw (at_from 0 k.count j (plain 0 either) h, e) (matches (get_or k.sets j 0) (get_or k.codes j 0) (get_or k.sizes j 0) (f j h));
-      }
+pub matched : (l : List Candidate) → MatchAll (cands_of l) l
+matched l =
+    record {
+      many = length-map l cand;
+      each =
+          λ j d h.
+          let e : get_or (cands_of l) j (plain 0 either) ≡ cand (get_or l j d) =
+          get_or_default (cands_of l) j (plain 0 either) (cand d) (omega (arith, length-map l cand)) ∙ get_or-map cand l j d in
+          rw e (matches (get_or l j d));
+    }
 
 -- the next layer, for the character
-module _ (s s' : List ℕ) (pcount before c kanji symbol : ℕ) (annex_e : Bool) (rest floor left : ℕ) (k : Cands) (fits : Bool) (count floor' : ℕ)
-    (p : StandsForCandidates c kanji symbol annex_e k) (e : left ≡ rest - shortest (cands_of k))
-    (a : Advanced s s' pcount before k.count k.sets k.codes k.sizes left floor fits count floor') where
-  pub turned : Turned s s' pcount before c kanji symbol annex_e rest floor fits count left floor'
-  turned =
-      record {
-        few = a.few;
-        inside = a.inside;
-        less = omega arith;
-        sound = a.sound;
-        squeezed = a.squeezed;
-        left = λ cells ek es. e ∙ ap (λ (l : List Cand). rest - shortest l) (p.list cells ek es);
-        full = λ cells ek es h cs₀. rw (p.list cells ek es) at (a.full h (cands_of k) cs₀ (matched k p.fits));
-        kept = λ cells ek es h cs₀. rw (p.list cells ek es) at (a.kept h (cands_of k) cs₀ (matched k p.fits));
-      }
+pub turned : (s s' : List ℕ) (at : Stand) (x : Character) (annex_e : Bool) (left : ℕ) (l : List Candidate) (r : Option Stand) → StandsForCandidates x.char x.kanji x.symbol annex_e l →
+    left ≡ at.rest - shortest (cands_of l) → Advanced s s' (record { count = at.count; before = at.before; rest = left; floor = at.floor }) l r → Turned s s' at x annex_e r
+turned s s' at x annex_e left l None p e a = λ cells h cs₀. rw (p.list cells h.kanji h.symbol) at (a (cands_of l) cs₀ (matched l))
+turned s s' at x annex_e left l (Some r) p e a =
+    record {
+      few = a.few;
+      inside = a.inside;
+      behind = a.behind;
+      less = omega (arith, a.rest);
+      sound = a.sound;
+      squeezed = a.squeezed;
+      left = λ cells h. a.rest ∙ (e ∙ ap (λ (k : List Cand). at.rest - shortest k) (p.list cells h.kanji h.symbol));
+      kept =
+          λ cells h cs₀.
+          let n = rw (p.list cells h.kanji h.symbol) at (a.kept (cands_of l) cs₀ (matched l)) in
+          rw a.rest n;
+    }

@@ -10,7 +10,8 @@ use Rattle.base.specs.Lists.{All}
 use Rattle.base.proofs.Every.{all_at}
 use Rattle.coding.specs.Candidates.{Cand}
 use Rattle.coding.specs.Search.{Node, by_cands, reach}
-use Rattle.encode_layer.specs.Entries.{Entry, node_of, entries_of, layer_of, entry_at}
+use Rattle.encode_layer.specs.declared.Entry.{Entry}
+use Rattle.encode_layer.specs.Entries.{node_of, entries_of, layer_of, entry_at}
 use Rattle.encode_layer.specs.Layer.{Sound, bounds, Represents, held}
 use Rattle.encode_layer.proofs.Entries.{length_of_lem, entry_first}
 use Rattle.encode_layer.proofs.Pushing.{blank}

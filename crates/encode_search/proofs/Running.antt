@@ -1,27 +1,33 @@
 -- The layers so far, and one more. Assumes nothing.
 use mathlib.Core.Path.{◌≡◌, refl, sym, ap, ◌∙◌, subst}
-use mathlib.Core.Bool.{Bool, true, false, false≢true, ◌&&◌}
+use mathlib.Core.Bool.{Bool, true, false, ◌&&◌}
 use mathlib.Core.List.{List, [], ◌∷◌, ◌++◌, map}
 use Prim.Native.Nat.{ℕ, zero, suc, ◌+◌, ◌-◌, ◌*◌, ◌≤◌, ◌<◌}
 use native.Mathlib.Numerals.{add-one}
 use native.Mathlib.Omega.{arith}
 use lib.Dec.{leb}
-use lib.ListN.{length, get_or, take, drop, drop_of_length-le, length-drop}
-use lib.Seq.{drop-cons, get_or-take}
+use lib.ListN.{length, get_or, take, drop, drop_of_length-le, length-drop, length-map, get_or-map}
+use lib.Seq.{drop-cons}
 use borrow.Author.Tests.{lt-leb, le-leb}
 use Rattle.base.specs.Lists.{All}
 use Rattle.coding.specs.State.{State, start}
 use Rattle.coding.specs.Candidates.{Cand, candidates, candidates_of, rest_of, shortest}
 use Rattle.coding.specs.Search.{Node, node, Run, reach, top, keep, floor_of, alone, newest, layer, run, begin}
 use Rattle.coding.specs.Store.{counts_from, counts, numbers, needs, fit}
-use Rattle.encode_tokens.specs.Promises.{HoldCharacters}
+use Rattle.encode_tokens.specs.Promises.{character}
+use Rattle.encode_tokens.specs.declared.Character.{Character}
+use Rattle.std.specs.Prelude.{Option, Some, None}
+use Rattle.std.proofs.lemmas.List.{get_or_default}
 use Rattle.encode_states.specs.Packed.{Packs}
 use Rattle.encode_states.specs.Written.{written, written_at}
-use Rattle.encode_layer.specs.Entries.{Entry, entry, node_of, entries_of, layer_of, set_entry}
+use Rattle.encode_layer.specs.declared.Entry.{Entry}
+use Rattle.encode_layer.specs.Entries.{entry, node_of, entries_of, layer_of, set_entry}
 use Rattle.encode_layer.specs.Layer.{Sound}
 use Rattle.encode_layer.proofs.Standing.{of_new}
 use Rattle.encode_layer.proofs.Costs.{length_layer}
-use Rattle.encode_search.specs.Layers.{Next, Turned, last_of, Older, none, Layers, found, Found, Inside, Searched, Begins}
+use Rattle.encode_search.specs.declared.Stand.{Stand}
+use Rattle.encode_search.specs.declared.Last.{Last}
+use Rattle.encode_search.specs.Layers.{Next, HasCells, TurnedOn, Turned, last_of, Older, none, Layers, found, Found, Inside, Led, Searched, Begins}
 use Rattle.encode_search.proofs.Parts.{lent_part, given_back, lent_part_lem, given_back_lem, joined_long, joined_front, joined_part, joined_drop}
 use Rattle.encode_search.proofs.Advancing.{sounder}
 use Rattle.encode_search.proofs.Squeezing.{newest_older}
@@ -128,119 +134,135 @@ module _ (css : List (List Cand)) (initial rest : ℕ) (s s' : List ℕ) (j from
       }
 
 -- where the loop stands after j characters
-pub record Going (chs ks ss : List ℕ) (n : ℕ) (annex_e : Bool) (rest : ℕ) (s₀ s : List ℕ) (j from count before left floor : ℕ) : Type 0 where
+pub record Going (xs : List Character) (annex_e : Bool) (rest : ℕ) (s₀ s : List ℕ) (j from : ℕ) (at : Stand) : Type 0 where
   pub same : length s ≡ length s₀
-  pub j_le : j ≤ n
-  pub inside : Inside s from count before
-  pub left_le : left ≤ 65535
-  pub sound : All (Sound (9 * j)) (entries_of (drop from s) 0 count)
-  pub going : (cells cs : List ℕ) → HoldCharacters cells cs chs ks ss → n ≡ length cs → (initial : ℕ) → Begins initial s₀ →
-      At (candidates_of cells annex_e cs) initial rest (length s₀) s j from count before left floor
+  pub inside : Inside s from at.count at.before
+  pub left_le : at.rest ≤ 65535
+  pub sound : All (Sound (9 * j)) (entries_of (drop from s) 0 at.count)
+  pub going : (cells cs : List ℕ) → xs ≡ map (character cells) cs → (initial : ℕ) → Begins initial s₀ →
+      At (candidates_of cells annex_e cs) initial rest (length s₀) s j from at.count at.before at.rest at.floor
 
-module _ {chs ks ss : List ℕ} {n : ℕ} {annex_e : Bool} {rest : ℕ} {s₀ : List ℕ} where
-  pub going_start : 4 ≤ length s₀ → rest ≤ 65535 → All (Sound 0) (entries_of s₀ 0 1) → Going chs ks ss n annex_e rest s₀ s₀ 0 0 1 0 rest 0
+-- the characters' number, and the j-th of them
+length_chars : (cells cs : List ℕ) (xs : List Character) → xs ≡ map (character cells) cs → length xs ≡ length cs
+length_chars cells cs xs h = ap length h ∙ length-map cs (character cells)
+
+char_at : (cells cs : List ℕ) (xs : List Character) (j : ℕ) (x : Character) → xs ≡ map (character cells) cs → x ≡ get_or xs j x → j < length xs → x ≡ character cells (get_or cs j 0)
+char_at cells cs xs j x h e l =
+    let n = length_chars cells cs xs h in
+    e ∙ (get_or_default xs j x (character cells 0) l ∙ (ap (λ (y : List Character). get_or y j (character cells 0)) h ∙ get_or-map (character cells) cs j 0))
+
+module _ {xs : List Character} {annex_e : Bool} {rest : ℕ} {s₀ : List ℕ} where
+  pub going_start : 4 ≤ length s₀ → rest ≤ 65535 → All (Sound 0) (entries_of s₀ 0 1) →
+      Going xs annex_e rest s₀ s₀ 0 0 (record { count = 1; before = 0; rest = rest; floor = 0 })
   going_start f g a =
       record {
         same = refl;
-        j_le = omega arith;
         inside = record { store = omega arith; few = omega arith; before_few = omega arith };
         left_le = g;
         sound = a;
-        going = λ cells cs h k initial b. at_start (candidates_of cells annex_e cs) initial rest (length s₀) s₀ b;
+        going = λ cells cs h initial b. at_start (candidates_of cells annex_e cs) initial rest (length s₀) s₀ b;
       }
 
-  module _ {s : List ℕ} {j from count before left floor : ℕ} (g : Going chs ks ss n annex_e rest s₀ s j from count before left floor) where
-    -- the j-th character's candidates
-    module _ (lt : j < n) (cells cs : List ℕ) (h : HoldCharacters cells cs chs ks ss) (k : n ≡ length cs) where
-      char_at : get_or chs j 0 ≡ get_or cs j 0
-      char_at = sym (get_or-take (length cs) chs j 0 (omega arith)) ∙ ap (λ (l : List ℕ). get_or l j 0) h.chars
-
-      cands_at : candidates cells annex_e (get_or chs j 0) ≡ get_or (candidates_of cells annex_e cs) j []
-      cands_at = ap (candidates cells annex_e) char_at ∙ sym (cand_at_lem cells annex_e cs j (omega arith))
-
-      at_here : (initial : ℕ) → Begins initial s₀ → At (candidates_of cells annex_e cs) initial rest (length s) s j from count before left floor
-      at_here initial b = rw g.same (g.going cells cs h k initial b)
-
-      inside : j < length (candidates_of cells annex_e cs)
-      inside = omega (arith, length_of_lem cells annex_e cs)
-
-    pub part_fits : count * 4 ≤ length (lent_part s from)
+  module _ {s : List ℕ} {j from : ℕ} {at : Stand} (g : Going xs annex_e rest s₀ s j from at) where
+    pub part_fits : at.count * 4 ≤ length (lent_part s from)
     part_fits = rw lent_part_lem (rw length-drop (omega (arith, g.inside.store)))
 
-    pub part_sound : n ≤ 7281 → j < n → All (Sound 65526) (entries_of (lent_part s from) 0 count)
-    part_sound h k = rw lent_part_lem (sounder (9 * j) 65526 (entries_of (drop from s) 0 count) (omega arith) g.sound)
+    pub part_sound : length xs ≤ 7281 → j < length xs → All (Sound 65526) (entries_of (lent_part s from) 0 at.count)
+    part_sound h k = rw lent_part_lem (sounder (9 * j) 65526 (entries_of (drop from s) 0 at.count) (omega arith) g.sound)
 
-    module _ (lt : j < n) {p' : List ℕ} {fits : Bool} {count' rest' floor' : ℕ} (same-part : length p' ≡ length (lent_part s from))
-        (turned : Turned (lent_part s from) p' count before (get_or chs j 0) (get_or ks j 0) (get_or ss j 0) annex_e left floor fits count' rest' floor') where
-      t : Turned (drop from s) p' count before (get_or chs j 0) (get_or ks j 0) (get_or ss j 0) annex_e left floor fits count' rest' floor'
-      t = rw lent_part_lem at turned
+    -- the j-th character
+    module _ (lt : j < length xs) (x : Character) (ex : x ≡ get_or xs j x) where
+      module _ (cells cs : List ℕ) (h : xs ≡ map (character cells) cs) where
+        is_char : x ≡ character cells (get_or cs j 0)
+        is_char = char_at cells cs xs j x h ex lt
 
-      same : length p' ≡ length (drop from s)
-      same = rw lent_part_lem at same-part
+        has : HasCells cells x
+        has = rw is_char (record { kanji = refl; symbol = refl })
 
-      fits_from : from ≤ length s
-      fits_from = omega (arith, g.inside.store)
+        inside : j < length (candidates_of cells annex_e cs)
+        inside = omega (arith, length_of_lem cells annex_e cs, length_chars cells cs xs h)
 
-      abbrev joined : List ℕ
-      joined = take from s ++ p'
+        cands_at : candidates cells annex_e x.char ≡ get_or (candidates_of cells annex_e cs) j []
+        cands_at =
+            ap (λ (y : Character). candidates cells annex_e y.char) is_char ∙ sym (cand_at_lem cells annex_e cs j (omega (arith, length_chars cells cs xs h)))
 
-      tail : drop (from + count) joined ≡ drop count p'
-      tail = joined_drop s p' from fits_from count
+        at_here : (initial : ℕ) → Begins initial s₀ → At (candidates_of cells annex_e cs) initial rest (length s) s j from at.count at.before at.rest at.floor
+        at_here initial b = rw g.same (g.going cells cs h initial b)
 
-      next_at_lem : fits ≡ true → (cells cs : List ℕ) → HoldCharacters cells cs chs ks ss → n ≡ length cs → (initial : ℕ) → Begins initial s₀ →
-          At (candidates_of cells annex_e cs) initial rest (length s₀) joined (j + 1) (from + count) count' count rest' floor'
-      next_at_lem ef cells cs h k initial b =
+      -- it has a layer
+      module _ {p' : List ℕ} {r : Stand} (same-part : length p' ≡ length (lent_part s from)) (turned : TurnedOn (lent_part s from) p' at x annex_e r) where
+        t : TurnedOn (drop from s) p' at x annex_e r
+        t = rw lent_part_lem at turned
+
+        same : length p' ≡ length (drop from s)
+        same = rw lent_part_lem at same-part
+
+        fits_from : from ≤ length s
+        fits_from = omega (arith, g.inside.store)
+
+        abbrev joined : List ℕ
+        joined = take from s ++ p'
+
+        tail : drop (from + at.count) joined ≡ drop at.count p'
+        tail = joined_drop s p' from fits_from at.count
+
+        next_at_lem : (cells cs : List ℕ) → xs ≡ map (character cells) cs → (initial : ℕ) → Begins initial s₀ →
+            At (candidates_of cells annex_e cs) initial rest (length s₀) joined (j + 1) (from + at.count) r.count r.before r.rest r.floor
+        next_at_lem cells cs h initial b =
+            let css = candidates_of cells annex_e cs in
+            let hc = has cells cs h in
+            let ca = cands_at cells cs h in
+            let nx = t.kept cells hc (last_of css j) in
+            let er : r.rest ≡ at.rest - shortest (get_or css j []) = t.left cells hc ∙ ap (λ (l : List Cand). at.rest - shortest l) ca in
+            let here = at_here cells cs h initial b in
+            let o = newest_older css s joined j from at.count at.before here.at.layers g.inside.store g.inside.few g.inside.before_few here.layers
+            (joined_front s p' from fits_from) (λ i l. joined_part s p' from fits_from i ∙ t.squeezed i l) in
+            let a = at_next css initial rest s joined j from at.count at.before at.rest at.floor (inside cells cs h) g.inside.store here r.count r.rest r.floor p' o tail er
+            (rw ca at nx) in
+            rw (t.behind, add-one, ← g.same) a
+
+        pub going_on : Going xs annex_e rest s₀ (given_back s from p') (j + 1) (from + at.count) r
+        going_on =
+            let long : length joined ≡ length s = joined_long s p' from fits_from same in
+            rw given_back_lem
+            (record {
+              same = long ∙ g.same;
+              inside = record { store = omega (arith, t.inside, g.inside.store, length-drop from s); few = t.few; before_few = omega (arith, t.behind, g.inside.few) };
+              left_le = omega (arith, g.left_le, t.less);
+              sound =
+                  subst (λ (m : ℕ). All (Sound m) (entries_of (drop (from + at.count) joined) 0 r.count)) (omega arith)
+                  (subst (λ (y : List ℕ). All (Sound (9 * j + 9)) (entries_of y 0 r.count)) (sym tail) (t.sound (9 * j) g.sound));
+              going = next_at_lem;
+            })
+
+      -- it has none
+      pub going_full : (p' : List ℕ) → Turned (lent_part s from) p' at x annex_e None → (initial : ℕ) → Begins initial s₀ → (cells cs : List ℕ) →
+          xs ≡ map (character cells) cs → fit (length s₀) (needs (candidates_of cells annex_e cs) initial) ≡ false
+      going_full p' f initial b cells cs h =
           let css = candidates_of cells annex_e cs in
-          let hk = h.kanji j (omega arith) in
-          let hs = h.symbols j (omega arith) in
-          let ca = cands_at lt cells cs h k in
-          let nx = t.kept cells hk hs ef (last_of css j) in
-          let er : rest' ≡ left - shortest (get_or css j []) = t.left cells hk hs ∙ ap (λ (l : List Cand). left - shortest l) ca in
-          let at = at_here lt cells cs h k initial b in
-          let o = newest_older css s joined j from count before at.at.layers g.inside.store g.inside.few g.inside.before_few at.layers
-          (joined_front s p' from fits_from) (λ i l. joined_part s p' from fits_from i ∙ t.squeezed ef i l) in
-          let a = at_next css initial rest s joined j from count before left floor (inside lt cells cs h k) g.inside.store at count' rest' floor' p' o tail er (rw ca at nx) in
-          rw (add-one, ← g.same) a
-
-      pub going_on : fits ≡ true → Going chs ks ss n annex_e rest s₀ (given_back s from p') (j + 1) (from + count) count' count rest' floor'
-      going_on ef =
-          let long : length joined ≡ length s = joined_long s p' from fits_from same in
-          rw given_back_lem
-          (record {
-            same = long ∙ g.same;
-            j_le = omega arith;
-            inside = record { store = omega (arith, t.inside, g.inside.store, length-drop from s); few = t.few; before_few = g.inside.few };
-            left_le = omega (arith, g.left_le, t.less);
-            sound =
-                subst (λ (m : ℕ). All (Sound m) (entries_of (drop (from + count) joined) 0 count')) (omega arith)
-                (subst (λ (x : List ℕ). All (Sound (9 * j + 9)) (entries_of x 0 count')) (sym tail) (t.sound (9 * j) g.sound));
-            going = next_at_lem ef;
-          })
-
-      pub going_full : (e : fits ≡ false) (cells cs : List ℕ) (h : HoldCharacters cells cs chs ks ss) (k : n ≡ length cs) (initial : ℕ) → Begins initial s₀ →
-          fit (length s₀) (needs (candidates_of cells annex_e cs) initial) ≡ false
-      going_full ef cells cs h k initial b =
-          let css = candidates_of cells annex_e cs in
-          let fl = t.full cells (h.kanji j (omega arith)) (h.symbols j (omega arith)) ef (last_of css j) in
-          let a = at_full css initial rest s s j from count before left floor (inside lt cells cs h k) g.inside.store (at_here lt cells cs h k initial b)
-          (rw (cands_at lt cells cs h k) at fl) in
+          let fl = rw lent_part_lem at (f cells (has cells cs h) (last_of css j)) in
+          let a = at_full css initial rest s s j from at.count at.before at.rest at.floor (inside cells cs h) g.inside.store (at_here cells cs h initial b)
+          (rw (cands_at cells cs h) at fl) in
           rw g.same at a
 
-    pub going_end : n ≤ j → (cells cs : List ℕ) → HoldCharacters cells cs chs ks ss → n ≡ length cs → rest ≡ rest_of (candidates_of cells annex_e cs) → (initial : ℕ) →
-        Begins initial s₀ → Found (candidates_of cells annex_e cs) initial s n from count before floor
+    pub going_end : j ≡ length xs → (initial : ℕ) → Begins initial s₀ →
+        Led xs annex_e initial rest s₀ s (record { from = from; count = at.count; before = at.before; floor = at.floor })
     unfolding run counts_from fit
-    going_end le cells cs h k er initial b =
-        let css = candidates_of cells annex_e cs in
-        let a = g.going cells cs h k initial b in
-        let d : drop j css ≡ [] = drop_of_length-le css {i = j} (omega (arith, length_of_lem cells annex_e cs)) in
-        let st : a.at ≡ found css initial = rw d at a.steps in
-        let jn : j ≡ n = omega (arith, g.j_le) in
+    going_end jn initial b =
         record {
-          room = rw g.same (a.room ∙ rw d refl);
-          layers =
-              subst (λ (i : ℕ). Layers css s i from count before (found css initial).layers) jn
-              (subst (λ (r : Run). Layers css s j from count before r.layers) st a.layers);
-          floors = sym (ap (λ (r : Run). r.floor) st) ∙ a.floors er;
+          inside = record { store = omega (arith, g.inside.store, g.same); few = g.inside.few; before_few = g.inside.before_few };
+          done = λ cells cs h er.
+              let css = candidates_of cells annex_e cs in
+              let a = g.going cells cs h initial b in
+              let d : drop j css ≡ [] = drop_of_length-le css {i = j} (omega (arith, length_of_lem cells annex_e cs, length_chars cells cs xs h)) in
+              let st : a.at ≡ found css initial = rw d at a.steps in
+              record {
+                room = rw g.same (a.room ∙ rw d refl);
+                layers =
+                    subst (λ (i : ℕ). Layers css s i from at.count at.before (found css initial).layers) jn
+                    (subst (λ (r : Run). Layers css s j from at.count at.before r.layers) st a.layers);
+                floors = sym (ap (λ (r : Run). r.floor) st) ∙ a.floors er;
+              };
         }
 
 -- the start alone in the store
@@ -264,21 +286,14 @@ needs_room s (cs ∷ css) initial h k =
     let q : length s < 0 + 4 * (1 + length (reach cs (alone initial) 0 [])) = omega arith in
     rw (lt-leb _ _ q) refl
 
-pub no_room : (chs ks ss : List ℕ) (n : ℕ) (annex_e : Bool) (initial rest : ℕ) (s s' : List ℕ) {fits : Bool} {from count before floor : ℕ} → fits ≡ false →
-    1 ≤ n → length s < 4 → Searched chs ks ss n annex_e initial rest s s' fits from count before floor
-no_room chs ks ss n annex_e initial rest s s' q h k =
-    record {
-      inside = λ e. absurd (false≢true (sym q ∙ e));
-      full = λ cells cs x e f. needs_room s (candidates_of cells annex_e cs) initial (omega (arith, length_of_lem cells annex_e cs)) k;
-      done = λ cells cs x e r f. absurd (false≢true (sym q ∙ f));
-    }
+pub no_room : (xs : List Character) (annex_e : Bool) (initial rest : ℕ) (s s' : List ℕ) → 1 ≤ length xs → length s < 4 → Searched xs annex_e initial rest s s' None
+no_room xs annex_e initial rest s s' h k cells cs x =
+    needs_room s (candidates_of cells annex_e cs) initial (omega (arith, length_of_lem cells annex_e cs, length_chars cells cs xs x)) k
 
 -- a store of the same length
-pub searched_as : (chs ks ss : List ℕ) (n : ℕ) (annex_e : Bool) (initial rest : ℕ) (s₀ s s' : List ℕ) (fits : Bool) (from count before floor : ℕ) → length s ≡ length s₀ →
-    Searched chs ks ss n annex_e initial rest s s' fits from count before floor → Searched chs ks ss n annex_e initial rest s₀ s' fits from count before floor
-searched_as chs ks ss n annex_e initial rest s₀ s s' fits from count before floor e x =
-    record {
-      inside = λ f. let i = x.inside f in record { store = omega (arith, i.store); few = i.few; before_few = i.before_few };
-      full = λ cells cs h k f. rw e at (x.full cells cs h k f);
-      done = x.done;
-    }
+pub searched_as : (xs : List Character) (annex_e : Bool) (initial rest : ℕ) (s₀ s s' : List ℕ) (r : Option Last) → length s ≡ length s₀ →
+    Searched xs annex_e initial rest s s' r → Searched xs annex_e initial rest s₀ s' r
+searched_as xs annex_e initial rest s₀ s s' None e x = λ cells cs h. rw e at (x cells cs h)
+searched_as xs annex_e initial rest s₀ s s' (Some l) e x =
+    let i = x.inside in
+    record { inside = record { store = omega (arith, i.store); few = i.few; before_few = i.before_few }; done = x.done }

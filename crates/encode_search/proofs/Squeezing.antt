@@ -7,7 +7,8 @@ use lib.ListN.{length, get_or, drop, length-drop}
 use Rattle.coding.specs.Candidates.{Cand}
 use Rattle.coding.specs.Search.{Node, node_at}
 use Rattle.encode_states.specs.Written.{written}
-use Rattle.encode_layer.specs.Entries.{Entry, node_of, entries_of, layer_of}
+use Rattle.encode_layer.specs.declared.Entry.{Entry}
+use Rattle.encode_layer.specs.Entries.{node_of, entries_of, layer_of}
 use Rattle.encode_layer.specs.Kept.{older}
 use Rattle.encode_layer.proofs.Entries.{length_of_lem, entry_first}
 use Rattle.encode_layer.proofs.Pushing.{blank}

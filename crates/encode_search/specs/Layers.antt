@@ -1,22 +1,26 @@
 -- The layers of the search as they stand in the store.
-use Rattle.std.specs.Prelude.{ℕ, zero, suc, ◌+◌, ◌-◌, ◌*◌, ◌/◌, ◌%◌, ◌≤◌, ◌<◌, ◌≡◌, Bool, true, false, List, [], ◌∷◌, length, get_or, drop}
+use Rattle.std.specs.Prelude.{ℕ, zero, suc, ◌+◌, ◌-◌, ◌*◌, ◌/◌, ◌%◌, ◌≤◌, ◌<◌, ◌≡◌, Bool, true, false, List, [], ◌∷◌, length, map, get_or, drop, Option, Some, None}
 use Rattle.base.specs.Lists.{All}
 use Rattle.coding.specs.Candidates.{Cand, candidates, candidates_of, rest_of, shortest}
 use Rattle.coding.specs.Search.{Node, Run, reach, top, keep, floor_of, alone, run, begin, node_at}
 use Rattle.coding.specs.Store.{needs, fit}
 use Rattle.tables_reverse.specs.Reverse.{kanji_reverse, additional_reverse}
 use Rattle.encode_candidates.specs.Packed.{packed}
-use Rattle.encode_tokens.specs.Promises.{HoldCharacters}
+use Rattle.encode_tokens.specs.Promises.{character}
+use Rattle.encode_tokens.specs.declared.Character.{Character}
+use Rattle.encode_candidates.specs.declared.candidate.Candidate.{Candidate}
+use Rattle.encode_search.specs.declared.Stand.{Stand}
+use Rattle.encode_search.specs.declared.Last.{Last}
 use Rattle.encode_states.specs.Written.{written}
 use Rattle.encode_layer.specs.Entries.{entries_of, layer_of}
 use Rattle.encode_layer.specs.Layer.{Sound, bounds, Represents}
 use Rattle.encode_layer.specs.Kept.{older}
 use Rattle.encode_ways.specs.Turn.{MatchAll}
 
--- what `reach` makes of the first pcount nodes: a layer behind them, of r nodes, that stands for the definition's, for a character with m candidates
-pub record Reached (s s' : List ℕ) (pcount cap buckets m : ℕ) (sets codes sizes : List ℕ) (r : ℕ) : Type 0 where
+-- what `reach` makes of the first pcount nodes: a layer behind them, of r nodes, that stands for the definition's, for a character with the candidates
+pub record Reached (s s' : List ℕ) (pcount cap buckets : ℕ) (candidates : List Candidate) (r : ℕ) : Type 0 where
   pub before : entries_of s' 0 pcount ≡ entries_of s 0 pcount
-  pub stands : (cs cs₀ : List Cand) (b most : ℕ) → MatchAll cs m sets codes sizes → All (Sound b) (entries_of s 0 pcount) → b + 9 ≤ most →
+  pub stands : (cs cs₀ : List Cand) (b most : ℕ) → MatchAll cs candidates → All (Sound b) (entries_of s 0 pcount) → b + 9 ≤ most →
       Represents cs (bounds pcount cap buckets most) s' r (reach cs (layer_of cs₀ s 0 pcount) 0 [])
 
 -- how many nodes have room from the node from on, in a part of len numbers; more than any layer has count as one more than that
@@ -31,27 +35,42 @@ pub record Next (s s' : List ℕ) (cs : List Cand) (pcount count rest floor floo
   pub layer : layer_of cs (drop pcount s') 0 count ≡ keep (top l) l
   pub lowers : floor' ≡ floor_of (top l) rest floor l
 
--- what becomes of the next layer: it is too large for the store, or is kept, behind the first pcount nodes, each of which has its one number
-pub record Advanced (s s' : List ℕ) (pcount before m : ℕ) (sets codes sizes : List ℕ) (rest floor : ℕ) (fits : Bool) (count floor' : ℕ) : Type 0 where
-  pub few : count ≤ 48384
-  pub inside : pcount + count * 4 ≤ length s
-  pub sound : (b : ℕ) → All (Sound b) (entries_of s 0 pcount) → All (Sound (b + 9)) (entries_of (drop pcount s') 0 count)
-  pub squeezed : fits ≡ true → (i : ℕ) → i < pcount → get_or s' i 0 ≡ older (get_or s (i * 4 + 2) 0) (before + i)
-  pub full : fits ≡ false → (cs cs₀ : List Cand) → MatchAll cs m sets codes sizes → length s < (pcount + length (reach cs (layer_of cs₀ s 0 pcount) 0 [])) * 4
-  pub kept : fits ≡ true → (cs cs₀ : List Cand) → MatchAll cs m sets codes sizes → Next s s' cs pcount count rest floor floor' (reach cs (layer_of cs₀ s 0 pcount) 0 [])
+-- the next layer, where it fits the store, is kept behind the nodes of the newest one, each of which has its one number
+pub record Stepped (s s' : List ℕ) (at : Stand) (candidates : List Candidate) (r : Stand) : Type 0 where
+  pub few : r.count ≤ 48384
+  pub inside : at.count + r.count * 4 ≤ length s
+  pub behind : r.before ≡ at.count
+  pub rest : r.rest ≡ at.rest
+  pub sound : (b : ℕ) → All (Sound b) (entries_of s 0 at.count) → All (Sound (b + 9)) (entries_of (drop at.count s') 0 r.count)
+  pub squeezed : (i : ℕ) → i < at.count → get_or s' i 0 ≡ older (get_or s (i * 4 + 2) 0) (at.before + i)
+  pub kept : (cs cs₀ : List Cand) → MatchAll cs candidates → Next s s' cs at.count r.count at.rest at.floor r.floor (reach cs (layer_of cs₀ s 0 at.count) 0 [])
 
--- the same for a character c with its cells of the Kanji set and of the additional symbols, over every cell table in which it has them
-pub record Turned (s s' : List ℕ) (pcount before c kanji symbol : ℕ) (annex_e : Bool) (rest floor : ℕ) (fits : Bool) (count rest' floor' : ℕ) : Type 0 where
-  pub few : count ≤ 48384
-  pub inside : pcount + count * 4 ≤ length s
-  pub less : rest' ≤ rest
-  pub sound : (b : ℕ) → All (Sound b) (entries_of s 0 pcount) → All (Sound (b + 9)) (entries_of (drop pcount s') 0 count)
-  pub squeezed : fits ≡ true → (i : ℕ) → i < pcount → get_or s' i 0 ≡ older (get_or s (i * 4 + 2) 0) (before + i)
-  pub left : (cells : List ℕ) → kanji ≡ packed (kanji_reverse cells c) → symbol ≡ packed (additional_reverse c) → rest' ≡ rest - shortest (candidates cells annex_e c)
-  pub full : (cells : List ℕ) → kanji ≡ packed (kanji_reverse cells c) → symbol ≡ packed (additional_reverse c) → fits ≡ false → (cs₀ : List Cand) →
-      length s < (pcount + length (reach (candidates cells annex_e c) (layer_of cs₀ s 0 pcount) 0 [])) * 4
-  pub kept : (cells : List ℕ) → kanji ≡ packed (kanji_reverse cells c) → symbol ≡ packed (additional_reverse c) → fits ≡ true → (cs₀ : List Cand) →
-      Next s s' (candidates cells annex_e c) pcount count rest' floor floor' (reach (candidates cells annex_e c) (layer_of cs₀ s 0 pcount) 0 [])
+-- what becomes of it: it is too large for the store, or is kept
+abbrev pub Advanced : List ℕ → List ℕ → Stand → List Candidate → Option Stand → Type 0
+Advanced s s' at candidates None = (cs cs₀ : List Cand) → MatchAll cs candidates → length s < (at.count + length (reach cs (layer_of cs₀ s 0 at.count) 0 [])) * 4
+Advanced s s' at candidates (Some r) = Stepped s s' at candidates r
+
+-- x is a character with its cells of the Kanji set and of the additional symbols, by the cell table
+pub record HasCells (cells : List ℕ) (x : Character) : Type 0 where
+  pub kanji : x.kanji ≡ packed (kanji_reverse cells x.char)
+  pub symbol : x.symbol ≡ packed (additional_reverse x.char)
+
+-- the same for a character, over every cell table in which it has its cells
+pub record TurnedOn (s s' : List ℕ) (at : Stand) (x : Character) (annex_e : Bool) (r : Stand) : Type 0 where
+  pub few : r.count ≤ 48384
+  pub inside : at.count + r.count * 4 ≤ length s
+  pub behind : r.before ≡ at.count
+  pub less : r.rest ≤ at.rest
+  pub sound : (b : ℕ) → All (Sound b) (entries_of s 0 at.count) → All (Sound (b + 9)) (entries_of (drop at.count s') 0 r.count)
+  pub squeezed : (i : ℕ) → i < at.count → get_or s' i 0 ≡ older (get_or s (i * 4 + 2) 0) (at.before + i)
+  pub left : (cells : List ℕ) → HasCells cells x → r.rest ≡ at.rest - shortest (candidates cells annex_e x.char)
+  pub kept : (cells : List ℕ) → HasCells cells x → (cs₀ : List Cand) →
+      Next s s' (candidates cells annex_e x.char) at.count r.count r.rest at.floor r.floor (reach (candidates cells annex_e x.char) (layer_of cs₀ s 0 at.count) 0 [])
+
+abbrev pub Turned : List ℕ → List ℕ → Stand → Character → Bool → Option Stand → Type 0
+Turned s s' at x annex_e None = (cells : List ℕ) → HasCells cells x → (cs₀ : List Cand) →
+    length s < (at.count + length (reach (candidates cells annex_e x.char) (layer_of cs₀ s 0 at.count) 0 [])) * 4
+Turned s s' at x annex_e (Some r) = TurnedOn s s' at x annex_e r
 
 -- the candidates of the character after j - 1 others, none before the first
 unfoldable pub last_of : List (List Cand) → ℕ → List Cand
@@ -92,22 +111,22 @@ pub record Inside (s : List ℕ) (from count before : ℕ) : Type 0 where
   pub few : count ≤ 48384
   pub before_few : before ≤ 48384
 
--- What `search` promises of n characters, cs, that the arrays hold with their cells, and that have shortest codes of rest bytes: whether the layers
--- fit the store, and where they are then.
-pub record Searched (chs ks ss : List ℕ) (n : ℕ) (annex_e : Bool) (initial rest : ℕ) (s s' : List ℕ) (fits : Bool) (from count before floor : ℕ) : Type 0 where
-  pub inside : fits ≡ true → Inside s from count before
-  pub full : (cells cs : List ℕ) → HoldCharacters cells cs chs ks ss → n ≡ length cs → fits ≡ false → fit (length s) (needs (candidates_of cells annex_e cs) initial) ≡ false
-  pub done : (cells cs : List ℕ) → HoldCharacters cells cs chs ks ss → n ≡ length cs → rest ≡ rest_of (candidates_of cells annex_e cs) → fits ≡ true →
-      Found (candidates_of cells annex_e cs) initial s' n from count before floor
+-- What `search` promises of characters, which have shortest codes of rest bytes, where their layers fit the store: where these are then.
+pub record Led (xs : List Character) (annex_e : Bool) (initial rest : ℕ) (s s' : List ℕ) (l : Last) : Type 0 where
+  pub inside : Inside s l.from l.count l.before
+  pub done : (cells cs : List ℕ) → xs ≡ map (character cells) cs → rest ≡ rest_of (candidates_of cells annex_e cs) →
+      Found (candidates_of cells annex_e cs) initial s' (length xs) l.from l.count l.before l.floor
+
+-- and where they do not
+abbrev pub Searched : List Character → Bool → ℕ → ℕ → List ℕ → List ℕ → Option Last → Type 0
+Searched xs annex_e initial rest s s' None = (cells cs : List ℕ) → xs ≡ map (character cells) cs → fit (length s) (needs (candidates_of cells annex_e cs) initial) ≡ false
+Searched xs annex_e initial rest s s' (Some l) = Led xs annex_e initial rest s s' l
 
 -- the start stands in the store
 abbrev pub Begins : ℕ → List ℕ → Type 0
 Begins initial s = layer_of [] s 0 1 ≡ alone initial
 
--- the arrays hold n characters, few enough that costs stay below 65,536
-pub record Arrays (chs ks ss : List ℕ) (n rest : ℕ) : Type 0 where
-  pub chars : n ≤ length chs
-  pub kanji : n ≤ length ks
-  pub symbols : n ≤ length ss
-  pub few : n ≤ 7281
+-- the characters are few enough that costs stay below 65,536
+pub record Few (xs : List Character) (rest : ℕ) : Type 0 where
+  pub few : length xs ≤ 7281
   pub rest_small : rest ≤ 65535

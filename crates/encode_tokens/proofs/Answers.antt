@@ -2,92 +2,94 @@
 use mathlib.Core.Path.{◌≡◌, refl, sym, ap, ◌∙◌}
 use mathlib.Core.Bool.{Bool, false}
 use mathlib.Core.List.{List}
-use mathlib.Core.Option.{Option, none, some}
+use mathlib.Core.Option as coding-option
 use Prim.Native.Nat.{ℕ}
 use lib.Dec.{eqb}
-use native.Mathlib.Omega.{arith}
-use Rattle.utf8.specs.declared.Text.TheVariants.{WellFormed, FaultAt}
+use Rattle.std.specs.Prelude.{Some, None, Result, Ok, Err}
+use Rattle.questions.specs.declared.refusal.Refusal.{Refusal}
+use Rattle.questions.specs.declared.refusal.Refusal.TheVariants.{IllFormed, NoBase}
+use Rattle.questions.specs.Refusal.{number_of, place_of}
 use Rattle.utf8.specs.Utf8.{first_fault}
 use Rattle.coding.specs.Candidates.{candidates_of}
 use Rattle.coding.specs.Tokens.{tokens, in_order, chars, baseless}
 use Rattle.coding.specs.Call.{Lent, refuse, without, ordering, choices, question4, question5, question6, question7}
-use Rattle.encode_tokens.specs.declared.Bases.TheVariants.{All, NoBase}
-use Rattle.encode_tokens.specs.declared.Tokens.{Tokens}
-use Rattle.encode_tokens.specs.declared.Tokens.TheVariants.{Ordered, Refused}
+use Rattle.encode_tokens.specs.declared.Character.{Character}
+use Rattle.encode_tokens.specs.declared.Ordered.{Ordered}
 use Rattle.encode_tokens.specs.Promises.{answered, left, Tokenised}
-use Rattle.encode_tokens.specs.Steps.{bases_of, Ordering}
+use Rattle.encode_tokens.specs.Steps.{place_of_mark, Ordering}
 
-none_of : (o : Option ℕ) → bases_of o ≡ All → o ≡ none
-none_of none e = refl
-none_of (some p) e = cc
+none_of : (o : coding-option.Option ℕ) → place_of_mark o ≡ None → o ≡ coding-option.none
+none_of coding-option.none e = refl
+none_of (coding-option.some p) e = cc
 
-some_of : (o : Option ℕ) (p : ℕ) → bases_of o ≡ NoBase p → o ≡ some p
-some_of none p e = cc
-some_of (some q) p e = let f : q ≡ p = cc in ap some f
+some_of : (o : coding-option.Option ℕ) (p : ℕ) → place_of_mark o ≡ Some p → o ≡ coding-option.some p
+some_of coding-option.none p e = cc
+some_of (coding-option.some q) p e = let f : q ≡ p = cc in ap coding-option.some f
 
 -- each question, where the one before it is answered yes
 module _ (c : Lent) where
-  four : (p : ℕ) → first_fault c.text ≡ FaultAt p → question4 c ≡ refuse 4 p
+  four : (p : ℕ) → first_fault c.text ≡ Some p → question4 c ≡ refuse 4 p
   unfolding question4
   four p e = rw (e, question4)
 
-  five : first_fault c.text ≡ WellFormed → question4 c ≡ question5 c
+  five : first_fault c.text ≡ None → question4 c ≡ question5 c
   unfolding question4
   five e = rw (e, question4)
 
-  five_no : (p : ℕ) → baseless false (tokens c.text) ≡ some p → question5 c ≡ refuse 5 p
+  five_no : (p : ℕ) → baseless false (tokens c.text) ≡ coding-option.some p → question5 c ≡ refuse 5 p
   unfolding question5
   five_no p e = rw (e, question5)
 
-  six : baseless false (tokens c.text) ≡ none → question5 c ≡ question6 c
+  six : baseless false (tokens c.text) ≡ coding-option.none → question5 c ≡ question6 c
   unfolding question5
   six e = rw (e, question5)
 
-  six_no : (p : ℕ) → without (ordering c) (choices c) ≡ some p → question6 c ≡ refuse 6 p
+  six_no : (p : ℕ) → without (ordering c) (choices c) ≡ coding-option.some p → question6 c ≡ refuse 6 p
   unfolding question6
   six_no p e = rw (e, question6)
 
-  seven : without (ordering c) (choices c) ≡ none → question6 c ≡ question7 c
+  seven : without (ordering c) (choices c) ≡ coding-option.none → question6 c ≡ question7 c
   unfolding question6
   seven e = rw (e, question6)
 
 -- the test of question 6, over what is lent
-over : (c : Lent) (cells : List ℕ) (annex_e : Bool) (text : List ℕ) (o : Option ℕ) → c.cells ≡ cells → eqb c.width 1 ≡ annex_e → c.text ≡ text
+over : (c : Lent) (cells : List ℕ) (annex_e : Bool) (text : List ℕ) (o : coding-option.Option ℕ) → c.cells ≡ cells → eqb c.width 1 ≡ annex_e → c.text ≡ text
     → without (in_order (tokens text)) (candidates_of cells annex_e (chars (in_order (tokens text)))) ≡ o → without (ordering c) (choices c) ≡ o
 unfolding ordering choices
 over c cells annex_e text o p q r e = rw (p, q, r) e
 
 -- ---- the answers
 
-pub refused4 : (cells : List ℕ) (annex_e : Bool) (text : List ℕ) (p : ℕ) (chs ks ss : List ℕ) → first_fault text ≡ FaultAt p
-    → Tokenised cells annex_e text (Refused 4 p) chs ks ss
+pub refused4 : (cells : List ℕ) (annex_e : Bool) (text : List ℕ) (p : ℕ) (xs : List Character) → first_fault text ≡ Some p
+    → Tokenised cells annex_e text (Err (IllFormed p)) xs
 unfolding answered left
-refused4 cells annex_e text p chs ks ss e = record { answer = λ c f g h. four c p (ap first_fault h ∙ e); arrays = omega arith }
+refused4 cells annex_e text p xs e = record { answer = λ c f g h. four c p (ap first_fault h ∙ e); array = tt }
 
-pub refused5 : (cells : List ℕ) (annex_e : Bool) (text : List ℕ) (p : ℕ) (chs ks ss : List ℕ) → first_fault text ≡ WellFormed
-    → bases_of (baseless false (tokens text)) ≡ NoBase p → Tokenised cells annex_e text (Refused 5 p) chs ks ss
+pub refused5 : (cells : List ℕ) (annex_e : Bool) (text : List ℕ) (p : ℕ) (xs : List Character) → first_fault text ≡ None
+    → place_of_mark (baseless false (tokens text)) ≡ Some p → Tokenised cells annex_e text (Err (NoBase p)) xs
 unfolding answered left
-refused5 cells annex_e text p chs ks ss e b =
+refused5 cells annex_e text p xs e b =
     record {
       answer = λ c f g h. five c (ap first_fault h ∙ e) ∙ five_no c p (ap (λ (t : List ℕ). baseless false (tokens t)) h ∙ some_of _ p b);
-      arrays = omega arith;
+      array = tt;
     }
 
-pub answer6 : (cells : List ℕ) (annex_e : Bool) (text : List ℕ) (r : Tokens) (chs ks ss : List ℕ) → first_fault text ≡ WellFormed
-    → bases_of (baseless false (tokens text)) ≡ All → Ordering cells annex_e text r chs ks ss → Tokenised cells annex_e text r chs ks ss
+pub answer6 : (cells : List ℕ) (annex_e : Bool) (text : List ℕ) (r : Result Ordered Refusal) (xs : List Character) → first_fault text ≡ None
+    → place_of_mark (baseless false (tokens text)) ≡ None → Ordering cells annex_e text r xs → Tokenised cells annex_e text r xs
 unfolding answered left Ordering
-answer6 cells annex_e text (Ordered n rest) chs ks ss e b o =
+answer6 cells annex_e text (Ok n) xs e b o =
     record {
       answer =
           λ c f g h. five c (ap first_fault h ∙ e)
-          ∙ (six c (ap (λ (t : List ℕ). baseless false (tokens t)) h ∙ none_of _ b) ∙ seven c (over c cells annex_e text none f g h o.each));
-      arrays = o;
+          ∙ (six c (ap (λ (t : List ℕ). baseless false (tokens t)) h ∙ none_of _ b) ∙ seven c (over c cells annex_e text coding-option.none f g h o.each));
+      array = o;
     }
-answer6 cells annex_e text (Refused number place) chs ks ss e b o =
+answer6 cells annex_e text (Err w) xs e b o =
     record {
       answer =
           λ c f g h. five c (ap first_fault h ∙ e)
           ∙ (six c (ap (λ (t : List ℕ). baseless false (tokens t)) h ∙ none_of _ b)
-          ∙ (six_no c place (over c cells annex_e text (some place) f g h o.first) ∙ ap (λ (q : ℕ). refuse q place) (sym o.question)));
-      arrays = omega arith;
+          ∙ (six_no c o.place (over c cells annex_e text (coding-option.some o.place) f g h o.first)
+          ∙ ap (λ (q : Refusal). refuse (number_of q) (place_of q)) (sym o.question)));
+      array = tt;
     }

@@ -16,7 +16,10 @@ use Rattle.utf8.specs.Utf8.{sequence, scalars_from, scalars}
 use Rattle.utf8.proofs.Reading.{sequence_begins, sequence_not_end}
 use Rattle.utf8.proofs.Texts.{sequence_least, sequence_within, scalars_next}
 use Rattle.coding.specs.Tokens.{Token, placed, tokens, ordered, baseless}
-use Rattle.encode_tokens.specs.Steps.{token}
+
+-- a character at a place
+abbrev pub at_place : ℕ → ℕ → Token
+at_place place c = record { place = place; char = c }
 
 -- the characters from a place on
 abbrev pub from : List ℕ → ℕ → List Token
@@ -30,7 +33,7 @@ from_first text = refl
 pub record Read (text : List ℕ) (at c n : ℕ) : Type 0 where
   pub least : 1 ≤ n
   pub within : at + n ≤ length text
-  pub tokens : from text at ≡ token at c ∷ from text (at + n)
+  pub tokens : from text at ≡ at_place at c ∷ from text (at + n)
 
 pub read_as : (text : List ℕ) (at c n : ℕ) → at ≤ length text → sequence (drop at text) ≡ Scalar c n → Read text at c n
 unfolding placed
@@ -40,11 +43,11 @@ read_as text at c n h e =
       within = omega (arith, sequence_within (drop at text) c n e, length-drop at text);
       tokens =
           ap (placed at) (scalars_next (drop at text) c n e)
-          ∙ ap₂ (λ (k : ℕ) (l : List ℕ). token at c ∷ placed (at + k) (scalars l)) (sym (sequence_begins (drop at text) c n e).count) (drop-drop n at text);
+          ∙ ap₂ (λ (k : ℕ) (l : List ℕ). at_place at c ∷ placed (at + k) (scalars l)) (sym (sequence_begins (drop at text) c n e).count) (drop-drop n at text);
     }
 
 -- where no scalar was read
-pub none_read : (s : Sequence) → ((c n : ℕ) → s ≡ Scalar c n → ⊥) → (s ≡ Fault) ⊎ (s ≡ End)
+none_read : (s : Sequence) → ((c n : ℕ) → s ≡ Scalar c n → ⊥) → (s ≡ Fault) ⊎ (s ≡ End)
 none_read (Scalar c n) h = absurd (h c n refl)
 none_read Fault h = inl refl
 none_read End h = inr refl
@@ -66,25 +69,25 @@ from_end text at {s} e h = ap (placed at) (scalars_none (drop at text) (go (none
 -- ---- question 5, by the character that was read
 
 module _ (p c : ℕ) (ts : List Token) (base : Bool) where
-  pub based_mark : base ≡ true → has_character non_spacing c ≡ true → baseless base (token p c ∷ ts) ≡ baseless base ts
+  pub based_mark : base ≡ true → has_character non_spacing c ≡ true → baseless base (at_place p c ∷ ts) ≡ baseless base ts
   unfolding baseless
   based_mark b e = rw b (rw (e, baseless))
 
-  pub baseless_mark : base ≡ false → has_character non_spacing c ≡ true → baseless base (token p c ∷ ts) ≡ some p
+  pub baseless_mark : base ≡ false → has_character non_spacing c ≡ true → baseless base (at_place p c ∷ ts) ≡ some p
   unfolding baseless
   baseless_mark b e = rw b (rw (e, baseless))
 
-  pub no_mark : has_character non_spacing c ≡ false → baseless base (token p c ∷ ts) ≡ baseless (not (eqb c 10)) ts
+  pub no_mark : has_character non_spacing c ≡ false → baseless base (at_place p c ∷ ts) ≡ baseless (not (eqb c 10)) ts
   unfolding baseless
   no_mark e = rw (e, baseless)
 
 -- ---- the order of coding, by the character that was read
 
 module _ (b : Token) (p c : ℕ) (ts : List Token) where
-  pub mark_first : has_character non_spacing c ≡ true → ordered b (token p c ∷ ts) ≡ token p c ∷ ordered b ts
+  pub mark_first : has_character non_spacing c ≡ true → ordered b (at_place p c ∷ ts) ≡ at_place p c ∷ ordered b ts
   unfolding ordered
   mark_first e = rw (e, ordered)
 
-  pub base_first : has_character non_spacing c ≡ false → ordered b (token p c ∷ ts) ≡ b ∷ ordered (token p c) ts
+  pub base_first : has_character non_spacing c ≡ false → ordered b (at_place p c ∷ ts) ≡ b ∷ ordered (at_place p c) ts
   unfolding ordered
   base_first e = rw (e, ordered)

@@ -1,53 +1,50 @@
 -- What the steps of the passes promise.
-use Rattle.std.specs.Prelude.{ℕ, ◌≤◌, ◌<◌, ◌≡◌, Bool, List, [], ◌∷◌, length, set}
-use Rattle.std.proofs.Math.Option.{Option, none, some}
-use Rattle.tables_reverse.specs.Reverse.{kanji_reverse, additional_reverse}
-use Rattle.coding.specs.Candidates.{candidates, candidates_of, shortest}
+use Rattle.std.specs.Prelude.{ℕ, ◌≤◌, ◌≡◌, Bool, List, [], ◌∷◌, Option, Some, None, Result, Ok, Err, IfSome}
+use Rattle.std.proofs.Math.Option as coding-option
+use Rattle.questions.specs.declared.refusal.Refusal.{Refusal}
+use Rattle.questions.specs.declared.refusal.Refusal.TheVariants.{Unencodable}
+use Rattle.coding.specs.Candidates.{Cand, candidates, candidates_of, shortest}
 use Rattle.coding.specs.Tokens as coding
-use Rattle.coding.specs.Tokens.{Token, tokens, in_order, chars}
+use Rattle.coding.specs.Tokens.{tokens, in_order, chars}
 use Rattle.coding.specs.Call.{without}
-use Rattle.encode_candidates.specs.Packed.{packed}
-use Rattle.encode_tokens.specs.Promises.{Ready}
-use Rattle.encode_tokens.specs.declared.Bases.{Bases}
-use Rattle.encode_tokens.specs.declared.Bases.TheVariants.{All, NoBase}
+use Rattle.encode_tokens.specs.Promises.{character, Ready}
+use Rattle.encode_tokens.specs.declared.Character.{Character}
 use Rattle.encode_tokens.specs.declared.Next.{Next}
-use Rattle.encode_tokens.specs.declared.Tokens.{Tokens}
-use Rattle.encode_tokens.specs.declared.Tokens.TheVariants.{Ordered, Refused}
+use Rattle.encode_tokens.specs.declared.Ordered.{Ordered}
+use Rattle.encode_tokens.specs.declared.Token.{Token}
 
 -- the place of the first mark that has no base, as the code answers it
-abbrev pub bases_of : Option ℕ → Bases
-bases_of none = All
-bases_of (some place) = NoBase place
+abbrev pub place_of_mark : coding-option.Option ℕ → Option ℕ
+place_of_mark coding-option.none = None
+place_of_mark (coding-option.some place) = Some place
 
 -- a character at a place
-abbrev pub token : ℕ → ℕ → Token
-token place c = record { place = place; char = c }
+abbrev pub token : Token → coding.Token
+token x = record { place = x.place; char = x.char }
 
--- where the base b waits and c follows, whatever comes after them: the character that is coded next, and the base that then waits
-pub record Orders (bp b p c : ℕ) (r : Next) : Type 0 where
-  pub ordered : (ts : List Token) → coding.ordered (token bp b) (token p c ∷ ts) ≡ token r.place r.char ∷ coding.ordered (token r.base_at r.base) ts
+-- where the base b waits and x follows, whatever comes after them: the character that is coded next, and the base that then waits
+pub record Orders (b x : Token) (r : Next) : Type 0 where
+  pub ordered : (ts : List coding.Token) → coding.ordered (token b) (token x ∷ ts) ≡ token r.coded ∷ coding.ordered (token r.base) ts
 
--- the n-th place lies in each array
-pub record Within (n : ℕ) (chs ks ss : List ℕ) : Type 0 where
-  pub chars : n < length chs
-  pub kanji : n < length ks
-  pub symbols : n < length ss
+-- the length of the shortest of a character's candidates, if it has one
+unfoldable pub shortest_of : List Cand → Option ℕ
+unfolding shortest
+shortest_of [] = None
+shortest_of (k ∷ ks) = Some (shortest (k ∷ ks))
 
--- c stands in the n-th place, with its cells; r is the length of its shortest code, 0 where it has no candidate
-pub record Appended (cells : List ℕ) (annex_e : Bool) (c n : ℕ) (chs ks ss : List ℕ) (r : ℕ) (chs' ks' ss' : List ℕ) : Type 0 where
-  pub chars : chs' ≡ set chs n c
-  pub kanji : ks' ≡ set ks n (packed (kanji_reverse cells c))
-  pub symbols : ss' ≡ set ss n (packed (additional_reverse c))
-  pub shortest : r ≡ shortest (candidates cells annex_e c)
-  pub missing : r ≡ 0 → candidates cells annex_e c ≡ []
-  pub short : r ≤ 2
+-- x is the character c with its cells; r is the length of its shortest code, if it has a candidate
+pub record Appended (cells : List ℕ) (annex_e : Bool) (c : ℕ) (x : Character) (r : Option ℕ) : Type 0 where
+  pub character : x ≡ character cells c
+  pub shortest : r ≡ shortest_of (candidates cells annex_e c)
+  pub short : IfSome r (λ n. n ≤ 2)
 
 -- "6 at the first without"
-pub record Missing (cells : List ℕ) (annex_e : Bool) (text : List ℕ) (number place : ℕ) : Type 0 where
-  pub question : number ≡ 6
-  pub first : without (in_order (tokens text)) (candidates_of cells annex_e (chars (in_order (tokens text)))) ≡ some place
+pub record Missing (cells : List ℕ) (annex_e : Bool) (text : List ℕ) (e : Refusal) : Type 0 where
+  pub place : ℕ
+  pub question : e ≡ Unencodable place
+  pub first : without (in_order (tokens text)) (candidates_of cells annex_e (chars (in_order (tokens text)))) ≡ coding-option.some place
 
--- the arrays hold the characters, or one of them has no candidate
-unfoldable pub Ordering : List ℕ → Bool → List ℕ → Tokens → List ℕ → List ℕ → List ℕ → Type 0
-Ordering cells annex_e text (Ordered n rest) chs ks ss = Ready cells annex_e text n rest chs ks ss
-Ordering cells annex_e text (Refused number place) chs ks ss = Missing cells annex_e text number place
+-- the array holds the characters, or one of them has no candidate
+unfoldable pub Ordering : List ℕ → Bool → List ℕ → Result Ordered Refusal → List Character → Type 0
+Ordering cells annex_e text (Ok o) xs = Ready cells annex_e text o.count o.rest xs
+Ordering cells annex_e text (Err e) xs = Missing cells annex_e text e

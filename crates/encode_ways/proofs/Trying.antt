@@ -12,23 +12,6 @@ use borrow.Author.Tests.{lt-ltb, le-ltb}
 use Rattle.coding.specs.Candidates.{either, Cand, plain}
 use Rattle.coding.specs.Search.{Node, push_all, by_cand, by_cands}
 use Rattle.encode_layer.specs.Layer.{Bounds, Represents, Changes}
-use Rattle.encode_ways.specs.Turn.{length_of}
-
-pub one_byte_code : (code : ℕ) → code < 256 → 1 ≡ length_of code
-unfolding length_of
-one_byte_code code h = rw (lt-ltb code 256 h)
-
-pub two_byte_code : (code : ℕ) → 256 ≤ code → 2 ≡ length_of code
-unfolding length_of
-two_byte_code code h = rw (le-ltb code 256 h)
-
-pub few_bytes_code : (code : ℕ) → length_of code ≤ 2
-unfolding length_of
-few_bytes_code code = go (ltb code 256)
-  where
-    go : (b : Bool) → cond b 1 2 ≤ 2
-    go true = omega arith
-    go false = omega arith
 
 -- a change seen as another function, no change, and pushes after a change
 module _ {cs : List Cand} {r : Bounds} {s s' : List ℕ} {count count' : ℕ} where

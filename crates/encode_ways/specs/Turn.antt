@@ -1,21 +1,19 @@
 -- What is known of the numbers with which nodes are pushed, so that they stand for the nodes of `by_cand`.
-use Rattle.std.specs.Prelude.{ℕ, zero, suc, ◌+◌, ◌*◌, ◌/◌, ◌%◌, ◌≤◌, ◌<◌, ◌≡◌, cond, List, [], ◌++◌, map, eqb, ltb, length, get_or}
+use Rattle.std.specs.Prelude.{ℕ, zero, suc, ◌+◌, ◌*◌, ◌/◌, ◌%◌, ◌≤◌, ◌<◌, ◌≡◌, cond, List, [], ◌++◌, map, eqb, length, get_or}
 use Rattle.sets.specs.Sets.{designation}
 use Rattle.coding.specs.State.{State}
-use Rattle.coding.specs.Candidates.{either, Cand, graphic, plain}
+use Rattle.coding.specs.Candidates.{Size, either, Cand, graphic, plain, code_length}
 use Rattle.coding.specs.Ways.{Way, by_element}
 use Rattle.coding.specs.Search.{Node}
-use Rattle.encode_states.specs.Packed.{set_of, size_of, unpack}
+use Rattle.encode_states.specs.Packed.{set_of, unpack}
 use Rattle.encode_states.specs.Written.{size_control, written, invocation, half}
+use Rattle.encode_candidates.specs.Packed.{size_of, cand}
+use Rattle.encode_candidates.specs.declared.candidate.Candidate.{Candidate}
 
--- the code element n is invoked neither in GL nor in GR; the two that are
+-- the code element n is invoked neither in GL nor in GR
 pub record Apart (s : State) (n : ℕ) : Type 0 where
   pub left : s.gl ≡ n → ⊥
   pub right : s.gr ≡ n → ⊥
-
-pub record Invoked (s : State) (l r : ℕ) : Type 0 where
-  pub left : l ≡ s.gl
-  pub right : r ≡ s.gr
 
 -- cost and link leave room for what a way adds
 pub record Sized (cost link : ℕ) : Type 0 where
@@ -71,20 +69,13 @@ pub record Is (n : Node) (a cost : ℕ) : Type 0 where
   pub costs : n.cost ≡ cost
 
 -- a candidate by the code of its set (7 for SP and APR, which need none), its size and the bytes of its code
-unfoldable pub Matches : ℕ → ℕ → ℕ → Cand → Type 0
-unfolding set_of size_of
-Matches x size len (graphic s code z) = (x < 6) × (set_of x ≡ s) × (size_of size ≡ z) × (len ≡ length code)
-Matches x size len (plain b z) = (6 ≤ x) × (size_of size ≡ z)
+unfoldable pub Matches : ℕ → Size → ℕ → Cand → Type 0
+unfolding set_of
+Matches x size len (graphic s code z) = (x < 6) × (set_of x ≡ s) × (size ≡ z) × (len ≡ length code)
+Matches x size len (plain b z) = (6 ≤ x) × (size ≡ z)
 
--- the bytes of a code
-unfoldable pub length_of : ℕ → ℕ
-length_of code = cond (ltb code 256) 1 2
-
--- the sizes of m candidates: 0 either, 1 narrow, 2 wide
-abbrev pub Sizes : ℕ → List ℕ → Type 0
-Sizes m sizes = (j : ℕ) → j < m → get_or sizes j 0 ≤ 2
-
--- m candidates by their numbers
-pub record MatchAll (cs : List Cand) (m : ℕ) (sets codes sizes : List ℕ) : Type 0 where
-  pub many : length cs ≡ m
-  pub each : (j : ℕ) → j < m → Matches (get_or sets j 0) (get_or sizes j 0) (length_of (get_or codes j 0)) (get_or cs j (plain 0 either))
+-- candidates as the search has them
+pub record MatchAll (cs : List Cand) (candidates : List Candidate) : Type 0 where
+  pub many : length cs ≡ length candidates
+  pub each : (j : ℕ) (d : Candidate) → j < length candidates →
+      Matches (get_or candidates j d).set (size_of (get_or candidates j d).size) (code_length (cand (get_or candidates j d))) (get_or cs j (plain 0 either))

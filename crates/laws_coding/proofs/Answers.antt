@@ -10,11 +10,10 @@ use native.Mathlib.Omega.{arith}
 use lib.Dec.{leb}
 use lib.ListN.{length}
 use borrow.Author.Tests.{le-leb, leb-true, leb-false}
+use Rattle.std.specs.Prelude.{Option as Optional, Some, None}
 use Rattle.questions.specs.Questions.{cells_hold, options_hold, length_holds, first_refusal, encode_limit}
 use Rattle.questions.proofs.Refusals.{passed as passed-three}
 use Rattle.utf8.specs.Utf8.{first_fault}
-use Rattle.utf8.specs.declared.Text.{Text}
-use Rattle.utf8.specs.declared.Text.TheVariants.{WellFormed, FaultAt}
 use Rattle.coding.specs.Tokens.{tokens, baseless}
 use Rattle.coding.specs.Search.{Coded}
 use Rattle.base.specs.Lists.{All}
@@ -23,52 +22,52 @@ use Rattle.coding.specs.Call.{Lent, ordering, choices, coding, without, Refusal,
 use Rattle.laws_coding.specs.Coding.{lending, Alike, StoreFree, MoreStore, LargerStore, AcceptedText, ButForRoom}
 
 -- the first refusal, the answers to 1 to 6 being known, and more the rest
-abbrev answers : ℕ → Text → Option ℕ → Option ℕ → Refusal → Refusal
+abbrev answers : ℕ → Optional ℕ → Option ℕ → Option ℕ → Refusal → Refusal
 answers q t b w more =
     elim q [
-      | zero ↦ elim t [ FaultAt p ↦ refuse 4 p | WellFormed ↦ elim b [ some p ↦ refuse 5 p | none ↦ elim w [ some p ↦ refuse 6 p | none ↦ more ] ] ]
+      | zero ↦ elim t [ Some p ↦ refuse 4 p | None ↦ elim b [ some p ↦ refuse 5 p | none ↦ elim w [ some p ↦ refuse 6 p | none ↦ more ] ] ]
       | suc q ↦ refuse (suc q) 0
     ]
 
-not_seven : (q : ℕ) (t : Text) (b w : Option ℕ) (fits room : Bool) (more : Refusal) → ((answers q t b w (cond fits more (refuse 7 0))).number ≡ 7 → ⊥) →
+not_seven : (q : ℕ) (t : Optional ℕ) (b w : Option ℕ) (fits room : Bool) (more : Refusal) → ((answers q t b w (cond fits more (refuse 7 0))).number ≡ 7 → ⊥) →
     ((answers q t b w (cond room more (refuse 7 0))).number ≡ 7 → ⊥) → answers q t b w (cond fits more (refuse 7 0)) ≡ answers q t b w (cond room more (refuse 7 0))
 not_seven (suc q) t b w fits room more h k = refl
-not_seven zero (FaultAt p) b w fits room more h k = refl
-not_seven zero WellFormed (some p) w fits room more h k = refl
-not_seven zero WellFormed none (some p) fits room more h k = refl
-not_seven zero WellFormed none none true true more h k = refl
-not_seven zero WellFormed none none true false more h k = absurd (k refl)
-not_seven zero WellFormed none none false room more h k = absurd (h refl)
+not_seven zero (Some p) b w fits room more h k = refl
+not_seven zero None (some p) w fits room more h k = refl
+not_seven zero None none (some p) fits room more h k = refl
+not_seven zero None none none true true more h k = refl
+not_seven zero None none none true false more h k = absurd (k refl)
+not_seven zero None none none false room more h k = absurd (h refl)
 
 -- 7 where more fits is 7 where less does
-seven : (q : ℕ) (t : Text) (b w : Option ℕ) (fits room : Bool) (more : Refusal) → (fits ≡ true → room ≡ true) → (more.number ≡ 7 → ⊥) →
+seven : (q : ℕ) (t : Optional ℕ) (b w : Option ℕ) (fits room : Bool) (more : Refusal) → (fits ≡ true → room ≡ true) → (more.number ≡ 7 → ⊥) →
     (answers q t b w (cond room more (refuse 7 0))).number ≡ 7 → (answers q t b w (cond fits more (refuse 7 0))).number ≡ 7
 seven (suc q) t b w fits room more m k e = e
-seven zero (FaultAt p) b w fits room more m k e = e
-seven zero WellFormed (some p) w fits room more m k e = e
-seven zero WellFormed none (some p) fits room more m k e = e
-seven zero WellFormed none none false room more m k e = refl
-seven zero WellFormed none none true true more m k e = absurd (k e)
-seven zero WellFormed none none true false more m k e = absurd (false≢true (m refl))
+seven zero (Some p) b w fits room more m k e = e
+seven zero None (some p) w fits room more m k e = e
+seven zero None none (some p) fits room more m k e = e
+seven zero None none none false room more m k e = refl
+seven zero None none none true true more m k e = absurd (k e)
+seven zero None none none true false more m k e = absurd (false≢true (m refl))
 
-passed : (q : ℕ) (t : Text) (b w : Option ℕ) (fits room : Bool) → (answers q t b w (cond fits (cond room (refuse 0 0) (refuse 8 0)) (refuse 7 0))).number ≡ 0 → (q ≡ 0) ×
+passed : (q : ℕ) (t : Optional ℕ) (b w : Option ℕ) (fits room : Bool) → (answers q t b w (cond fits (cond room (refuse 0 0) (refuse 8 0)) (refuse 7 0))).number ≡ 0 → (q ≡ 0) ×
     (w ≡ none) × (room ≡ true)
-passed zero WellFormed none none true true e = (refl, refl, refl)
-passed zero WellFormed none none true false e = absurd (omega arith)
-passed zero WellFormed none none false room e = absurd (omega arith)
-passed zero WellFormed none (some p) fits room e = absurd (omega arith)
-passed zero WellFormed (some p) w fits room e = absurd (omega arith)
-passed zero (FaultAt p) b w fits room e = absurd (omega arith)
+passed zero None none none true true e = (refl, refl, refl)
+passed zero None none none true false e = absurd (omega arith)
+passed zero None none none false room e = absurd (omega arith)
+passed zero None none (some p) fits room e = absurd (omega arith)
+passed zero None (some p) w fits room e = absurd (omega arith)
+passed zero (Some p) b w fits room e = absurd (omega arith)
 passed (suc q) t b w fits room e = absurd (omega arith)
 
-eight : (q : ℕ) (t : Text) (b w : Option ℕ) (fits room : Bool) → q ≤ 3 → (answers q t b w (cond fits (cond room (refuse 0 0) (refuse 8 0)) (refuse 7 0))).number ≡ 8 → (q ≡ 0) ×
+eight : (q : ℕ) (t : Optional ℕ) (b w : Option ℕ) (fits room : Bool) → q ≤ 3 → (answers q t b w (cond fits (cond room (refuse 0 0) (refuse 8 0)) (refuse 7 0))).number ≡ 8 → (q ≡ 0) ×
     (room ≡ false)
-eight zero WellFormed none none true false h e = (refl, refl)
-eight zero WellFormed none none true true h e = absurd (omega arith)
-eight zero WellFormed none none false room h e = absurd (omega arith)
-eight zero WellFormed none (some p) fits room h e = absurd (omega arith)
-eight zero WellFormed (some p) w fits room h e = absurd (omega arith)
-eight zero (FaultAt p) b w fits room h e = absurd (omega arith)
+eight zero None none none true false h e = (refl, refl)
+eight zero None none none true true h e = absurd (omega arith)
+eight zero None none none false room h e = absurd (omega arith)
+eight zero None none (some p) fits room h e = absurd (omega arith)
+eight zero None (some p) w fits room h e = absurd (omega arith)
+eight zero (Some p) b w fits room h e = absurd (omega arith)
 eight (suc q) t b w fits room h e = absurd (omega arith)
 
 three : (cells options fits : Bool) → cond cells (cond options (cond fits 0 3) 2) 1 ≤ 3
@@ -174,14 +173,14 @@ pub four_each : (l : List Counts) → All (λ n. numbers n ≤ 4 * states n) l
 four_each [] = tt
 four_each (n ∷ l) = (omega arith, four_each l)
 
-not_answered : (q : ℕ) (t : Text) (b w : Option ℕ) (fits : Bool) (more : Refusal) → q ≤ 3 → fits ≡ true → (more.number ≡ 7 → ⊥) →
+not_answered : (q : ℕ) (t : Optional ℕ) (b w : Option ℕ) (fits : Bool) (more : Refusal) → q ≤ 3 → fits ≡ true → (more.number ≡ 7 → ⊥) →
     (answers q t b w (cond fits more (refuse 7 0))).number ≡ 7 → ⊥
 not_answered (suc q) t b w fits more h f k e = absurd (omega arith)
-not_answered zero (FaultAt p) b w fits more h f k e = absurd (omega arith)
-not_answered zero WellFormed (some p) w fits more h f k e = absurd (omega arith)
-not_answered zero WellFormed none (some p) fits more h f k e = absurd (omega arith)
-not_answered zero WellFormed none none true more h f k e = k e
-not_answered zero WellFormed none none false more h f k e = absurd (false≢true f)
+not_answered zero (Some p) b w fits more h f k e = absurd (omega arith)
+not_answered zero None (some p) w fits more h f k e = absurd (omega arith)
+not_answered zero None none (some p) fits more h f k e = absurd (omega arith)
+not_answered zero None none none true more h f k e = k e
+not_answered zero None none none false more h f k e = absurd (false≢true f)
 
 pub still_fits : (c : Lent) → fit_states c.store_room (needs_states (choices c) c.initial) ≡ true → (outcome c).refused ≡ 7 → ⊥
 unfolding outcome refusal question4 question5 question6 question7 first_refusal needs needs_states
@@ -201,15 +200,15 @@ as_in_larger c n h f = whatever_store c n h (still_fits (lending c n) f)
 -- ---- An accepted text
 
 -- what is accepted in some rooms is refused for room alone in others
-room_alone : (q : ℕ) (t : Text) (b w : Option ℕ) (fits room fits' room' : Bool) → (answers q t b w (cond fits (cond room (refuse 0 0) (refuse 8 0)) (refuse 7 0))).number ≡ 0
+room_alone : (q : ℕ) (t : Optional ℕ) (b w : Option ℕ) (fits room fits' room' : Bool) → (answers q t b w (cond fits (cond room (refuse 0 0) (refuse 8 0)) (refuse 7 0))).number ≡ 0
     → ButForRoom (answers q t b w (cond fits' (cond room' (refuse 0 0) (refuse 8 0)) (refuse 7 0))).number
 room_alone (suc q) t b w fits room fits' room' e = absurd (omega arith)
-room_alone zero (FaultAt p) b w fits room fits' room' e = absurd (omega arith)
-room_alone zero WellFormed (some p) w fits room fits' room' e = absurd (omega arith)
-room_alone zero WellFormed none (some p) fits room fits' room' e = absurd (omega arith)
-room_alone zero WellFormed none none fits room false room' e = inr (inl refl)
-room_alone zero WellFormed none none fits room true false e = inr (inr refl)
-room_alone zero WellFormed none none fits room true true e = inl refl
+room_alone zero (Some p) b w fits room fits' room' e = absurd (omega arith)
+room_alone zero None (some p) w fits room fits' room' e = absurd (omega arith)
+room_alone zero None none (some p) fits room fits' room' e = absurd (omega arith)
+room_alone zero None none none fits room false room' e = inr (inl refl)
+room_alone zero None none none fits room true false e = inr (inr refl)
+room_alone zero None none none fits room true true e = inl refl
 
 another : (q : ℕ) → 1 ≤ q → (q ≡ 7 → ⊥) → (q ≡ 8 → ⊥) → ButForRoom q → ⊥
 another q h n m (inl e) = omega arith
@@ -217,16 +216,16 @@ another q h n m (inr (inl e)) = n e
 another q h n m (inr (inr e)) = m e
 
 -- what is refused for room alone is accepted where there is room
-with_room : (q : ℕ) (t : Text) (b w : Option ℕ) (fits room fits' room' : Bool) → q ≤ 3 → fits' ≡ true → room' ≡ true
+with_room : (q : ℕ) (t : Optional ℕ) (b w : Option ℕ) (fits room fits' room' : Bool) → q ≤ 3 → fits' ≡ true → room' ≡ true
     → ButForRoom (answers q t b w (cond fits (cond room (refuse 0 0) (refuse 8 0)) (refuse 7 0))).number
     → (answers q t b w (cond fits' (cond room' (refuse 0 0) (refuse 8 0)) (refuse 7 0))).number ≡ 0
 with_room (suc q) t b w fits room fits' room' h f r e = absurd (another (suc q) (omega arith) (λ z. omega arith) (λ z. omega arith) e)
-with_room zero (FaultAt p) b w fits room fits' room' h f r e = absurd (another 4 (omega arith) (λ z. omega arith) (λ z. omega arith) e)
-with_room zero WellFormed (some p) w fits room fits' room' h f r e = absurd (another 5 (omega arith) (λ z. omega arith) (λ z. omega arith) e)
-with_room zero WellFormed none (some p) fits room fits' room' h f r e = absurd (another 6 (omega arith) (λ z. omega arith) (λ z. omega arith) e)
-with_room zero WellFormed none none fits room false room' h f r e = absurd (false≢true f)
-with_room zero WellFormed none none fits room true false h f r e = absurd (false≢true r)
-with_room zero WellFormed none none fits room true true h f r e = refl
+with_room zero (Some p) b w fits room fits' room' h f r e = absurd (another 4 (omega arith) (λ z. omega arith) (λ z. omega arith) e)
+with_room zero None (some p) w fits room fits' room' h f r e = absurd (another 5 (omega arith) (λ z. omega arith) (λ z. omega arith) e)
+with_room zero None none (some p) fits room fits' room' h f r e = absurd (another 6 (omega arith) (λ z. omega arith) (λ z. omega arith) e)
+with_room zero None none none fits room false room' h f r e = absurd (false≢true f)
+with_room zero None none none fits room true false h f r e = absurd (false≢true r)
+with_room zero None none none fits room true true h f r e = refl
 
 -- a store that suffices
 total : List ℕ → ℕ

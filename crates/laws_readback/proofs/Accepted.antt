@@ -8,10 +8,9 @@ use native.Mathlib.Omega.{arith}
 use borrow.Author.Tests.{leb-true}
 use lib.Dec.{leb}
 use lib.ListN.{length}
+use Rattle.std.specs.Prelude.{Option as Optional, Some, None}
 use Rattle.questions.specs.Questions.{cells_hold, first_refusal, encode_limit}
 use Rattle.utf8.specs.Utf8.{first_fault}
-use Rattle.utf8.specs.declared.Text.{Text}
-use Rattle.utf8.specs.declared.Text.TheVariants.{WellFormed, FaultAt}
 use Rattle.coding.specs.Tokens.{tokens, baseless}
 use Rattle.coding.specs.Call as coding
 use Rattle.laws_coding.specs.Coding.{returned}
@@ -38,13 +37,13 @@ module _ (c : coding.Lent) where
       go none p = p
       go (some n) p = let f = rw (p, coding.question5) at e in absurd (omega arith)
 
-  question_4 : (coding.question4 c).number ≡ 0 → (first_fault c.text ≡ WellFormed) × Based c
+  question_4 : (coding.question4 c).number ≡ 0 → (first_fault c.text ≡ None) × Based c
   unfolding coding.question4
   question_4 e = go (first_fault c.text) refl
     where
-      go : (x : Text) → first_fault c.text ≡ x → (first_fault c.text ≡ WellFormed) × Based c
-      go WellFormed p = (p, question_5 (rw (p, coding.question4) at e))
-      go (FaultAt n) p = let f = rw (p, coding.question4) at e in absurd (omega arith)
+      go : (x : Optional ℕ) → first_fault c.text ≡ x → (first_fault c.text ≡ None) × Based c
+      go None p = (p, question_5 (rw (p, coding.question4) at e))
+      go (Some n) p = let f = rw (p, coding.question4) at e in absurd (omega arith)
 
   none_refused : (coding.refusal c).number ≡ 0 → PassesQuestions c
   unfolding coding.refusal

@@ -1,11 +1,10 @@
 -- Reading back: demand 2, "Accepted text, coded and then decoded with the same options and cell table and enough buffer, is that text again with
 -- no issue", of every admissible coding, however it arranges its controls. proofs/ReadBack.antt and proofs/Accepted.antt prove each statement
 -- under its name.
-use Rattle.std.specs.Prelude.{ℕ, ◌≤◌, ◌≡◌, true, false, List, [], eqb, length}
+use Rattle.std.specs.Prelude.{ℕ, ◌≤◌, ◌≡◌, true, false, List, [], eqb, length, None}
 use Rattle.std.proofs.Math.Option.{none}
 use Rattle.private_use.specs.PrivateUse.{private_use}
 use Rattle.utf8.specs.Utf8.{first_fault, scalars}
-use Rattle.utf8.specs.declared.Text.TheVariants.{WellFormed}
 use Rattle.questions.specs.Questions.{cells_hold}
 use Rattle.questions.specs.Buffer.{padded}
 use Rattle.coding.specs.State.{start}
@@ -31,7 +30,7 @@ pub record PassesQuestions (c : coding.Lent) : Type 0 where
   pub cells : cells_hold c.cells ≡ true
   pub initial : c.initial ≤ 1
   pub width : c.width ≤ 1
-  pub well_formed : first_fault c.text ≡ WellFormed
+  pub well_formed : first_fault c.text ≡ None
   pub based : Based c
 
 -- a text that the coding call accepts passes them

@@ -1,8 +1,7 @@
 -- A decoded text is of Unicode scalar values, so that its bytes are well-formed UTF-8, and what is counted of them can be seen in the buffer.
 -- proofs/Scalars.antt proves each law under its name.
-use Rattle.std.specs.Prelude.{ℕ, ◌<◌, ◌≡◌, true, T, take, get_or}
+use Rattle.std.specs.Prelude.{ℕ, ◌<◌, ◌≡◌, true, T, take, get_or, None}
 use Rattle.private_use.specs.PrivateUse.{private_use}
-use Rattle.utf8.specs.declared.Text.TheVariants.{WellFormed}
 use Rattle.utf8.specs.Utf8.{are_scalars, utf8s, first_fault, scalars}
 use Rattle.questions.specs.Questions.{cells_hold}
 use Rattle.reading.specs.State.{Given}
@@ -18,7 +17,7 @@ abbrev pub TextScalars : Type 0
 TextScalars = (g : Given) (initial : ℕ) → Table g → T (are_scalars (decode g initial).out.text)
 
 abbrev pub TextWellFormed : Type 0
-TextWellFormed = (g : Given) (initial : ℕ) → Table g → first_fault (utf8s (decode g initial).out.text) ≡ WellFormed
+TextWellFormed = (g : Given) (initial : ℕ) → Table g → first_fault (utf8s (decode g initial).out.text) ≡ None
 
 -- "the private-use characters in its text": those of the text that is returned, as its bytes are read, whatever they came from. The numbers of a lent
 -- table have 16 bits; a refused call returns no text.

@@ -1,7 +1,6 @@
 // The answers of `tables`, for number i of each part.
 use crate::numbers::{low, scalar, wide, yes};
 use tables::Cell;
-use tables_onebyte::OneByteChar;
 
 /// The character of a cell, 0 for none.
 fn character(c: Cell) -> usize {
@@ -13,11 +12,8 @@ fn character(c: Cell) -> usize {
 }
 
 /// The character of a one-byte code, 0 for none.
-fn letter(c: OneByteChar) -> usize {
-    match c {
-        OneByteChar::Char(x) => wide(x),
-        OneByteChar::Undefined => 0,
-    }
+fn letter(c: Option<u32>) -> usize {
+    wide(c.unwrap_or(0))
 }
 
 /// Rows 1 to 94, in each the cells 1 to 94.

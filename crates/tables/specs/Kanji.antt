@@ -1,13 +1,11 @@
 -- What the two-byte sets read at a row and a cell, over a lent table of JIS X 0208. Rows and cells are counted from 1.
-use Rattle.std.specs.Prelude.{ℕ, ◌+◌, ◌*◌, ◌-◌, ◌≤◌, Bool, true, false, cond, ◌&&◌, ◌||◌, List, [], ◌∷◌, ◌≡◌, refl, eqb, leb, get_or}
+use Rattle.std.specs.Prelude.{ℕ, ◌+◌, ◌*◌, ◌-◌, ◌≤◌, Bool, true, false, cond, ◌&&◌, ◌||◌, List, [], ◌∷◌, ◌≡◌, refl, eqb, leb, get_or, Option as Answer, Some, None}
 use Rattle.std.proofs.Math.Option.{Option, none, some}
 use Rattle.private_use.specs.PrivateUse.{is_private_use}
 use Rattle.addsym.specs.Symbols.{symbol}
 use Rattle.tables.specs.declared.Assignment.{Assignment}
 use Rattle.tables.specs.declared.Cell.{Cell}
 use Rattle.tables.specs.declared.Cell.TheVariants.{Char, PrivateUse, Undefined}
-use Rattle.tables.specs.declared.Place.{Place}
-use Rattle.tables.specs.declared.Place.TheVariants.{At, Nowhere}
 
 -- what an answer says of the character x of a cell, 0 where the cell has none: "undefined, an ordinary character or a private-use one" (request 6 of
 -- docs/REQUESTS.md)
@@ -49,9 +47,9 @@ has_character [] c = false
 has_character (a ∷ more) c = cond (eqb a.character c) true (has_character more c)
 
 -- the row and the cell that a reverse look-up answers, or none
-abbrev pub place_value : Place → Option (ℕ × ℕ)
-place_value (At row cell) = some (row, cell)
-place_value Nowhere = none
+abbrev pub place_value : Answer (ℕ × ℕ) → Option (ℕ × ℕ)
+place_value (Some p) = some p
+place_value None = none
 
 -- the first cell of a list with a character, for the coding of a mark (`candidates` of encode.rs): its row and its cell
 unfoldable pub cell_with : List Assignment → ℕ → Option (ℕ × ℕ)

@@ -16,13 +16,6 @@ pub enum Cell {
     Undefined,
 }
 
-/// A row and a cell, each from 1.
-#[derive(Clone, Copy)]
-pub enum Place {
-    At(u8, u8),
-    Nowhere,
-}
-
 /// A cell of the Kanji set and its character.
 #[derive(Clone, Copy)]
 pub struct Assignment {
@@ -167,16 +160,16 @@ pub fn is_override(c: u32) -> bool
     false
 }
 
-/// The cell of the Kanji set that codes a mark: its turns name its place.
-pub fn mark_cell(c: u32) -> Place
+/// The row and the cell of the Kanji set that code a mark: its turns name its place.
+pub fn mark_cell(c: u32) -> Option<(u8, u8)>
     ensures { place_value result ≡ cell_with non_spacing c }
 {
     let test = is_non_spacing(c);
     if test.mark {
         let a = NON_SPACING[test.turns - 1];
-        return Place::At(a.row, a.cell);
+        return Some((a.row, a.cell));
     }
-    Place::Nowhere
+    None
 }
 
 /// The character that a list assigns to a cell, `x` where it assigns none.

@@ -1,7 +1,5 @@
 -- The one-byte tables of tables.rs, codes 21 on, and what a code reads as.
-use Rattle.std.specs.Prelude.{ℕ, ◌+◌, ◌-◌, ◌≤◌, cond, ◌&&◌, List, [], ◌∷◌, map, ◌≡◌, refl, eqb, leb, ltb, get_or}
-use Rattle.tables_onebyte.specs.declared.OneByteChar.{OneByteChar}
-use Rattle.tables_onebyte.specs.declared.OneByteChar.TheVariants.{Char, Undefined}
+use Rattle.std.specs.Prelude.{ℕ, ◌+◌, ◌-◌, ◌≤◌, cond, ◌&&◌, List, [], ◌∷◌, map, ◌≡◌, refl, eqb, leb, ltb, get_or, Option, Some, None}
 use Rattle.tables_onebyte.specs.declared.OneByteTable.{OneByteTable}
 use Rattle.tables_onebyte.specs.declared.OneByteTable.TheVariants.{Alphanumeric, Fullwidth, Hiragana, Katakana, JisX0201Katakana}
 
@@ -62,9 +60,9 @@ unfolding table_of
 one_byte_at table c = cond (ltb c 0x21) 0 (get_or (table_of table) (c - 0x21) 0)
 
 -- what an answer says of the character x of a code, 0 where the code has none
-abbrev pub OneByteReads : OneByteChar → ℕ → Type 0
-OneByteReads (Char c) x = (x ≡ c) × (1 ≤ c)
-OneByteReads Undefined x = x ≡ 0
+abbrev pub OneByteReads : Option ℕ → ℕ → Type 0
+OneByteReads (Some c) x = (x ≡ c) × (1 ≤ c)
+OneByteReads None x = x ≡ 0
 
 -- Worked: YEN SIGN at 5C, an empty place, the last place, past the end, before the first.
 worked :

@@ -1,17 +1,15 @@
 -- The one-byte reverse look-ups of the coder: the first code of a table that reads as a character.
-use Rattle.std.specs.Prelude.{ℕ, ◌+◌, [], ◌∷◌, ◌≡◌, refl}
+use Rattle.std.specs.Prelude.{ℕ, ◌+◌, [], ◌∷◌, ◌≡◌, refl, Option as Answer, Some, None}
 use Rattle.std.proofs.Math.Option.{Option, none, some}
 use Rattle.base.specs.First.{first}
 use Rattle.tables_onebyte.specs.OneByte.{table_of}
 use Rattle.tables_onebyte.specs.declared.OneByteTable.{OneByteTable}
 use Rattle.tables_onebyte.specs.declared.OneByteTable.TheVariants.{Alphanumeric, Fullwidth, Hiragana}
-use Rattle.tables_onebyte.specs.declared.Code.{Code}
-use Rattle.tables_onebyte.specs.declared.Code.TheVariants.{Gl, Nothing}
 
 -- the GL code that a reverse look-up answers, or none
-abbrev pub code_value : Code → Option ℕ
-code_value (Gl code) = some code
-code_value Nothing = none
+abbrev pub code_value : Answer ℕ → Option ℕ
+code_value (Some code) = some code
+code_value None = none
 
 -- the GL code of a place of a one-byte table
 unfoldable pub code_of : Option ℕ → Option ℕ

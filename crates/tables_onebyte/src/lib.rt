@@ -11,20 +11,6 @@ ghost use Rattle.tables_onebyte.specs.OneByte.{fullwidth_of, one_byte_at, OneByt
 ghost use Rattle.tables_onebyte.specs.Reverse.{code_value, one_byte_reverse};
 ghost use Rattle.tables_onebyte.specs.Promises.{run_at, alphanumeric_at, kana_at, KanaFits, Inverse};
 
-/// What a code of a one-byte set reads as.
-#[derive(Clone, Copy)]
-pub enum OneByteChar {
-    Char(u32),
-    Undefined,
-}
-
-/// A GL code, 21 to 7E.
-#[derive(Clone, Copy)]
-pub enum Code {
-    Gl(u8),
-    Nothing,
-}
-
 /// The one-byte tables. `Fullwidth` is the alphanumeric set in a full-width character field.
 #[derive(Clone, Copy)]
 pub enum OneByteTable {
@@ -59,13 +45,10 @@ const KATAKANA: Kana = Kana {
 };
 
 /// A character as the answer of a one-byte set.
-fn one_byte_of(c: u32) -> OneByteChar
+fn one_byte_of(c: u32) -> Option<u32>
     ensures { OneByteReads result c }
 {
-    if c == 0 {
-        return OneByteChar::Undefined;
-    }
-    OneByteChar::Char(c)
+    (c != 0).then_some(c)
 }
 
 /// A run of characters from `first` at code 21 on, to the code `last`.
@@ -115,21 +98,21 @@ fn kana_at(kana: Kana, c: u8) -> u32
 }
 
 /// The alphanumeric set at GL code `c`, half-width. Table 7-5.
-pub fn alphanumeric(c: u8) -> OneByteChar
+pub fn alphanumeric(c: u8) -> Option<u32>
     ensures { OneByteReads result (one_byte_at OneByteTable.Alphanumeric c) }
 {
     one_byte_of(alphanumeric_at(c))
 }
 
 /// The hiragana set at GL code `c`. Table 7-7.
-pub fn hiragana(c: u8) -> OneByteChar
+pub fn hiragana(c: u8) -> Option<u32>
     ensures { OneByteReads result (one_byte_at OneByteTable.Hiragana c) }
 {
     one_byte_of(kana_at(HIRAGANA, c))
 }
 
 /// The katakana set at GL code `c`. Table 7-6.
-pub fn katakana(c: u8) -> OneByteChar
+pub fn katakana(c: u8) -> Option<u32>
     ensures { OneByteReads result (one_byte_at OneByteTable.Katakana c) }
 {
     one_byte_of(kana_at(KATAKANA, c))
@@ -137,7 +120,7 @@ pub fn katakana(c: u8) -> OneByteChar
 
 /// The JIS X 0201 katakana set at GL code `c`. Table 7-9, as the halfwidth forms U+FF61 to U+FF9F. Columns 6 and 7 are
 /// undefined.
-pub fn jis_x0201_katakana(c: u8) -> OneByteChar
+pub fn jis_x0201_katakana(c: u8) -> Option<u32>
     ensures { OneByteReads result (one_byte_at OneByteTable.JisX0201Katakana c) }
 {
     one_byte_of(run_at(0xFF61, 0x5F, c))
@@ -155,69 +138,69 @@ pub fn fullwidth(c: u32) -> u32
 }
 
 /// The code of a run's character.
-fn run_reverse(first: u32, last: u8, c: u32) -> Code
+fn run_reverse(first: u32, last: u8, c: u32) -> Option<u8>
     requires le_first { 1 ≤ first }
     requires le_last { 0x21 ≤ last }
     requires last_bound { last < 0x7F }
     ensures { Inverse (run_at first last) c (code_value result) }
 {
     if c < first {
-        return Code::Nothing;
+        return None;
     }
     if last as u32 - 0x21 < c - first {
-        return Code::Nothing;
+        return None;
     }
-    Code::Gl((c - first + 0x21) as u8)
+    Some((c - first + 0x21) as u8)
 }
 
 /// The code of the alphanumeric set that reads as `c`, the set being a run from `first` on but for `yen` at 5C: Table
 /// 7-5, or its full-width forms.
-fn alphanumeric_reverse(first: u32, yen: u32, c: u32) -> Code
+fn alphanumeric_reverse(first: u32, yen: u32, c: u32) -> Option<u8>
     requires le_first { 1 ≤ first }
     requires first_bound { first < 0x10000 }
     requires le_yen { 1 ≤ yen }
     ensures { Inverse (alphanumeric_at first yen) c (code_value result) }
 {
     if c == yen {
-        return Code::Gl(0x5C);
+        return Some(0x5C);
     }
     if c == first + 0x3B {
-        return Code::Nothing;
+        return None;
     }
     run_reverse(first, 0x7E, c)
 }
 
 /// The alphanumeric whose full-width form is `c`.
-pub fn half(c: u32) -> Code
+pub fn half(c: u32) -> Option<u8>
     ensures { code_value result ≡ one_byte_reverse OneByteTable.Fullwidth c }
 {
     alphanumeric_reverse(0xFF01, 0xFFE5, c)
 }
 
 /// The code of a kana set that reads as `c`.
-fn kana_reverse(kana: Kana, c: u32) -> Code
+fn kana_reverse(kana: Kana, c: u32) -> Option<u8>
     requires { KanaFits kana }
     ensures { Inverse (kana_at kana) c (code_value result) }
 {
     if c == kana.iteration {
-        return Code::Gl(0x77);
+        return Some(0x77);
     }
     if c == kana.iteration + 1 {
-        return Code::Gl(0x78);
+        return Some(0x78);
     }
     match c {
-        0x30FC => Code::Gl(0x79),
-        0x3002 => Code::Gl(0x7A),
-        0x300C => Code::Gl(0x7B),
-        0x300D => Code::Gl(0x7C),
-        0x3001 => Code::Gl(0x7D),
-        0x30FB => Code::Gl(0x7E),
+        0x30FC => Some(0x79),
+        0x3002 => Some(0x7A),
+        0x300C => Some(0x7B),
+        0x300D => Some(0x7C),
+        0x3001 => Some(0x7D),
+        0x30FB => Some(0x7E),
         _ => run_reverse(kana.first, kana.last, c),
     }
 }
 
 /// The first code of a one-byte table that reads as `c`.
-pub fn one_byte_reverse(table: OneByteTable, c: u32) -> Code
+pub fn one_byte_reverse(table: OneByteTable, c: u32) -> Option<u8>
     ensures { code_value result ≡ one_byte_reverse table c }
 {
     match table {

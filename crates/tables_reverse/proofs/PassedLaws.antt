@@ -7,21 +7,20 @@ use native.Mathlib.Omega.{arith}
 use lib.ListN.{get_or}
 use Rattle.tables.specs.Kanji.{place_value, place}
 use Rattle.tables_reverse.specs.Reverse.{place_of}
-use Rattle.tables.specs.declared.Place.{Place}
-use Rattle.tables.specs.declared.Place.TheVariants.{Nowhere}
+use Rattle.std.specs.Prelude.{Option as Answer, None}
 use Rattle.base.proofs.FirstLaws.{on_from, hit, miss, done}
 use Rattle.tables_reverse.proofs.PlaceLaws.{place_of_lem}
 
 -- nothing is found before a cell, so that the search, which is to give o, may go on from there
-pub record Passed (f : ℕ → ℕ → ℕ) (c : ℕ) (t : List ℕ) (o : Option ℕ) (row cell : ℕ) (found : Place) : Type 0 where
+pub record Passed (f : ℕ → ℕ → ℕ) (c : ℕ) (t : List ℕ) (o : Option ℕ) (row cell : ℕ) (found : Answer (ℕ × ℕ)) : Type 0 where
   pub row_from : 1 ≤ row
   pub row_to : row ≤ 95
   pub cell_from : 1 ≤ cell
   pub cell_to : cell ≤ 95
-  pub nowhere : found ≡ Nowhere
+  pub nowhere : found ≡ None
   pub same : on_from f c t 8836 (place row cell) ≡ o
 
-module _ {f : ℕ → ℕ → ℕ} {c : ℕ} {t : List ℕ} {o : Option ℕ} {row cell : ℕ} {found : Place} (p : Passed f c t o row cell found) where
+module _ {f : ℕ → ℕ → ℕ} {c : ℕ} {t : List ℕ} {o : Option ℕ} {row cell : ℕ} {found : Answer (ℕ × ℕ)} (p : Passed f c t o row cell found) where
   pub next_cell : row < 95 → cell < 95 → (f (place row cell) (get_or t (place row cell) 0) ≡ c → ⊥) → Passed f c t o row (cell + 1) found
   next_cell a b e =
       let r = p.row_from in
@@ -85,7 +84,7 @@ module _ {f : ℕ → ℕ → ℕ} {c : ℕ} {t : List ℕ} {o : Option ℕ} {ro
       ap place_value p.nowhere ∙ ap place_of (sym (done f c t 8836 (place row cell) (omega arith)) ∙ p.same)
 
 -- none of the rows from one on has a cell that reads as c
-pub past_rows : {f : ℕ → ℕ → ℕ} {c : ℕ} {t : List ℕ} {o : Option ℕ} {found : Place} (n row : ℕ) → row + n ≡ 95 → Passed f c t o row 1 found
+pub past_rows : {f : ℕ → ℕ → ℕ} {c : ℕ} {t : List ℕ} {o : Option ℕ} {found : Answer (ℕ × ℕ)} (n row : ℕ) → row + n ≡ 95 → Passed f c t o row 1 found
     → ((r k : ℕ) → row ≤ r → r ≤ 94 → 1 ≤ k → k ≤ 94 → f (place r k) (get_or t (place r k) 0) ≡ c → ⊥) → place_value found ≡ place_of o
 past_rows zero row h p e = found_nowhere p (omega arith)
 past_rows (suc n) row h p e =

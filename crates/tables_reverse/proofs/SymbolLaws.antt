@@ -9,7 +9,7 @@ use Rattle.addsym.proofs.Laws.{blank_symbol}
 use Rattle.addsym.proofs.Places.{no_row}
 use Rattle.base.specs.First.{first_from}
 use Rattle.tables_reverse.specs.Reverse.{symbol_place}
-use Rattle.tables.specs.declared.Place.TheVariants.{Nowhere}
+use Rattle.std.specs.Prelude.{None}
 use Rattle.base.proofs.FirstLaws.{skip}
 use Rattle.tables_reverse.proofs.PassedLaws.{Passed}
 
@@ -29,7 +29,7 @@ no_place row h =
 no_symbol : (row cell : ℕ) → row < 85 → symbol row cell ≡ 0
 no_symbol row cell h = let q = no_place row h in blank_symbol row cell (no_row row cell (row_place row) refl (omega arith))
 
-pub from_85 : (c : ℕ) → (c ≡ 0 → ⊥) → Passed symbol_place c [] (first_from symbol_place c 8836 0 []) 85 1 Nowhere
+pub from_85 : (c : ℕ) → (c ≡ 0 → ⊥) → Passed symbol_place c [] (first_from symbol_place c 8836 0 []) 85 1 None
 unfolding symbol_place
 from_85 c h =
     record {

@@ -7,8 +7,6 @@ ghost use Rattle.addsym.specs.Symbols.{symbol};
 ghost use Rattle.tables.specs.Kanji.{place_value, table_at, kanji_at};
 ghost use Rattle.tables_reverse.specs.Reverse.{kanji_reverse, additional_reverse, place_of, kanji_place};
 
-use tables::Place;
-
 /// Whether one of the numbers is `c`. There is no early way out, so that several are compared at a time; so in
 /// `among_symbols`.
 fn among(cells: &[u16], c: u16) -> bool
@@ -84,15 +82,15 @@ fn is_no_symbol(c: u32) -> bool
 }
 
 /// The first cell in row order of rows 90 to 94 that `kanji` reads as `c`.
-fn kanji_symbol_reverse(c: u32) -> Place
+fn kanji_symbol_reverse(c: u32) -> Option<(u8, u8)>
     requires { c ≡ 0 → ⊥ }
     ensures { (t : List ℕ) → place_value result ≡ place_of (first_from kanji_place c 470 8366 (drop 8366 t)) }
 {
     if is_no_symbol(c) {
-        return Place::Nowhere;
+        return None;
     }
     let scalars = addsym::symbols();
-    let mut found = Place::Nowhere;
+    let mut found = None;
     let mut row: u8 = 90;
     'rows: while row < 95 {
         let mut cell: u8 = 1;
@@ -102,7 +100,7 @@ fn kanji_symbol_reverse(c: u32) -> Place
                 continue 'cells;
             }
             if addsym::symbol_in(&scalars, row, cell) == c {
-                found = Place::At(row, cell);
+                found = Some((row, cell));
                 break 'rows;
             }
             cell += 1;
@@ -113,13 +111,13 @@ fn kanji_symbol_reverse(c: u32) -> Place
 }
 
 /// The first cell in row order that `kanji` reads as `c`.
-pub fn kanji_reverse(t: &[u16], c: u32) -> Place
+pub fn kanji_reverse(t: &[u16], c: u32) -> Option<(u8, u8)>
     ensures { place_value result ≡ kanji_reverse t.now c }
 {
     if c == 0 {
-        return Place::Nowhere;
+        return None;
     }
-    let mut found = Place::Nowhere;
+    let mut found = None;
     let mut row: u8 = 1;
     'rows: loop {
         if row == 90 {
@@ -133,7 +131,7 @@ pub fn kanji_reverse(t: &[u16], c: u32) -> Place
         let mut cell: u8 = 1;
         'cells: while cell < 95 {
             if tables::kanji_at(t, row, cell) == c {
-                found = Place::At(row, cell);
+                found = Some((row, cell));
                 break 'rows;
             }
             cell += 1;
@@ -144,26 +142,26 @@ pub fn kanji_reverse(t: &[u16], c: u32) -> Place
 }
 
 /// The first cell in row order that `additional_symbols` reads as `c`. Rows 1 to 84 have none.
-pub fn additional_reverse(c: u32) -> Place
+pub fn additional_reverse(c: u32) -> Option<(u8, u8)>
     ensures { place_value result ≡ additional_reverse c }
 {
     if c == 0 {
-        return Place::Nowhere;
+        return None;
     }
     if is_no_symbol(c) {
-        return Place::Nowhere;
+        return None;
     }
     let scalars = addsym::symbols();
     if !among_symbols(&scalars, c) {
-        return Place::Nowhere;
+        return None;
     }
-    let mut found = Place::Nowhere;
+    let mut found = None;
     let mut row: u8 = 85;
     'rows: while row < 95 {
         let mut cell: u8 = 1;
         'cells: while cell < 95 {
             if addsym::symbol_in(&scalars, row, cell) == c {
-                found = Place::At(row, cell);
+                found = Some((row, cell));
                 break 'rows;
             }
             cell += 1;

@@ -11,6 +11,7 @@ use lib.Dec.{T, ltb, leb, eqb}
 use lib.ListN.{length, take}
 use Rattle.utf8.specs.declared.Sequence.{Sequence}
 use Rattle.utf8.specs.declared.Sequence.TheVariants.{Scalar, Fault, End}
+use Rattle.std.specs.Prelude.{Some, None}
 use Rattle.utf8.specs.Utf8.{is_scalar, utf8, trailing, low, high, is_second, is_trailing, two, three, four, sequence, scalar_of}
 use Rattle.utf8.proofs.Bytes.{Row, in1, in2, in3, in4, row, row1, row2, row3, row4}
 
@@ -415,23 +416,28 @@ sequence_not_end a l e = go (ltb a 0x80) (ltb a 0xC2) (ltb a 0xE0) (ltb a 0xF0) 
 
 -- ---- a sequence by its scalar
 
-pub scalar_of_lem : (l : List ℕ) (c : ℕ) → scalar_of (sequence l) ≡ c → (c ≡ 0x110000 → ⊥) → sequence l ≡ Scalar c (length (utf8 c))
-scalar_of_lem l c e h = go (sequence l) refl e
+pub scalar_of_lem : (l : List ℕ) (c : ℕ) → scalar_of (sequence l) ≡ Some c → sequence l ≡ Scalar c (length (utf8 c))
+scalar_of_lem l c e = go (sequence l) refl e
   where
-    go : (s : Sequence) → sequence l ≡ s → scalar_of s ≡ c → sequence l ≡ Scalar c (length (utf8 c))
-    go (Scalar x n) p q = p ∙ ap₂ Scalar q ((sequence_begins l x n p).count ∙ ap (λ (k : ℕ). length (utf8 k)) q)
-    go Fault p q = absurd (h (sym q))
-    go End p q = absurd (h (sym q))
+    go : (s : Sequence) → sequence l ≡ s → scalar_of s ≡ Some c → sequence l ≡ Scalar c (length (utf8 c))
+    go (Scalar x n) p q =
+        let r : x ≡ c = cc in
+        p ∙ ap₂ Scalar r ((sequence_begins l x n p).count ∙ ap (λ (k : ℕ). length (utf8 k)) r)
+    go Fault p q = let z : ◌≡◌ {A = ℕ} 0 1 = cc in absurd (omega arith)
+    go End p q = let z : ◌≡◌ {A = ℕ} 0 1 = cc in absurd (omega arith)
 
-pub fault_of : (l : List ℕ) → 1 ≤ length l → scalar_of (sequence l) ≡ 0x110000 → sequence l ≡ Fault
+pub fault_of : (l : List ℕ) → 1 ≤ length l → scalar_of (sequence l) ≡ None → sequence l ≡ Fault
 fault_of [] h e = absurd (omega arith)
 fault_of (a ∷ l) h e = go (sequence (a ∷ l)) refl e
   where
-    past : {x : ℕ} → x ≡ 0x110000 → (x < 0xD800) ⊎ ((0xE000 ≤ x) × (x < 0x110000)) → ⊥
-    past q (inl r) = omega arith
-    past q (inr r) = omega arith
-
-    go : (s : Sequence) → sequence (a ∷ l) ≡ s → scalar_of s ≡ 0x110000 → sequence (a ∷ l) ≡ Fault
-    go (Scalar x n) p q = absurd (past q (scalar_range x (sequence_begins (a ∷ l) x n p).scalar))
+    go : (s : Sequence) → sequence (a ∷ l) ≡ s → scalar_of s ≡ None → sequence (a ∷ l) ≡ Fault
+    go (Scalar x n) p q = let z : ◌≡◌ {A = ℕ} 0 1 = cc in absurd (omega arith)
     go Fault p q = p
     go End p q = absurd (sequence_not_end a l p)
+
+-- where the code read no scalar
+pub not_scalar : (l : List ℕ) (s : Sequence) → s ≡ sequence l → ((c n : ℕ) → s ≡ Scalar c n → ⊥) → 1 ≤ length l → sequence l ≡ Fault
+not_scalar l (Scalar c n) e h k = absurd (h c n refl)
+not_scalar l Fault e h k = sym e
+not_scalar [] End e h k = absurd (omega arith)
+not_scalar (a ∷ l) End e h k = absurd (sequence_not_end a l (sym e))

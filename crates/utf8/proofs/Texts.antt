@@ -2,7 +2,7 @@
 use mathlib.Core.Path.{◌≡◌, refl, sym, ap, ap₂, ◌∙◌, subst}
 use mathlib.Core.Bool.{Bool, true, false, ◌&&◌}
 use mathlib.Core.List.{List, [], ◌∷◌, ◌++◌}
-use Prim.Native.Nat.{ℕ, zero, suc, ◌+◌, ◌-◌, ◌≤◌, ◌<◌}
+use Prim.Native.Nat.{ℕ, zero, suc, ◌+◌, ◌-◌, ◌≤◌}
 use native.Mathlib.Nat.{add-zero}
 use native.Mathlib.Omega.{arith}
 use lib.Dec.{T}
@@ -10,7 +10,7 @@ use lib.ListN.{length, take, drop, take-append-drop, length-take, length-drop}
 use lib.Seq.{drop-nil, drop-append_seam, take-add, drop-drop}
 use Rattle.utf8.specs.declared.Sequence.{Sequence}
 use Rattle.utf8.specs.declared.Sequence.TheVariants.{Scalar, Fault, End}
-use Rattle.utf8.specs.declared.Text.TheVariants.{WellFormed, FaultAt}
+use Rattle.std.specs.Prelude.{Option, Some, None}
 use Rattle.utf8.specs.Utf8.{is_scalar, are_scalars, utf8, utf8s, sequence, fault_from, first_fault, scalars_from, scalars}
 use Rattle.utf8.proofs.Bytes.{length_utf8}
 use Rattle.utf8.proofs.Reading.{sequence_utf8, sequence_begins, sequence_not_end}
@@ -49,7 +49,7 @@ fault_next (x ∷ xs) i c n e = go n (sequence_least (x ∷ xs) c n e) e
         let f : i + 1 + m ≡ i + suc m = omega arith in
         rw (p, fault_from) (rw d (fault_skip xs (i + 1) m ∙ ap (λ (j : ℕ). fault_from j 0 (drop m xs)) f))
 
-pub fault_here : (l : List ℕ) (i : ℕ) → sequence l ≡ Fault → fault_from i 0 l ≡ FaultAt i
+pub fault_here : (l : List ℕ) (i : ℕ) → sequence l ≡ Fault → fault_from i 0 l ≡ Some i
 unfolding fault_from sequence
 fault_here [] i e = let z : ◌≡◌ {A = ℕ} 0 1 = cc in absurd (omega arith)
 fault_here (x ∷ xs) i e = rw (e, fault_from)
@@ -105,14 +105,14 @@ scalars_utf8s (c ∷ cs) t =
     scalars_next (utf8 c ++ utf8s cs) c (length (utf8 c)) (sequence_utf8 c (utf8s cs) (first c cs t))
     ∙ rw (drop-append_seam (utf8 c) (utf8s cs)) (ap (λ (r : List ℕ). c ∷ r) (scalars_utf8s cs (rest c cs t)))
 
-well_formed_from : (cs : List ℕ) (i : ℕ) → T (are_scalars cs) → fault_from i 0 (utf8s cs) ≡ WellFormed
+well_formed_from : (cs : List ℕ) (i : ℕ) → T (are_scalars cs) → fault_from i 0 (utf8s cs) ≡ None
 unfolding fault_from utf8s
 well_formed_from [] i t = refl
 well_formed_from (c ∷ cs) i t =
     fault_next (utf8 c ++ utf8s cs) i c (length (utf8 c)) (sequence_utf8 c (utf8s cs) (first c cs t))
     ∙ rw (drop-append_seam (utf8 c) (utf8s cs)) (well_formed_from cs (i + length (utf8 c)) (rest c cs t))
 
-pub well_formed : (cs : List ℕ) → T (are_scalars cs) → first_fault (utf8s cs) ≡ WellFormed
+pub well_formed : (cs : List ℕ) → T (are_scalars cs) → first_fault (utf8s cs) ≡ None
 unfolding first_fault
 well_formed cs t = well_formed_from cs 0 t
 
@@ -138,15 +138,15 @@ scalars_are t = scalars_are_from t 0
 joined : (l : List ℕ) (c n : ℕ) → sequence l ≡ Scalar c n → utf8 c ++ drop n l ≡ l
 joined l c n e = ap (λ (r : List ℕ). r ++ drop n l) (sym (sequence_begins l c n e).bytes) ∙ take-append-drop n l
 
-utf8s_scalars_from : (l : List ℕ) (i k : ℕ) → fault_from i k l ≡ WellFormed → utf8s (scalars_from k l) ≡ drop k l
+utf8s_scalars_from : (l : List ℕ) (i k : ℕ) → fault_from i k l ≡ None → utf8s (scalars_from k l) ≡ drop k l
 unfolding fault_from scalars_from utf8s
 utf8s_scalars_from [] i k e = sym (drop-nil k)
 utf8s_scalars_from (x ∷ xs) i (suc k) e = utf8s_scalars_from xs (i + 1) k e
 utf8s_scalars_from (x ∷ xs) i zero e = go (sequence (x ∷ xs)) refl e (utf8s_scalars_from xs (i + 1))
   where
     go : (s : Sequence) → sequence (x ∷ xs) ≡ s
-        → elim s [ Scalar c n ↦ fault_from (i + 1) (n - 1) xs | Fault ↦ FaultAt i | End ↦ FaultAt i ] ≡ WellFormed
-        → ((k : ℕ) → fault_from (i + 1) k xs ≡ WellFormed → utf8s (scalars_from k xs) ≡ drop k xs)
+        → ◌≡◌ {A = Option ℕ} (elim s [ Scalar c n ↦ fault_from (i + 1) (n - 1) xs | Fault ↦ Some i | End ↦ Some i ]) None
+        → ((k : ℕ) → fault_from (i + 1) k xs ≡ None → utf8s (scalars_from k xs) ≡ drop k xs)
         → utf8s (elim s [ Scalar c n ↦ c ∷ scalars_from (n - 1) xs | Fault ↦ [] | End ↦ [] ]) ≡ x ∷ xs
     go (Scalar c zero) p f ih = absurd (omega (arith, sequence_least (x ∷ xs) c zero p))
     go (Scalar c (suc n)) p f ih =
@@ -155,7 +155,7 @@ utf8s_scalars_from (x ∷ xs) i zero e = go (sequence (x ∷ xs)) refl e (utf8s_
     go Fault p f ih = let z : ◌≡◌ {A = ℕ} 0 1 = cc in absurd (omega arith)
     go End p f ih = let z : ◌≡◌ {A = ℕ} 0 1 = cc in absurd (omega arith)
 
-pub utf8s_scalars : (t : List ℕ) → first_fault t ≡ WellFormed → utf8s (scalars t) ≡ t
+pub utf8s_scalars : (t : List ℕ) → first_fault t ≡ None → utf8s (scalars t) ≡ t
 unfolding first_fault scalars
 utf8s_scalars t e = utf8s_scalars_from t 0 0 e
 
@@ -180,7 +180,7 @@ unfolding scalars utf8s
 cut_here [] e = record { before = refl; after = e }
 cut_here (x ∷ xs) e = record { before = rw (e, scalars_from); after = e }
 
-cut_from : (l : List ℕ) (i k j : ℕ) → fault_from i k l ≡ FaultAt j → (m : ℕ) × (j ≡ i + k + m) × Cut (drop k l) m
+cut_from : (l : List ℕ) (i k j : ℕ) → fault_from i k l ≡ Some j → (m : ℕ) × (j ≡ i + k + m) × Cut (drop k l) m
 unfolding fault_from
 cut_from [] i k j e = let z : ◌≡◌ {A = ℕ} 0 1 = cc in absurd (omega arith)
 cut_from (x ∷ xs) i (suc k) j e =
@@ -189,8 +189,8 @@ cut_from (x ∷ xs) i (suc k) j e =
 cut_from (x ∷ xs) i zero j e = go (sequence (x ∷ xs)) refl e (λ n. cut_from xs (i + 1) n j)
   where
     go : (s : Sequence) → sequence (x ∷ xs) ≡ s
-        → elim s [ Scalar c n ↦ fault_from (i + 1) (n - 1) xs | Fault ↦ FaultAt i | End ↦ FaultAt i ] ≡ FaultAt j
-        → ((k : ℕ) → fault_from (i + 1) k xs ≡ FaultAt j → (m : ℕ) × (j ≡ i + 1 + k + m) × Cut (drop k xs) m)
+        → ◌≡◌ {A = Option ℕ} (elim s [ Scalar c n ↦ fault_from (i + 1) (n - 1) xs | Fault ↦ Some i | End ↦ Some i ]) (Some j)
+        → ((k : ℕ) → fault_from (i + 1) k xs ≡ Some j → (m : ℕ) × (j ≡ i + 1 + k + m) × Cut (drop k xs) m)
         → (m : ℕ) × (j ≡ i + 0 + m) × Cut (x ∷ xs) m
     go (Scalar c zero) p f ih = absurd (omega (arith, sequence_least (x ∷ xs) c zero p))
     go (Scalar c (suc n)) p f ih =
@@ -202,7 +202,7 @@ cut_from (x ∷ xs) i zero j e = go (sequence (x ∷ xs)) refl e (λ n. cut_from
         (0, omega arith, cut_here (x ∷ xs) p)
     go End p f ih = absurd (sequence_not_end x xs p)
 
-pub fault_cut : (t : List ℕ) (j : ℕ) → first_fault t ≡ FaultAt j → Cut t j
+pub fault_cut : (t : List ℕ) (j : ℕ) → first_fault t ≡ Some j → Cut t j
 unfolding first_fault
 fault_cut t j e =
     let r = cut_from t 0 0 j e in
@@ -216,7 +216,7 @@ pub record Turn (t : List ℕ) (at n : ℕ) : Type 0 where
   pub within : at + n ≤ length t
   pub fault : fault_from at 0 (drop at t) ≡ fault_from (at + n) 0 (drop (at + n) t)
 
-pub turn : (t : List ℕ) (at c n : ℕ) → at < length t → sequence (drop at t) ≡ Scalar c n → Turn t at n
+pub turn : (t : List ℕ) (at c n : ℕ) → at ≤ length t → sequence (drop at t) ≡ Scalar c n → Turn t at n
 turn t at c n h e =
     record {
       least = sequence_least (drop at t) c n e;

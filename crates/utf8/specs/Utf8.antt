@@ -1,11 +1,9 @@
 -- UTF-8 as the Unicode Standard, chapter 3, defines it: Table 3-6, the distribution of a scalar's bits over its bytes, and
 -- Table 3-7, the well-formed byte sequences. A text is the list of its bytes, and a scalar is a number.
-use Rattle.std.specs.Prelude.{ℕ, zero, suc, ◌+◌, ◌-◌, ◌*◌, ◌/◌, ◌%◌, ◌≡◌, Bool, true, cond, ◌&&◌, ◌||◌, List, [], ◌∷◌, ◌++◌, eqb, ltb, leb, length}
+use Rattle.std.specs.Prelude.{ℕ, zero, suc, ◌+◌, ◌-◌, ◌*◌, ◌/◌, ◌%◌, ◌≡◌, Bool, true, cond, ◌&&◌, ◌||◌, List, [], ◌∷◌, ◌++◌, eqb, ltb, leb, length, Option, Some, None}
 use Rattle.std.proofs.lemmas.List.Edits.{sets}
 use Rattle.utf8.specs.declared.Sequence.{Sequence}
 use Rattle.utf8.specs.declared.Sequence.TheVariants.{Scalar, Fault, End}
-use Rattle.utf8.specs.declared.Text.{Text}
-use Rattle.utf8.specs.declared.Text.TheVariants.{WellFormed, FaultAt}
 
 -- D76: a Unicode scalar value is 0 to D7FF or E000 to 10FFFF, Rust's `char`
 unfoldable pub is_scalar : ℕ → Bool
@@ -86,23 +84,23 @@ sequence (a ∷ l) =
     (cond (ltb a 0xF0) (three a l)
     (cond (ltb a 0xF5) (four a l) Fault))))
 
--- its scalar, or 110000, one past the last, where there is none
-abbrev pub scalar_of : Sequence → ℕ
-scalar_of (Scalar c n) = c
-scalar_of Fault = 0x110000
-scalar_of End = 0x110000
+-- its scalar, if there is one
+abbrev pub scalar_of : Sequence → Option ℕ
+scalar_of (Scalar c n) = Some c
+scalar_of Fault = None
+scalar_of End = None
 
 -- ---- a text
 
 -- the first fault of a list whose first byte stands at the place i, k bytes being passed over
-unfoldable pub fault_from : ℕ → ℕ → List ℕ → Text
+unfoldable pub fault_from : ℕ → ℕ → List ℕ → Option ℕ
 unfolding sequence
-fault_from i k [] = WellFormed
+fault_from i k [] = None
 fault_from i (suc k) (x ∷ xs) = fault_from (i + 1) k xs
-fault_from i zero (x ∷ xs) = elim (sequence (x ∷ xs)) [ Scalar c n ↦ fault_from (i + 1) (n - 1) xs | Fault ↦ FaultAt i | End ↦ FaultAt i ]
+fault_from i zero (x ∷ xs) = elim (sequence (x ∷ xs)) [ Scalar c n ↦ fault_from (i + 1) (n - 1) xs | Fault ↦ Some i | End ↦ Some i ]
 
--- the place where the first ill-formed sequence begins, Rust's `valid_up_to`, or that there is none
-unfoldable pub first_fault : List ℕ → Text
+-- the place where the first ill-formed sequence begins, Rust's `valid_up_to`, if there is one
+unfoldable pub first_fault : List ℕ → Option ℕ
 unfolding fault_from
 first_fault t = fault_from 0 0 t
 

@@ -1,5 +1,5 @@
 -- `encode_backtrack::first_of` meets its contract: the loop's invariant: no node before the i-th has the cost. Assumes nothing.
-use mathlib.Core.Path.{sym, ap, ◌∙◌}
+use mathlib.Core.Path.{◌≡◌, sym, ap, ◌∙◌}
 use native.Mathlib.Nat.{zero-add}
 use native.Mathlib.Omega.{arith}
 use Rattle.coding.specs.Search.{Node}
@@ -8,50 +8,24 @@ use Rattle.encode_backtrack.proofs.Nodes.{length_layer, at_layer, passed_on, pas
 use Rattle.encode_backtrack.proofs.first_of.Goals as goal
 
 pub loop-i-init : goal.loop-i-init
-loop-i-init c = (omega arith, λ cs. sym (zero-add _))
-
-pub overflow_add-from : goal.overflow_add-from
-overflow_add-from c = omega (arith, c.well_formed)
-
-pub overflow_mul-from : goal.overflow_mul-from
-overflow_mul-from c = omega (arith, c.well_formed)
-
-pub overflow_add-from-in-loop-i : goal.overflow_add-from-in-loop-i
-overflow_add-from-in-loop-i c = omega (arith, c.well_formed)
-
-pub offset_bounds-store-from : goal.offset_bounds-store-from
-offset_bounds-store-from c = omega (arith, c.well_formed)
-
-pub bounds-store-from : goal.bounds-store-from
-bounds-store-from c = omega (arith, c.well_formed)
+loop-i-init c = λ cs. sym (zero-add _)
 
 pub returns-then-store-from : goal.returns-then-store-from
 unfolding node_of
 returns-then-store-from c =
     λ cs. passed_here _ _ c.loop-i.i (omega (arith, length_layer c.args.store.now c.args.from c.args.count c.requires cs))
     (ap (λ (n : Node). n.cost) (at_layer c.args.store.now c.args.from c.args.count c.requires cs c.loop-i.i
-    c.loop-i-test.true) ∙ c.if-store-from.true) (c.loop-i.invariant.1 cs)
-
-pub overflow_add-i : goal.overflow_add-i
-overflow_add-i c = omega (arith, c.well_formed)
-
-pub loop-i-smaller : goal.loop-i-smaller
-loop-i-smaller c = omega (arith, c.well_formed)
+    c.loop-i-test.true) ∙ c.if-store-from.true) (c.loop-i.invariant cs)
 
 pub loop-i-preserved : goal.loop-i-preserved
 unfolding node_of
-loop-i-preserved c = (
-  omega arith,
-  λ cs. passed_on _ _ c.loop-i.i (omega
-      (arith, length_layer c.args.store.now c.args.from c.args.count c.requires cs))
-      (λ e. c.if-store-from.false (sym (ap (λ (n : Node). n.cost) (at_layer c.args.store.now c.args.from c.args.count c.requires cs
-      c.loop-i.i c.loop-i-test.true)) ∙ e)) (c.loop-i.invariant.1 cs),
-)
+loop-i-preserved c =
+    λ cs. passed_on _ _ c.loop-i.i (omega (arith, length_layer c.args.store.now c.args.from c.args.count c.requires cs))
+    (λ e. c.if-store-from.false (sym (ap (λ (n : Node). n.cost) (at_layer c.args.store.now c.args.from c.args.count c.requires cs
+    c.loop-i.i c.loop-i-test.true)) ∙ e)) (c.loop-i.invariant cs)
 
 pub returns : goal.returns
 returns c =
-    λ cs. passed_all _ _ c.loop-i.i (omega (
-      arith,
-      length_layer c.args.store.now c.args.from
-          c.args.count c.requires cs,
-    )) (c.loop-i.invariant.1 cs)
+    λ cs.
+    let e : c.loop-i.i ≡ c.args.count = omega arith in
+    rw e at (passed_all _ _ c.loop-i.i (omega (arith, length_layer c.args.store.now c.args.from c.args.count c.requires cs)) (c.loop-i.invariant cs))

@@ -1,9 +1,7 @@
 -- `encode_backtrack::write_back` meets its contract: the loop's invariant: what is behind the k-th character is written, and k characters lead to the node at the number p.
 -- Assumes nothing.
 use Prim.Native.Nat.{◌≤◌}
-use mathlib.Core.Path.{◌≡◌}
 use mathlib.Core.List.{[]}
-use lib.ListN.{length}
 use Rattle.coding.specs.Search.{begin, run, back}
 use Rattle.encode_backtrack.specs.Promises.{Searched}
 use Rattle.encode_backtrack.proofs.Trail.{Going}
@@ -11,8 +9,5 @@ use Rattle.encode_backtrack.proofs.write_back.Given as goal
 
 abbrev pub invariant-loop-k : goal.invariant-loop-k
 invariant-loop-k l =
-    (l.k ≤ l.goal.count) × (l.to ≤ 4294967295) × (length l.coding ≡ length l.initial.coding) × ((f : Searched l.goal.annex l.chars l.kanji l.symbols l.goal.count l.store l.goal.node l.goal.length) →
+    (l.to ≤ 4294967295) × ((f : Searched l.goal.annex l.characters l.store l.goal.node l.goal.length) →
     Going f.css l.store l.k l.p l.to l.initial.coding l.coding (back (run f.css (begin f.initial)).layers f.place []))
-
-abbrev pub decreases-loop-k : goal.decreases-loop-k
-decreases-loop-k l = l.k

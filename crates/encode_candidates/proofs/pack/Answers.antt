@@ -1,14 +1,15 @@
 -- `encode_candidates::pack` meets its contract. Assumes nothing.
 use mathlib.Core.Path.{sym, ap}
+use Prim.Native.Nat.{ℕ}
+use Rattle.std.specs.Prelude.{Option}
 use Rattle.tables.specs.Kanji.{place_value}
-use Rattle.tables.specs.declared.Place.{Place}
 use Rattle.encode_candidates.specs.Packed.{packed}
 use Rattle.encode_candidates.proofs.pack.Goals as goal
 
-pub returns-in-At : goal.returns-in-At
+pub returns-in-Some : goal.returns-in-Some
 unfolding packed
-returns-in-At c = ap (λ (p : Place). packed (place_value p)) (sym c.in-At.is)
+returns-in-Some c = ap (λ (p : Option (ℕ × ℕ)). packed (place_value p)) (sym c.in-Some.is)
 
-pub returns-in-Nowhere : goal.returns-in-Nowhere
+pub returns-in-None : goal.returns-in-None
 unfolding packed
-returns-in-Nowhere c = ap (λ (p : Place). packed (place_value p)) (sym c.in-Nowhere.is)
+returns-in-None c = ap (λ (p : Option (ℕ × ℕ)). packed (place_value p)) (sym c.in-None.is)

@@ -1,5 +1,5 @@
 -- `encode_candidates::with_space` meets its contract. Assumes nothing.
-use mathlib.Core.Path.{◌≡◌}
+use mathlib.Core.Path.{◌≡◌, ap, ◌∙◌}
 use mathlib.Core.Bool.{Bool, true, false, cond}
 use mathlib.Core.List.{List, [], ◌∷◌, ◌++◌}
 use Prim.Native.Nat.{ℕ}
@@ -8,9 +8,10 @@ use borrow.Author.Tests.{ne_eqb}
 use Rattle.control.specs.Codes.{SP}
 use Rattle.coding.specs.Candidates.{narrow, wide, Cand, plain}
 use Rattle.base.specs.Lists.{when}
-use Rattle.encode_candidates.specs.Packed.{cand_of}
-use Rattle.encode_candidates.proofs.Adding.{likewise, none_more}
+use Rattle.encode_candidates.specs.Packed.{size_of}
+use Rattle.encode_candidates.proofs.Adding.{likewise, one_more, none_more}
 use Rattle.encode_candidates.proofs.with_space.Goals as goal
+use Rattle.encode_candidates.proofs.with_space.Goals.{else-not-annex-via-then-not-annex+else-c-eq12288, else-not-annex-via-else-not-annex}
 
 abbrev spaces : ℕ → Bool → List Cand
 spaces c annex = when (eqb c 0x20) (plain SP narrow) ++ cond annex [] (when (eqb c 0x3000) (plain SP wide))
@@ -29,18 +30,21 @@ no-space : (c : ℕ) (annex : Bool) → (c ≡ 0x20 → ⊥) → annex ≡ false
 no-space c annex n a m = rw (ne_eqb c 0x20 n, a, ne_eqb c 0x3000 m)
 
 pub returns-then-c-eq32 : goal.returns-then-c-eq32
-unfolding cand_of
-returns-then-c-eq32 c = likewise c.with.ensures (narrow_space c.args.c c.args.annex c.if-c-eq32.true)
-
-pub returns-then-annex : goal.returns-then-annex
-returns-then-annex c =
-    likewise (none_more c.args.k 1 c.requires.under_construction) (in-annex c.args.c c.args.annex c.if-c-eq32.false c.if-annex.true)
+unfolding size_of
+returns-then-c-eq32 c =
+    likewise (one_more _ _ _ c.push.ensures.items)
+    (ap (λ (y : Cand). y ∷ []) c.without_set.ensures ∙ narrow_space c.args.c c.args.annex c.if-c-eq32.true)
 
 pub returns-then-c-eq12288 : goal.returns-then-c-eq12288
-unfolding cand_of
+unfolding size_of
 returns-then-c-eq12288 c =
-    likewise c.with-then-c-eq12288.ensures (wide_space c.args.c c.args.annex c.if-annex.false c.if-c-eq12288.true)
+    likewise (one_more _ _ _ c.push-then-c-eq12288.ensures.items)
+    (ap (λ (y : Cand). y ∷ []) c.without_set-then-c-eq12288.ensures ∙ wide_space c.args.c c.args.annex c.if-not-annex.true c.if-c-eq12288.true)
 
-pub returns : goal.returns
-returns c =
-    likewise (none_more c.args.k 1 c.requires.under_construction) (no-space c.args.c c.args.annex c.if-c-eq32.false c.if-annex.false c.if-c-eq12288.false)
+pub returns-else-not-annex : goal.returns-else-not-annex
+returns-else-not-annex c =
+    elim c.else-not-annex.branch [
+      | else-not-annex-via-then-not-annex+else-c-eq12288 w ↦
+          likewise (none_more _ 1) (no-space c.args.c c.args.annex c.if-c-eq32.false w.if-not-annex.true w.if-c-eq12288.false)
+      | else-not-annex-via-else-not-annex w ↦ likewise (none_more _ 1) (in-annex c.args.c c.args.annex c.if-c-eq32.false w.if-not-annex.false)
+    ]

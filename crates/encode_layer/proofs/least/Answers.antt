@@ -8,24 +8,6 @@ use Rattle.encode_layer.proofs.least.Goals as goal
 pub returns-then-count-eq0 : goal.returns-then-count-eq0
 returns-then-count-eq0 c = least_none c.args.store.now c.args.from c.args.count c.requires c.if-count-eq0.true
 
-pub overflow_sub-i : goal.overflow_sub-i
-overflow_sub-i c = omega arith
-
-pub overflow_add-best : goal.overflow_add-best
-overflow_add-best c = omega arith
-
-pub overflow_mul-best : goal.overflow_mul-best
-overflow_mul-best c = omega arith
-
-pub overflow_add-best-2 : goal.overflow_add-best-2
-overflow_add-best-2 c = omega arith
-
-pub offset_bounds-store-from : goal.offset_bounds-store-from
-offset_bounds-store-from c = omega arith
-
-pub bounds-store-from : goal.bounds-store-from
-bounds-store-from c = omega arith
-
 pub loop-i-init : goal.loop-i-init
 loop-i-init c = (
   omega arith,
@@ -33,36 +15,12 @@ loop-i-init c = (
       (c.args.count - 1) (omega arith),
 )
 
-pub overflow_sub-i-in-loop-i : goal.overflow_sub-i-in-loop-i
-overflow_sub-i-in-loop-i c = omega arith
-
-pub overflow_add-cost : goal.overflow_add-cost
-overflow_add-cost c = omega arith
-
-pub overflow_mul-cost : goal.overflow_mul-cost
-overflow_mul-cost c = omega arith
-
-pub overflow_add-cost-in-loop-i : goal.overflow_add-cost-in-loop-i
-overflow_add-cost-in-loop-i c = omega arith
-
-pub offset_bounds-store-from-in-loop-i : goal.offset_bounds-store-from-in-loop-i
-offset_bounds-store-from-in-loop-i c = omega arith
-
-pub bounds-store-from-in-loop-i : goal.bounds-store-from-in-loop-i
-bounds-store-from-in-loop-i c = omega arith
-
-pub loop-i-smaller-then-cost-best : goal.loop-i-smaller-then-cost-best
-loop-i-smaller-then-cost-best c = omega arith
-
 pub loop-i-preserved-then-cost-best : goal.loop-i-preserved-then-cost-best
 loop-i-preserved-then-cost-best c = (
   omega arith,
   least_less c.args.store.now c.args.from c.args.count c.requires c.loop-i.i (c.loop-i.i - 1)
       c.loop-i.best (omega arith) c.loop-i.invariant.0 c.loop-i.invariant.1 c.if-cost-best.true,
 )
-
-pub loop-i-smaller : goal.loop-i-smaller
-loop-i-smaller c = omega arith
 
 pub loop-i-preserved : goal.loop-i-preserved
 loop-i-preserved c = (

@@ -10,6 +10,3 @@ use Rattle.encode_layer.proofs.least.Given as goal
 
 abbrev pub invariant-loop-i : goal.invariant-loop-i
 invariant-loop-i l = (l.i < l.count) × ((cs : List Cand) → l.best ≡ least (drop l.i (layer_of cs l.store l.from l.count)))
-
-abbrev pub decreases-loop-i : goal.decreases-loop-i
-decreases-loop-i l = l.i

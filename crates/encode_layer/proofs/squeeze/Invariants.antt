@@ -1,10 +1,6 @@
 -- `encode_layer::squeeze` meets its contract: a node a turn. Assumes nothing.
-use Prim.Native.Nat.{◌-◌}
 use Rattle.encode_layer.proofs.Squeezing.{Going}
 use Rattle.encode_layer.proofs.squeeze.Given as goal
 
 abbrev pub invariant-loop-i : goal.invariant-loop-i
 invariant-loop-i l = Going l.initial.store l.store l.count l.before l.i
-
-abbrev pub decreases-loop-i : goal.decreases-loop-i
-decreases-loop-i l = l.count - l.i

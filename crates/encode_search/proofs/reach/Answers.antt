@@ -11,83 +11,40 @@ use Rattle.encode_search.proofs.reach.Goals as goal
 pub loop-i-init : goal.loop-i-init
 loop-i-init c =
     let a = c.args in (
-      omega arith,
-      refl,
       refl,
       λ cs cs₀ b most m x h. reach_none cs a.pcount a.cap a.buckets most a.store.now (layer_of cs₀ a.store.now 0 a.pcount),
     )
 
-pub overflow_mul-a : goal.overflow_mul-a
-overflow_mul-a c = omega arith
-
-pub offset_bounds-store-i : goal.offset_bounds-store-i
-offset_bounds-store-i c = omega arith
-
-pub bounds-store-i : goal.bounds-store-i
-bounds-store-i c = omega arith
-
-pub overflow_mul-cost : goal.overflow_mul-cost
-overflow_mul-cost c = omega arith
-
-pub overflow_add-cost : goal.overflow_add-cost
-overflow_add-cost c = omega arith
-
-pub offset_bounds-store-i-in-loop-i : goal.offset_bounds-store-i-in-loop-i
-offset_bounds-store-i-in-loop-i c = omega arith
-
-pub bounds-store-i-in-loop-i : goal.bounds-store-i-in-loop-i
-bounds-store-i-in-loop-i c = omega arith
-
-pub overflow_cast-i : goal.overflow_cast-i
-overflow_cast-i c = omega arith
-
 pub by_candidates-count-requires : goal.by_candidates-count-requires
 by_candidates-count-requires c =
-    let q = sound_at c.args.store.now c.loop-i.store c.args.pcount c.loop-i.i (omega arith) c.loop-i.invariant.1 c.loop-i.invariant.2
-    (omega arith) 65535 c.requires.7 in (
-      record { store = omega arith; few = c.requires.1; some = c.requires.4 (omega arith); heads = c.requires.3; small = c.requires.5 },
-      q.proper,
-      q.cheap,
-      omega arith,
-      c.requires.6,
-      c.requires.8,
-    )
-
-pub overflow_add-i : goal.overflow_add-i
-overflow_add-i c = omega arith
-
-pub loop-i-smaller : goal.loop-i-smaller
-loop-i-smaller c = omega arith
+    let q = sound_at c.args.store.now c.loop-i.store c.args.pcount c.loop-i.i (omega arith) c.loop-i.auto.store c.loop-i.invariant.0
+    (omega arith) 65535 c.requires.7 in
+    (omega arith, q.proper, q.cheap, omega arith, c.requires.6)
 
 pub loop-i-preserved : goal.loop-i-preserved
 loop-i-preserved c =
     let a = c.args in
     let i = c.loop-i.i in
     let q = c.by_candidates-count.ensures in (
-      omega arith,
-      omega arith,
-      q.kept ∙ c.loop-i.invariant.2,
+      q.kept ∙ c.loop-i.invariant.0,
       λ cs cs₀ b most m x h.
           let l = length_layer cs₀ a.store.now 0 a.pcount (omega arith) in
-          let s = sound_at c.args.store.now c.loop-i.store c.args.pcount c.loop-i.i (omega arith) c.loop-i.invariant.1 c.loop-i.invariant.2
+          let s = sound_at c.args.store.now c.loop-i.store c.args.pcount c.loop-i.i (omega arith) c.loop-i.auto.store c.loop-i.invariant.0
           (omega arith) b x in
           subst (Represents cs (bounds a.pcount a.cap a.buckets most) _ _) (reach_more cs (layer_of cs₀ a.store.now 0 a.pcount) i (node_of cs₀ blank) (omega arith))
-          ((q.reached cs most (node_at c.args.store.now c.loop-i.store c.args.pcount c.loop-i.i (omega arith) c.loop-i.invariant.1
-          c.loop-i.invariant.2 (omega arith) cs₀) m
-          (is_node c.args.store.now c.loop-i.store c.args.pcount c.loop-i.i (omega arith) c.loop-i.invariant.1 c.loop-i.invariant.2 (omega arith) cs₀)
-          (omega (arith, s.cheap))).stands _ (c.loop-i.invariant.3 cs cs₀ b most m x h)),
+          ((q.reached cs most (node_at c.args.store.now c.loop-i.store c.args.pcount c.loop-i.i (omega arith) c.loop-i.auto.store
+          c.loop-i.invariant.0 (omega arith) cs₀) m
+          (is_node c.args.store.now c.loop-i.store c.args.pcount c.loop-i.i (omega arith) c.loop-i.auto.store c.loop-i.invariant.0 (omega arith) cs₀)
+          (omega (arith, s.cheap))).stands _ (c.loop-i.invariant.1 cs cs₀ b most m x h)),
     )
-
-pub shape_of-store : goal.shape_of-store
-shape_of-store c = c.loop-i.invariant.1
 
 pub returns : goal.returns
 returns c =
     let a = c.args in
     record {
-      before = c.loop-i.invariant.2;
+      before = c.loop-i.invariant.0;
       stands = λ cs cs₀ b most m x h.
           let l = length_layer cs₀ a.store.now 0 a.pcount (omega arith) in
           subst (Represents cs (bounds a.pcount a.cap a.buckets most) _ _) (reach_all cs (layer_of cs₀ a.store.now 0 a.pcount) c.loop-i.i (omega arith))
-          (c.loop-i.invariant.3 cs cs₀ b most m x h);
+          (c.loop-i.invariant.1 cs cs₀ b most m x h);
     }

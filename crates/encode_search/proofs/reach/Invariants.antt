@@ -13,9 +13,6 @@ use Rattle.encode_search.proofs.reach.Given as goal
 
 abbrev pub invariant-loop-i : goal.invariant-loop-i
 invariant-loop-i l =
-    (l.i ≤ l.pcount) × (length l.store ≡ length l.initial.store) × (entries_of l.store 0 l.pcount ≡ entries_of l.initial.store 0 l.pcount) ×
-    ((cs cs₀ : List Cand) (b most : ℕ) → MatchAll cs l.m l.sets l.codes l.sizes → All (Sound b) (entries_of l.initial.store 0 l.pcount) → b + 9 ≤ most →
+    (entries_of l.store 0 l.pcount ≡ entries_of l.initial.store 0 l.pcount) ×
+    ((cs cs₀ : List Cand) (b most : ℕ) → MatchAll cs l.candidates → All (Sound b) (entries_of l.initial.store 0 l.pcount) → b + 9 ≤ most →
     Represents cs (bounds l.pcount l.cap l.buckets most) l.store l.count (reach cs (take l.i (layer_of cs₀ l.initial.store 0 l.pcount)) 0 []))
-
-abbrev pub decreases-loop-i : goal.decreases-loop-i
-decreases-loop-i l = l.pcount - l.i

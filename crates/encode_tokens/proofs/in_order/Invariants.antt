@@ -5,9 +5,7 @@ use Rattle.encode_tokens.proofs.Pass.{Loop}
 use Rattle.encode_tokens.proofs.in_order.Given as goal
 
 abbrev pub invariant-loop-c : goal.invariant-loop-c
-invariant-loop-c l =
-    Loop l.t l.annex l.text l.initial.chars l.initial.kanji l.initial.symbols l.chars l.kanji l.symbols l.base l.base_at l.at l.count l.rest
+invariant-loop-c l = Loop l.t l.annex l.text l.initial.characters l.characters l.base l.at l.count l.rest
 
 abbrev pub decreases-loop-c : goal.decreases-loop-c
-decreases-loop-c l =
-    length l.text - l.at
+decreases-loop-c l = length l.text - l.at

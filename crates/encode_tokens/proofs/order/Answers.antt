@@ -7,9 +7,9 @@ use Rattle.encode_tokens.proofs.order.Goals as goal
 pub returns-then-is_non_spacing : goal.returns-then-is_non_spacing
 returns-then-is_non_spacing c =
     let g = c.args in
-    record { ordered = λ ts. mark_first (token g.base_at g.base) g.at g.c ts (tested g.c c.is_non_spacing.ensures c.if-is_non_spacing.true) }
+    record { ordered = λ ts. mark_first (token g.base) g.next.place g.next.char ts (tested g.next.char c.is_non_spacing.ensures c.if-is_non_spacing.true) }
 
 pub returns : goal.returns
 returns c =
     let g = c.args in
-    record { ordered = λ ts. base_first (token g.base_at g.base) g.at g.c ts (tested g.c c.is_non_spacing.ensures c.if-is_non_spacing.false) }
+    record { ordered = λ ts. base_first (token g.base) g.next.place g.next.char ts (tested g.next.char c.is_non_spacing.ensures c.if-is_non_spacing.false) }

@@ -13,27 +13,16 @@ use Rattle.encode_ways.proofs.by_element.Goals.{then-set_in-x, else-set_in-x}
 
 pub overflow_add-more : goal.overflow_add-more
 overflow_add-more c =
-    omega (arith, c.designation_length.ensures, designation_most c.args.x c.args.n c.requires.5)
+    omega (arith, c.designation_length-more.ensures, designation_most c.args.x c.args.n c.requires.4)
 
 pub through-requires : goal.through-requires
 through-requires c =
     let a = c.args in
-    let q = c.designate-b.ensures.is in
     let g : Sized c.if-set_in-x.more c.if-set_in-x.k =
     elim c.if-set_in-x.branch [
-      | then-set_in-x z ↦ record { cost_small = omega (arith, z.designation_length.ensures, designation_most a.x a.n c.requires.5); link_small = omega arith }
+      | then-set_in-x z ↦ record { cost_small = omega (arith, z.designation_length-more.ensures, designation_most a.x a.n c.requires.4); link_small = omega arith }
       | else-set_in-x z ↦ record { cost_small = omega arith; link_small = omega arith }
-    ] in (
-      record { store = omega arith; few = c.requires.0.few; some = c.requires.0.some; heads = c.requires.0.heads; small = c.requires.0.small },
-      c.designate-b.ensures.proper,
-      record {
-        left = c.requires.2.left ∙ sym (ap (λ (s : State). s.gl) q ∙ same_gl (unpack a.a) a.n (set_of a.x));
-        right = c.requires.2.right ∙
-            sym (ap (λ (s : State). s.gr) q ∙ same_gr (unpack a.a) a.n (set_of a.x));
-      },
-      g,
-      c.requires.4,
-    )
+    ] in (omega arith, c.designate.ensures.proper, g, c.requires.3)
 
 pub returns : goal.returns
 returns c =
@@ -41,11 +30,11 @@ returns c =
     λ cs most t w h.
     elim c.if-set_in-x.branch [
       | then-set_in-x z ↦
-          element_designated t (unpack a.a) a.n c.set_in.result a.x c.designate-b.result c.set_in.ensures c.designate-b.ensures.is z.if-set_in-x.true
+          element_designated t (unpack a.entry.state) a.n c.set_in.result a.x c.designate.result c.set_in.ensures c.designate.ensures.is z.if-set_in-x.true
           (c.through.ensures cs most t (designation (set_of a.x) a.n)
-          (rw (z.more-is, z.k-is) (through_designated cs t a.x a.cost a.link w a.n z.designation_length.result c.requires.4 z.designation_length.ensures))
-          (omega (arith, z.more-is, z.designation_length.ensures, designation_most a.x a.n c.requires.5)))
+          (rw (z.more-is, z.k-is) (through_designated cs t a.x a.entry.cost a.entry.link w a.n z.designation_length-more.result c.requires.3 z.designation_length-more.ensures))
+          (omega (arith, z.more-is, z.designation_length-more.ensures, designation_most a.x a.n c.requires.4)))
       | else-set_in-x z ↦
-          element_standing t (unpack a.a) a.n c.set_in.result a.x c.designate-b.result c.set_in.ensures c.designate-b.ensures.is z.if-set_in-x.false
-          (c.through.ensures cs most t [] (rw (z.more-is, z.k-is) (through_standing cs t a.x a.cost a.link w a.n c.requires.4)) (omega (arith, z.more-is)))
+          element_standing t (unpack a.entry.state) a.n c.set_in.result a.x c.designate.result c.set_in.ensures c.designate.ensures.is z.if-set_in-x.false
+          (c.through.ensures cs most t [] (rw (z.more-is, z.k-is) (through_standing cs t a.x a.entry.cost a.entry.link w a.n c.requires.3)) (omega (arith, z.more-is)))
     ]

@@ -1,7 +1,7 @@
 -- `encode_ways::by_elements` meets its contract: pushes the ways through each code element.
 use mathlib.Core.Path.{◌≡◌}
 use mathlib.Core.List.{List}
-use Prim.Native.Nat.{ℕ, ◌+◌, ◌-◌, ◌≤◌}
+use Prim.Native.Nat.{ℕ, ◌+◌, ◌≤◌}
 use lib.ListN.{length}
 use Rattle.coding.specs.Candidates.{Cand}
 use Rattle.coding.specs.Search.{by_ways}
@@ -12,9 +12,6 @@ use Rattle.encode_ways.proofs.by_elements.Given as goal
 
 abbrev pub invariant-loop-n : goal.invariant-loop-n
 invariant-loop-n l =
-    (l.n ≤ 4) × (length l.store ≡ length l.initial.store) ×
-    ((cs : List Cand) (most : ℕ) (t : Turn) → By cs t l.x l.cost l.link → l.cost + 6 ≤ most →
-    Pushes cs (bounds l.from l.cap l.buckets most) l.initial.store l.count l.store l.c (by_ways t.base t.place t.pre t.code (up_to (unpack l.a) (set_of l.x) l.n)))
-
-abbrev pub decreases-loop-n : goal.decreases-loop-n
-decreases-loop-n l = 4 - l.n
+    (length l.store ≡ length l.initial.store) ×
+    ((cs : List Cand) (most : ℕ) (t : Turn) → By cs t l.x l.entry.cost l.entry.link → l.entry.cost + 6 ≤ most →
+    Pushes cs (bounds l.part.from l.part.cap l.part.buckets most) l.initial.store l.count l.store l.c (by_ways t.base t.place t.pre t.code (up_to (unpack l.entry.state) (set_of l.x) l.n)))

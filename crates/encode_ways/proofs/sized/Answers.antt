@@ -1,14 +1,17 @@
 -- `encode_ways::sized` meets its contract: the state after a size control.
-use Rattle.encode_ways.proofs.Choosing.{any_size, to_narrow, to_wide}
+use mathlib.Core.Path.{refl}
+use Rattle.coding.specs.Search.{sized}
+use Rattle.encode_candidates.specs.Packed.{size_of}
 use Rattle.encode_ways.proofs.sized.Goals as goal
 
-pub returns-then-size-eq0 : goal.returns-then-size-eq0
-returns-then-size-eq0 c = any_size c.args.a c.args.size c.requires c.if-size-eq0.true
+pub returns-in-Either : goal.returns-in-Either
+unfolding size_of sized
+returns-in-Either c = record { proper = c.requires; is = rw c.in-Either.is refl }
 
-pub returns-then-size-eq1 : goal.returns-then-size-eq1
-returns-then-size-eq1 c =
-    to_narrow c.args.a c.resize.result c.args.size c.if-size-eq1.true c.resize.ensures
+pub returns-in-Narrow : goal.returns-in-Narrow
+unfolding size_of sized
+returns-in-Narrow c = rw c.in-Narrow.is c.resize.ensures
 
-pub returns : goal.returns
-returns c =
-    to_wide c.args.a c.resize-2.result c.args.size c.if-size-eq0.false c.if-size-eq1.false c.resize-2.ensures
+pub returns-in-Wide : goal.returns-in-Wide
+unfolding size_of sized
+returns-in-Wide c = rw c.in-Wide.is c.resize-in-Wide.ensures

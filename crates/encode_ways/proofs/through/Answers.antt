@@ -10,23 +10,23 @@ pub returns-then-r-n : goal.returns-then-r-n
 returns-then-r-n c =
     let a = c.args in
     λ cs most t p w h.
-    let b = unpack a.a in
-    let p1 = renamed _ (reached t p b 0) (stands cs t p a.n a.cost a.link w a.a) (c.push-c.ensures cs most (omega arith)) in
-    let p2 = renamed _ (reached t p b 128) (stands_right cs t p a.n a.cost a.link w a.a) (c.push.ensures cs most (omega arith)) in
-    pushes_as _ _ (sym (in_both t p b a.n (sym c.requires.2.left ∙ c.if-l-n.true) (sym c.requires.2.right ∙ c.if-r-n.true))) (and (_ ∷ []) (_ ∷ []) p1 p2)
+    let b = unpack a.entry.state in
+    let p1 = renamed _ (reached t p b 0) (stands cs t p a.n a.entry.cost a.entry.link w a.entry.state) (c.push-c.ensures cs most (omega arith)) in
+    let p2 = renamed _ (reached t p b 128) (stands_right cs t p a.n a.entry.cost a.entry.link w a.entry.state) (c.push.ensures cs most (omega arith)) in
+    pushes_as _ _ (sym (in_both t p b a.n (sym c.gl-l.ensures.is ∙ c.if-l-n.true) (sym c.gr-r.ensures.is ∙ c.if-r-n.true))) (and (_ ∷ []) (_ ∷ []) p1 p2)
 
 pub returns-then-l-n : goal.returns-then-l-n
 returns-then-l-n c =
     let a = c.args in
     λ cs most t p w h.
-    let b = unpack a.a in
-    let p1 = renamed _ (reached t p b 0) (stands cs t p a.n a.cost a.link w a.a) (c.push-c.ensures cs most (omega arith)) in
-    pushes_as _ _ (sym (in_left t p b a.n (sym c.requires.2.left ∙ c.if-l-n.true) (λ e. c.if-r-n.false (c.requires.2.right ∙ e)))) p1
+    let b = unpack a.entry.state in
+    let p1 = renamed _ (reached t p b 0) (stands cs t p a.n a.entry.cost a.entry.link w a.entry.state) (c.push-c.ensures cs most (omega arith)) in
+    pushes_as _ _ (sym (in_left t p b a.n (sym c.gl-l.ensures.is ∙ c.if-l-n.true) (λ e. c.if-r-n.false (c.gr-r.ensures.is ∙ e)))) p1
 
 pub returns-then-r-n-2 : goal.returns-then-r-n-2
 returns-then-r-n-2 c =
     let a = c.args in
     λ cs most t p w h.
-    let b = unpack a.a in
-    let p2 = renamed _ (reached t p b 128) (stands_right cs t p a.n a.cost a.link w a.a) (c.push-then-r-n-2.ensures cs most (omega arith)) in
-    pushes_as _ _ (sym (in_right t p b a.n (λ e. c.if-l-n.false (c.requires.2.left ∙ e)) (sym c.requires.2.right ∙ c.if-r-n-2.true))) p2
+    let b = unpack a.entry.state in
+    let p2 = renamed _ (reached t p b 128) (stands_right cs t p a.n a.entry.cost a.entry.link w a.entry.state) (c.push-then-r-n-2.ensures cs most (omega arith)) in
+    pushes_as _ _ (sym (in_right t p b a.n (λ e. c.if-l-n.false (c.gl-l.ensures.is ∙ e)) (sym c.gr-r.ensures.is ∙ c.if-r-n-2.true))) p2

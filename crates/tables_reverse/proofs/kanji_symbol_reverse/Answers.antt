@@ -8,13 +8,13 @@ use lib.ListN.{get_or}
 use Rattle.addsym.specs.Symbols.{symbol}
 use Rattle.tables.specs.Kanji.{place, gap}
 use Rattle.tables_reverse.specs.Reverse.{kanji_place}
-use Rattle.tables.specs.declared.Place.TheVariants.{Nowhere}
+use Rattle.std.specs.Prelude.{None}
 use Rattle.tables_reverse.proofs.PlaceLaws.{symbol_cell, in_gap, off_gap}
 use Rattle.tables_reverse.proofs.PassedLaws.{next_cell, next_row, past_rows, found_here, found_nowhere}
 use Rattle.tables_reverse.proofs.kanji_symbol_reverse.Invariants.{Over}
 use Rattle.tables_reverse.proofs.kanji_symbol_reverse.Goals as goal
 
-from-90 : (c : ℕ) → Over c 90 1 Nowhere
+from-90 : (c : ℕ) → Over c 90 1 None
 from-90 c t = record { row_from = omega arith; row_to = omega arith; cell_from = omega arith; cell_to = omega arith; nowhere = refl; same = refl }
 
 -- what a cell reads as, in a gap and elsewhere

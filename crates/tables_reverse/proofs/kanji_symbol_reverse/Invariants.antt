@@ -4,12 +4,12 @@ use Prim.Native.Nat.{ℕ, ◌-◌, ◌≤◌}
 use lib.ListN.{drop}
 use Rattle.base.specs.First.{first_from}
 use Rattle.tables_reverse.specs.Reverse.{kanji_place}
-use Rattle.tables.specs.declared.Place.{Place}
+use Rattle.std.specs.Prelude.{Option}
 use Rattle.tables_reverse.proofs.PassedLaws.{Passed}
 use Rattle.tables_reverse.proofs.kanji_symbol_reverse.Given as goal
 
 -- over every table the search from row 90 on may go on from a cell
-abbrev pub Over : ℕ → ℕ → ℕ → Place → Type 0
+abbrev pub Over : ℕ → ℕ → ℕ → Option (ℕ × ℕ) → Type 0
 Over c row cell found = (t : List ℕ) → Passed kanji_place c t (first_from kanji_place c 470 8366 (drop 8366 t)) row cell found
 
 abbrev pub invariant-cells : goal.invariant-cells

@@ -5,8 +5,8 @@ use lib.ListN.{length, drop}
 use Rattle.utf8.specs.Utf8.{fault_from, first_fault}
 use Rattle.utf8.proofs.first_fault.Given as goal
 
-abbrev pub invariant-loop-at : goal.invariant-loop-at
-invariant-loop-at l = (l.at ≤ length l.text) × (first_fault l.text ≡ fault_from l.at 0 (drop l.at l.text))
+abbrev pub invariant-loop-n : goal.invariant-loop-n
+invariant-loop-n l = (l.at ≤ length l.text) × (first_fault l.text ≡ fault_from l.at 0 (drop l.at l.text))
 
-abbrev pub decreases-loop-at : goal.decreases-loop-at
-decreases-loop-at l = length l.text - l.at
+abbrev pub decreases-loop-n : goal.decreases-loop-n
+decreases-loop-n l = length l.text - l.at

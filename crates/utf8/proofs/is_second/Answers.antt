@@ -3,14 +3,14 @@ use borrow.Author.Tests.{lt-leb, le-leb}
 use Rattle.utf8.specs.Utf8.{is_second}
 use Rattle.utf8.proofs.is_second.Goals as goal
 
-pub returns-then-b-low : goal.returns-then-b-low
+pub returns-then-low-b : goal.returns-then-low-b
 unfolding is_second
-returns-then-b-low c =
+returns-then-low-b c =
     let r = c.low in
-    rw (← r.ensures, lt-leb r.result c.args.b c.if-b-low.true)
+    rw (← r.ensures, le-leb r.result c.args.b c.if-low-b.true, ← c.high.ensures)
 
-pub returns : goal.returns
+pub returns-else-low-b : goal.returns-else-low-b
 unfolding is_second
-returns c =
+returns-else-low-b c =
     let r = c.low in
-    rw (← r.ensures, le-leb r.result c.args.b c.if-b-low.false, ← c.high.ensures)
+    rw (← r.ensures, lt-leb r.result c.args.b c.if-low-b.false)
