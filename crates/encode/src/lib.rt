@@ -2,4 +2,3 @@
 #![tactic(auto)]
 
 pub mod call;
-pub mod values;

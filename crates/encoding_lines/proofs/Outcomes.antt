@@ -8,8 +8,7 @@ use lib.ListN.{length, take, replicate, length-replicate}
 use Rattle.coding.specs.Search.{begin, run, gap_of, finish, code}
 use Rattle.coding.specs.Call.{Lent, Outcome, choices, coding, outcome_of, outcome}
 use Rattle.laws_coding.proofs.Answers.{passes}
-use Rattle.encode.specs.declared.call.Answer.{Answer}
-use Rattle.encode.specs.Answers.{number_of, place_of, length_of, lent, Answered}
+use Rattle.encode.specs.Answers.{Answer, number_of, place_of, length_of, lent, Answered}
 use Rattle.encode.specs.Answers as answers
 use Rattle.jis_tab.specs.CellTable.{cell_table}
 use Rattle.ascii.specs.Ascii.{refused_line}

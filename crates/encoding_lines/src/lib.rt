@@ -7,7 +7,6 @@ ghost use Rattle.encoding_form.specs.Promises.{greatest};
 ghost use Rattle.encoding_lines.specs.Lines.{coded_lines, encoding};
 
 use ascii::refused;
-use encode::values;
 use encoding_form::coded;
 
 /// The most bytes that `encoding` prints.
@@ -19,13 +18,13 @@ fn lines_in(cells: &[u16], text: &[u8], store: &mut [u32], out: &mut [u8]) -> us
     ensures { Printed greatest out.old (coded_lines cells.now text.now) out.new result }
 {
     let mut coding = [0u8; 65529];
-    let answer = encode::call::encode_with(cells, 0, 0, text, store, &mut coding);
-    let number = values::number(answer);
-    if number > 0 {
-        return refused(out, 0, number, values::place(answer));
+    match encode::call::encode_with(cells, 0, 0, text, store, &mut coding) {
+        Ok(found) => {
+            let n = found.length;
+            coded(out, n, found.gap, &coding[..n])
+        }
+        Err(refusal) => refused(out, 0, refusal.number(), refusal.place()),
     }
-    let n = values::length(answer);
-    coded(out, n, values::gap(answer), &coding[..n])
 }
 
 /// The lines of a text, with a cell table: the store is made apart, 4 MB of stack.
@@ -37,7 +36,7 @@ fn coded_lines(cells: &[u16], text: &[u8], out: &mut [u8]) -> usize
 }
 
 /// All that `encoding` prints: whether there is a `jis.tab`, its bytes, the text, and room for what is
-/// printed. The answer is the length.
+/// printed. The answer is the length. The flag stays, as in `jis_tab::fill`, since the definition `encoding` takes it.
 pub fn encoding(present: bool, table: &[u8], text: &[u8], out: &mut [u8]) -> usize
     ensures { Printed greatest out.old (encoding present table.now text.now) out.new result }
 {

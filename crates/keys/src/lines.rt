@@ -5,7 +5,6 @@ ghost use Rattle.keys_lines.specs.Promises.{PrintRoom};
 ghost use Rattle.keys.specs.Promises.{Buffers, Within};
 
 use files::fail;
-use keys_lines::Printed;
 use std::io::{Error, Read};
 use std::ops::ControlFlow;
 
@@ -76,10 +75,7 @@ fn print(
     if len > line.len() {
         return None;
     }
-    match keys_lines::print(cells, admitted, &line[..len], title, out) {
-        Printed::Bytes(n) => Some(n),
-        Printed::Malformed => None,
-    }
+    keys_lines::print(cells, admitted, &line[..len], title, out)
 }
 
 /// A line ends.

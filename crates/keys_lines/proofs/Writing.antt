@@ -11,15 +11,14 @@ use lib.Seq.{length-take-le}
 use Rattle.lent.specs.Put.{Put}
 use Rattle.lent.proofs.Putting.{put_long}
 use Rattle.questions.specs.Questions.{cells_hold, first_refusal}
-use Rattle.key.specs.declared.KeyAnswer.{KeyAnswer}
 use Rattle.key.specs.Key.{Lent, outcome}
 use Rattle.key.specs.Promises as keys
 use Rattle.key.proofs.Calls.{len_inside}
 use Rattle.keys_form.specs.Line.{bytes_of, trimmed, number_of, hex_of, is_line, tab, line_of}
 use Rattle.keys_form.specs.Promises.{ending_at, ending}
 use Rattle.keys_form.proofs.Writing as form
-use Rattle.keys_lines.specs.declared.Printed.{Printed}
-use Rattle.keys_lines.specs.declared.Printed.TheVariants.{Bytes}
+use Rattle.std.specs.Prelude.{Some}
+use Rattle.std.specs.Prelude as Prelude
 use Rattle.keys_lines.specs.Line.{room_for, call, line_text, printed}
 use Rattle.keys_lines.specs.Promises.{Prints}
 
@@ -62,7 +61,7 @@ module _ (cells l bytes : List ℕ) (b : bytes ≡ bytes_of (hex_of l)) (out out
   unfolding line_text
   line_text_lem = ap (λ (x : Lent). line_of (number_of l) (outcome x).refused (take (outcome x).len (outcome x).buffer)) (ap (call cells) (sym b) ∙ sym same_call)
 
-  module _ (r : KeyAnswer) (part : List ℕ) (a : keys.Answered lent_call r part) (long : length part ≡ length (take k (drop at out₁))) where
+  module _ (r : keys.KeyAnswer) (part : List ℕ) (a : keys.Answered lent_call r part) (long : length part ≡ length (take k (drop at out₁))) where
     abbrev out₂ : List ℕ
     out₂ = take at out₁ ++ (part ++ drop k (drop at out₁))
 
@@ -109,5 +108,5 @@ module _ (cells line l : List ℕ) (e : l ≡ trimmed line) where
   well_formed h = rw (ap is_line (sym e) ∙ h, printed) (ap (λ (x : List ℕ). some (line_text cells x)) (sym e))
 
 -- what is printed lies in the buffer
-pub within : (p : Option (List ℕ)) (r : Printed) (out : List ℕ) (n : ℕ) → r ≡ Bytes n → Prints p r out → n ≤ length out
-within p r out n e h = (subst (λ (x : Printed). Prints p x out) e h).0
+pub within : (p : Option (List ℕ)) (r : Prelude.Option ℕ) (out : List ℕ) (n : ℕ) → r ≡ Some n → Prints p r out → n ≤ length out
+within p r out n e h = (subst (λ (x : Prelude.Option ℕ). Prints p x out) e h).0

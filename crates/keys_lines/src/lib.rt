@@ -7,11 +7,11 @@ ghost use Rattle.key.specs.Promises.{lent, Answered};
 ghost use Rattle.keys_form.specs.Line.{tab_at, is_line};
 ghost use Rattle.keys_lines.specs.Line.{room_for, line_text, printed};
 ghost use Rattle.keys_lines.specs.Promises.{PrintRoom, Prints};
-ghost use Rattle.keys_lines.specs.declared.Printed.TheVariants.{Bytes};
 ghost use Rattle.std.proofs.Math.Option.{some};
 
-use key::{KeyAnswer, values};
+use key::Keyed;
 use keys_form::{parts, printing};
+use questions::refusal::Refusal;
 
 /// The longest line that is read, a carriage return counted.
 pub const LONGEST: usize = 131082;
@@ -22,13 +22,6 @@ pub const TITLE: usize = 65535;
 /// The most bytes that are printed for a line: ten digits, TAB, a text of 196,608 bytes and a newline.
 pub const PRINTED: usize = 196620;
 
-/// What is printed: so many bytes, or nothing, since the line is malformed.
-#[derive(Clone, Copy)]
-pub enum Printed {
-    Bytes(usize),
-    Malformed,
-}
-
 /// The room for the text of a title of n bytes.
 fn room_for(n: usize) -> usize
     requires { n ≤ 65535 }
@@ -38,7 +31,7 @@ fn room_for(n: usize) -> usize
 }
 
 /// The key of a title: Si, CharacterSize. Question 1 is put unless the cell table was admitted before.
-fn title_key(cells: &[u16], admitted: bool, title: &[u8], out: &mut [u8]) -> KeyAnswer
+fn title_key(cells: &[u16], admitted: bool, title: &[u8], out: &mut [u8]) -> Result<Keyed, Refusal>
     requires { (admitted ≡ true → cells_hold cells.now ≡ true) × (length title.now ≤ 65535) }
     ensures { Answered (lent cells.now 0 0 title.now out.old) result out.new }
 {
@@ -59,16 +52,18 @@ fn print_line(
 ) -> usize
     requires line_value { (is_line line.now ≡ true) × (tab ≡ tab_at line.now) }
     requires print_room { PrintRoom cells.now admitted (length title.old) (length out.old) }
-    ensures { Prints (some (line_text cells.now line.now)) (Bytes result) out.new }
+    ensures { Prints (some (line_text cells.now line.now)) (Some result) out.new }
 {
     let n = parts::put_title(line, tab, title);
     let at = printing::put_number(out, line, tab);
     let end = at + room_for(n);
-    let r = title_key(cells, admitted, &title[..n], &mut out[at..end]);
-    printing::put_answer(out, at, values::number(r), values::len(r))
+    match title_key(cells, admitted, &title[..n], &mut out[at..end]) {
+        Ok(key) => printing::put_answer(out, at, 0, key.len),
+        Err(refusal) => printing::put_answer(out, at, refusal.number(), 0),
+    }
 }
 
-/// Prints the line for a line into `out`. `title` is room for the title's bytes; what is left in it, and in `out` behind
+/// Prints the line for a line into `out`: how many bytes, none where the line is malformed. `title` is room for the title's bytes; what is left in it, and in `out` behind
 /// what is printed, is undecided. `admitted` says that the cell table passed question 1, which is then not put again.
 pub fn print(
     cells: &[u16],
@@ -76,14 +71,14 @@ pub fn print(
     line: &[u8],
     title: &mut [u8],
     out: &mut [u8],
-) -> Printed
+) -> Option<usize>
     requires { PrintRoom cells.now admitted (length title.old) (length out.old) }
     ensures { Prints (printed cells.now line.now) result out.new }
 {
     let l = parts::trimmed(line);
     let tab = parts::tab_at(l);
     if !parts::is_line(l, tab) {
-        return Printed::Malformed;
+        return None;
     }
-    Printed::Bytes(print_line(cells, admitted, l, tab, title, out))
+    Some(print_line(cells, admitted, l, tab, title, out))
 }

@@ -1,12 +1,13 @@
 // The calls of bookmarks against a case and its bytes: of a set the number and every number of the store; of a return
 // the number, the counts and every element of both buffers, which hold a pattern before the call.
 use crate::case::{Case, INPUT, RETURN, SET, part};
-use decode::call::Answer;
+use decode_read::Counts;
+use questions::refusal::Refusal;
 use replay_vectors::buffers::{byte_room, number_room, same_bytes, same_numbers};
 
 /// A place that is named.
 fn set(case: Case, cells: &[u16], bytes: &[u8], store: &mut [u32]) -> bool {
-    let number = bookmark::set(
+    let answer = bookmark::set(
         cells,
         case.initial,
         case.width,
@@ -15,28 +16,26 @@ fn set(case: Case, cells: &[u16], bytes: &[u8], store: &mut [u32]) -> bool {
         case.name,
         store,
     );
+    let number = match answer {
+        Ok(()) => 0,
+        Err(refusal) => refusal.number(),
+    };
     (number == case.refused) & same_numbers(store, part(bytes, case.after_at, case.end))
 }
 
 /// The number, the place, which is 0, and the counts.
-fn same_answer(answer: Answer, case: Case) -> bool {
+fn same_answer(answer: Result<Counts, Refusal>, case: Case) -> bool {
     match answer {
-        Answer::Decoded {
-            text,
-            issues,
-            charged,
-            private_use,
-        } => {
+        Ok(counts) => {
             (case.refused == 0)
-                & (text == case.text)
-                & (issues == case.issues)
-                & (charged == case.charged)
-                & (private_use == case.private_use)
+                & (counts.text == case.text)
+                & (counts.issues == case.issues)
+                & (counts.charged == case.charged)
+                & (counts.private_use == case.private_use)
         }
-        Answer::Refused { number, place } => {
-            (number > 0)
-                & (number == case.refused)
-                & (place == 0)
+        Err(refusal) => {
+            (refusal.number() == case.refused)
+                & (refusal.place() == 0)
                 & (case.text == 0)
                 & (case.issues == 0)
                 & (case.charged == 0)

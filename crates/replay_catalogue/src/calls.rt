@@ -1,22 +1,20 @@
 // The calls of the catalogue against a case: the number and both counts, and of an add every byte of the key's buffer,
 // which holds a pattern before the call.
 use crate::case::{ADD, Case, FIND, REMOVE};
-use key::KeyAnswer;
+use key::Keyed;
+use questions::refusal::Refusal;
 use replay_vectors::buffers::{byte_room, same_bytes};
 
-/// The number, the place, which is 0, the key's length and the charge.
-fn same_key(answer: KeyAnswer, case: Case) -> bool {
+/// The number, the place, which is 0, and the two counts: both are 0 in a refusal.
+fn same_refusal(refusal: Refusal, case: Case) -> bool {
+    (refusal.number() == case.refused) & (refusal.place() == 0) & (case.first == 0) & (case.second == 0)
+}
+
+/// The key's length and the charge.
+fn same_key(answer: Result<Keyed, Refusal>, case: Case) -> bool {
     match answer {
-        KeyAnswer::Keyed { len, charged } => {
-            (case.refused == 0) & (len == case.first) & (charged == case.second)
-        }
-        KeyAnswer::Refused { number, place } => {
-            (number > 0)
-                & (number == case.refused)
-                & (place == 0)
-                & (case.first == 0)
-                & (case.second == 0)
-        }
+        Ok(key) => (case.refused == 0) & (key.len == case.first) & (key.charged == case.second),
+        Err(refusal) => same_refusal(refusal, case),
     }
 }
 
@@ -62,15 +60,22 @@ fn add_by_table(case: Case, cells: &[u16], title: &[u8], key: &[u8], store: &mut
 
 /// A removal.
 fn remove(case: Case, store: &mut [u8]) -> bool {
-    (catalogue::remove(store, case.number) == case.refused) & (case.first == 0) & (case.second == 0)
+    match catalogue::remove(store, case.number) {
+        Ok(()) => (case.refused == 0) & (case.first == 0) & (case.second == 0),
+        Err(refusal) => same_refusal(refusal, case),
+    }
 }
 
 /// A key that is sought.
 fn find(case: Case, store: &[u8], key: &[u8]) -> bool {
-    let found = catalogue::find(store, key);
-    (found.refused == case.refused)
-        & (found.entries == case.first)
-        & (found.number as usize == case.second)
+    match catalogue::find(store, key) {
+        Ok(found) => {
+            (case.refused == 0)
+                & (found.entries == case.first)
+                & (found.number as usize == case.second)
+        }
+        Err(refusal) => same_refusal(refusal, case),
+    }
 }
 
 /// The case's call, in the store that is lent.

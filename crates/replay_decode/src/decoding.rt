@@ -2,8 +2,9 @@
 // buffers, which hold a pattern before the call. `measure` and `clean` are held to the same answer.
 ghost use Rattle.std.specs.Prelude.{◌≤◌, length};
 
-use decode::call::Answer;
+use decode_read::Counts;
 use issues::NUMBERS;
+use questions::refusal::Refusal;
 use replay_decode_cases::case::{DecodingCase, case_at};
 use replay_decode_cases::{cleaning, measuring};
 use replay_vectors::buffers::{byte_room, number_room, same_bytes, same_numbers};
@@ -12,25 +13,19 @@ use replay_vectors::numbers::count;
 use replay_vectors::tally::Tally;
 
 /// The number, the place and the counts.
-fn same_answer(answer: Answer, case: DecodingCase) -> bool {
+fn same_answer(answer: Result<Counts, Refusal>, case: DecodingCase) -> bool {
     match answer {
-        Answer::Decoded {
-            text,
-            issues,
-            charged,
-            private_use,
-        } => {
+        Ok(counts) => {
             (case.number == 0)
                 & (case.place == 0)
-                & (text == case.text)
-                & (issues == case.issues)
-                & (charged == case.charged)
-                & (private_use == case.private_use)
+                & (counts.text == case.text)
+                & (counts.issues == case.issues)
+                & (counts.charged == case.charged)
+                & (counts.private_use == case.private_use)
         }
-        Answer::Refused { number, place } => {
-            (number > 0)
-                & (number == case.number)
-                & (place == case.place)
+        Err(refusal) => {
+            (refusal.number() == case.number)
+                & (refusal.place() == case.place)
                 & (case.text == 0)
                 & (case.issues == 0)
                 & (case.charged == 0)

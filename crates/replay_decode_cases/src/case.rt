@@ -1,6 +1,7 @@
 // The cases of `decode.bin`: calls of decoding with their answers.
 ghost use Rattle.replay_decode_cases.specs.Small.{Small};
 
+use questions::refusal::Refusal;
 use replay_vectors::numbers::{count, number};
 
 #[derive(Clone, Copy)]
@@ -40,4 +41,10 @@ pub fn case_at(bytes: &[u8]) -> DecodingCase
         charged: count(bytes, 40),
         private_use: count(bytes, 44),
     }
+}
+
+/// Whether one of questions 1 to 3 refuses, as the case says: those that a call without buffers asks.
+pub fn same_refusal(refusal: Refusal, case: DecodingCase) -> bool {
+    let number = refusal.number();
+    (number < 4) & (number == case.number) & (refusal.place() == 0)
 }

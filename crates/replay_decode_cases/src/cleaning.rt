@@ -1,18 +1,16 @@
 // `clean` on the calls of `decode.bin`, held to what decoding answers: issues or none, and 9 where there are some.
-use crate::case::DecodingCase;
-use clean::CleanAnswer;
+use crate::case::{DecodingCase, same_refusal};
+use questions::refusal::Refusal;
 
 /// Whether the answer is the decoding's. A text that does not fit, 8, says nothing of issues; the corners among these
 /// stand in the list in greater rooms too.
-fn same_answer(answer: CleanAnswer, case: DecodingCase) -> bool {
+fn same_answer(answer: Result<bool, Refusal>, case: DecodingCase) -> bool {
     let accepted = case.number == 0;
     let short = case.number == 8;
     match answer {
-        CleanAnswer::Yes => short | (accepted & (case.issues == 0)),
-        CleanAnswer::No => short | (case.number == 9) | (accepted & (case.issues > 0)),
-        CleanAnswer::Refused { number, place } => {
-            (number > 0) & (number < 4) & (number == case.number) & (place == 0)
-        }
+        Ok(true) => short | (accepted & (case.issues == 0)),
+        Ok(false) => short | (case.number == 9) | (accepted & (case.issues > 0)),
+        Err(refusal) => same_refusal(refusal, case),
     }
 }
 

@@ -1,33 +1,31 @@
 // `measure` on the calls of `decode.bin`, held to what decoding answers: the counts where it is accepted, and more than
 // the buffers hold where it is refused with 8 or 9.
-use crate::case::DecodingCase;
+use crate::case::{DecodingCase, same_refusal};
 use issues::NUMBERS;
-use measure::MeasureAnswer;
+use measure::Measured;
+use questions::refusal::Refusal;
 
 /// Whether the decoding was accepted with these counts.
-fn same_counts(text: usize, issues: usize, charged: usize, case: DecodingCase) -> bool {
-    (case.number == 0) & (text == case.text) & (issues == case.issues) & (charged == case.charged)
+fn same_counts(measured: Measured, case: DecodingCase) -> bool {
+    (case.number == 0)
+        & (measured.text == case.text)
+        & (measured.issues == case.issues)
+        & (measured.charged == case.charged)
 }
 
 /// Whether it was refused since so much does not fit.
-fn too_much(text: usize, issues: usize, case: DecodingCase) -> bool {
-    if text > case.text_room {
+fn too_much(measured: Measured, case: DecodingCase) -> bool {
+    if measured.text > case.text_room {
         return case.number == 8;
     }
-    (case.number == 9) & (issues > case.issue_room / NUMBERS)
+    (case.number == 9) & (measured.issues > case.issue_room / NUMBERS)
 }
 
 /// Whether the answer is the decoding's.
-fn same_answer(answer: MeasureAnswer, case: DecodingCase) -> bool {
+fn same_answer(answer: Result<Measured, Refusal>, case: DecodingCase) -> bool {
     match answer {
-        MeasureAnswer::Measured {
-            text,
-            issues,
-            charged,
-        } => same_counts(text, issues, charged, case) | too_much(text, issues, case),
-        MeasureAnswer::Refused { number, place } => {
-            (number > 0) & (number < 4) & (number == case.number) & (place == 0)
-        }
+        Ok(measured) => same_counts(measured, case) | too_much(measured, case),
+        Err(refusal) => same_refusal(refusal, case),
     }
 }
 

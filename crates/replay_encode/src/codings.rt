@@ -3,22 +3,25 @@
 ghost use Rattle.std.specs.Prelude.{◌≤◌, length};
 
 use crate::coding_case::{CodingCase, case_at};
-use encode::call::Answer;
+use encode::call::Coding;
+use questions::refusal::Refusal;
 use replay_vectors::buffers::{byte_room, number_room, same_bytes, same_numbers};
 use replay_vectors::compared::Compared;
 use replay_vectors::numbers::count;
 use replay_vectors::tally::Tally;
 
 /// The number, the place, the length and the gap.
-fn same_answer(answer: Answer, case: CodingCase) -> bool {
+fn same_answer(answer: Result<Coding, Refusal>, case: CodingCase) -> bool {
     match answer {
-        Answer::Coded { length, gap } => {
-            (case.number == 0) & (case.place == 0) & (length == case.coding) & (gap == case.gap)
+        Ok(coding) => {
+            (case.number == 0)
+                & (case.place == 0)
+                & (coding.length == case.coding)
+                & (coding.gap == case.gap)
         }
-        Answer::Refused { number, place } => {
-            (number > 0)
-                & (number == case.number)
-                & (place == case.place)
+        Err(refusal) => {
+            (refusal.number() == case.number)
+                & (refusal.place() == case.place)
                 & (case.coding == 0)
                 & (case.gap == 0)
         }

@@ -1,6 +1,6 @@
 -- `print_line` meets its contract: NUMBER and TAB, the key or a refusal behind them, and the newline. Assumes nothing.
 use Prim.Native.Nat.{ℕ, ◌+◌, ◌-◌, ◌≤◌}
-use mathlib.Core.Path.{◌≡◌, sym, ap, ◌∙◌}
+use mathlib.Core.Path.{◌≡◌, refl, sym, ap, ◌∙◌}
 use mathlib.Core.List.{List}
 use native.Mathlib.Omega.{arith}
 use lib.ListN.{length, take}
@@ -34,8 +34,8 @@ slice_bounds-title_key-end-3 c =
           c.requires.print_room.out_room _ (size c.put_title-n.new.title c.room_for.ensures c.put_title-n.ensures.inside),
     )
 
-pub title_key-r-requires : goal.title_key-r-requires
-title_key-r-requires c =
+pub title_key-requires : goal.title_key-requires
+title_key-requires c =
     let t = c.put_title-n in
     (c.requires.print_room.table, omega (arith, t.ensures.few, length-take-le t.result t.new.title t.ensures.inside))
 
@@ -44,12 +44,27 @@ put_answer-requires c =
     let number = c.put_number-at.ensures in
     answer_fits c.args.cells.now c.args.line.now _ c.put_title-n.ensures.bytes _ _ _ number.put number.upper_bound c.requires.print_room.out_room _
     (lent-size c.put_number-at.result c.put_title-n.new.title c.room_for.ensures c.put_title-n.ensures.inside)
-    _ _ c.title_key-r.ensures c.title_key-r.auto.out _ c.len.ensures
+    _ _ c.in-Ok.ensures c.title_key.auto.out _ refl
 
-pub returns : goal.returns
-returns c =
+pub put_answer-requires-in-Err : goal.put_answer-requires-in-Err
+put_answer-requires-in-Err c =
+    let number = c.put_number-at.ensures in
+    answer_fits c.args.cells.now c.args.line.now _ c.put_title-n.ensures.bytes _ _ _ number.put number.upper_bound c.requires.print_room.out_room _
+    (lent-size c.put_number-at.result c.put_title-n.new.title c.room_for.ensures c.put_title-n.ensures.inside)
+    _ _ c.in-Err.ensures c.title_key.auto.out _ refl
+
+pub returns-in-Ok : goal.returns-in-Ok
+returns-in-Ok c =
     let number = c.put_number-at.ensures in
     line_printed c.args.cells.now c.args.line.now _ c.put_title-n.ensures.bytes _ _ _ number.put number.upper_bound c.requires.print_room.out_room _
     (lent-size c.put_number-at.result c.put_title-n.new.title c.room_for.ensures c.put_title-n.ensures.inside)
-    _ _ c.title_key-r.ensures c.title_key-r.auto.out _ _ c.number.ensures c.len.ensures
+    _ _ c.in-Ok.ensures c.title_key.auto.out _ _ refl refl
     c.put_answer.ensures.put c.put_answer.ensures.upper_bound
+
+pub returns-in-Err : goal.returns-in-Err
+returns-in-Err c =
+    let number = c.put_number-at.ensures in
+    line_printed c.args.cells.now c.args.line.now _ c.put_title-n.ensures.bytes _ _ _ number.put number.upper_bound c.requires.print_room.out_room _
+    (lent-size c.put_number-at.result c.put_title-n.new.title c.room_for.ensures c.put_title-n.ensures.inside)
+    _ _ c.in-Err.ensures c.title_key.auto.out _ _ c.number.ensures refl
+    c.put_answer-in-Err.ensures.put c.put_answer-in-Err.ensures.upper_bound

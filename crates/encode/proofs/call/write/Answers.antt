@@ -12,4 +12,4 @@ returns-then-coding-length c =
 pub returns : goal.returns
 returns c =
     λ k l. wrote k l.length_is l.gap_is (omega arith) (c.write_back.ensures l.searched ∙ ap (sets c.args.coding.now 0) l.out)
-    c.clear.ensures c.clear32.ensures
+    c.clear.ensures c.clear-2.ensures

@@ -5,4 +5,4 @@ use Rattle.encode.proofs.call.zero.Goals as goal
 
 pub returns : goal.returns
 returns c =
-    record { store = c.clear32.ensures ∙ clear_all _; buffer = c.clear.ensures ∙ clear_all _ }
+    record { store = c.clear.ensures ∙ clear_all _; buffer = c.clear-2.ensures ∙ clear_all _ }
