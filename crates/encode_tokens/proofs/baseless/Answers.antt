@@ -36,7 +36,8 @@ loop-c-preserved c =
             based_mark _ _ _ c.loop-c.base w.if-not-base.false (tested _ c.is_non_spacing.ensures w.if-is_non_spacing.true)
             ∙ ap (λ (b : Bool). baseless b (from c.args.text.now (c.loop-c.at + c.in-Scalar.size))) (sym w.base-is)
         | else-is_non_spacing w ↦
-            no_mark _ _ _ c.loop-c.base (tested _ c.is_non_spacing.ensures w.if-is_non_spacing.false) ∙ ap (λ (b : Bool). baseless b (from c.args.text.now (c.loop-c.at + c.in-Scalar.size))) (sym w.base-is)
+            no_mark _ _ _ c.loop-c.base (tested _ c.is_non_spacing.ensures w.if-is_non_spacing.false)
+            ∙ ap (λ (b : Bool). baseless b (from c.args.text.now (c.loop-c.at + c.in-Scalar.size))) (sym w.base-is)
       ]),
     )
 

@@ -22,13 +22,18 @@ pub returns-then-not-is_decimal : goal.returns-then-not-is_decimal
 returns-then-not-is_decimal c = sym (c.loop-x.invariant.1 ∙ number_not _ _ _ c.loop-x-test.true (sym c.is_decimal.ensures ∙ c.if-not-is_decimal.true))
 
 pub returns-then-v-gt4294967295 : goal.returns-then-v-gt4294967295
-returns-then-v-gt4294967295 c = sym (c.loop-x.invariant.1 ∙ (number_next _ _ _ c.loop-x-test.true (sym c.is_decimal.ensures ∙ c.if-not-is_decimal.false) ∙ number_over _ _ (omega (arith, c.from.ensures))))
+returns-then-v-gt4294967295 c =
+    sym (c.loop-x.invariant.1 ∙ (number_next _ _ _ c.loop-x-test.true (sym c.is_decimal.ensures ∙ c.if-not-is_decimal.false) ∙ number_over _ _ (omega (arith, c.from.ensures))))
 
 pub overflow_sub-x : goal.overflow_sub-x
 overflow_sub-x c = omega (arith, decimal_range _ (sym c.is_decimal.ensures ∙ c.if-not-is_decimal.false))
 
 pub loop-x-preserved : goal.loop-x-preserved
-loop-x-preserved c = (omega arith, c.loop-x.invariant.1 ∙ (number_next _ _ _ c.loop-x-test.true (sym c.is_decimal.ensures ∙ c.if-not-is_decimal.false) ∙ ap (λ (n : ℕ). numbers (c.loop-x.v * 10 + n) (drop (c.loop-x.x-index + 1) c.args.ds.now)) (sym c.from.ensures)))
+loop-x-preserved c = (
+  omega arith,
+  c.loop-x.invariant.1 ∙ (number_next _ _ _ c.loop-x-test.true (sym c.is_decimal.ensures ∙ c.if-not-is_decimal.false) ∙
+      ap (λ (n : ℕ). numbers (c.loop-x.v * 10 + n) (drop (c.loop-x.x-index + 1) c.args.ds.now)) (sym c.from.ensures)),
+)
 
 pub returns : goal.returns
 returns c = sym (c.loop-x.invariant.1 ∙ number_end _ _ _ c.loop-x-test.false c.loop-x.invariant.0)
