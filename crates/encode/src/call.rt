@@ -100,7 +100,13 @@ fn encode_checked(
     ) {
         Ok(found) => match found {
             None => nothing(store, coding),
-            Some(target) => write(&characters[..target.count], width == 1, target, store, coding),
+            Some(target) => write(
+                &characters[..target.count],
+                width == 1,
+                target,
+                store,
+                coding,
+            ),
         },
         Err(refusal) => refuse(refusal, store, coding),
     }

@@ -7,7 +7,10 @@ use replay_vectors::buffers::{byte_room, same_bytes};
 
 /// The number, the place, which is 0, and the two counts: both are 0 in a refusal.
 fn same_refusal(refusal: Refusal, case: Case) -> bool {
-    (refusal.number() == case.refused) & (refusal.place() == 0) & (case.first == 0) & (case.second == 0)
+    (refusal.number() == case.refused)
+        & (refusal.place() == 0)
+        & (case.first == 0)
+        & (case.second == 0)
 }
 
 /// The key's length and the charge.

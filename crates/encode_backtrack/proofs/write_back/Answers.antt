@@ -43,8 +43,7 @@ pub loop-k-preserved : goal.loop-k-preserved
 loop-k-preserved c =
     let j = c.loop-k.k - 1 in
     let k = c.as_slice-choices.result.now in
-    let bs = written (cands_of k) (how_of c.args.store.now c.loop-k.p) in
-    (
+    let bs = written (cands_of k) (how_of c.args.store.now c.loop-k.p) in (
       omega arith,
       λ f. rw c.character_length-to.ensures (going_on j (omega arith) (c.loop-k.invariant.1 f) k (f.chosen j blank (omega arith))
           (rw c.as_slice-choices.ensures.value c.candidates-candidates.ensures)
