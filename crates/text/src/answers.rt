@@ -81,7 +81,7 @@ impl Numbers<2> for Coding {
 }
 
 /// Leaves the counts of an answer, and answers its number. No call gives more than four.
-pub fn report<T: Numbers<N>, const N: usize>(
+pub(crate) fn report<T: Numbers<N>, const N: usize>(
     counts: &mut [usize],
     answer: Result<T, Refusal>,
 ) -> u32
