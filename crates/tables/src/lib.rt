@@ -141,16 +141,14 @@ pub fn is_non_spacing(c: u32) -> MarkTest
             turns: 0,
         };
     }
-    match place_with(&NON_SPACING, c) {
-        Some(place) => MarkTest {
-            mark: true,
-            turns: place + 1,
-        },
-        None => MarkTest {
-            mark: false,
-            turns: 7,
-        },
+    let mut turns = 0;
+    for a in &NON_SPACING {
+        turns += 1;
+        if a.character == c {
+            return MarkTest { mark: true, turns };
+        }
     }
+    MarkTest { mark: false, turns }
 }
 
 /// Whether `c` is the character of an override.
