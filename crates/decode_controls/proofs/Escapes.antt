@@ -1,6 +1,6 @@
 -- What an escape's bytes mean, by the tests of the code. Assumes nothing.
 use Prim.Native.Nat.{ℕ, ◌+◌, ◌-◌, ◌≤◌, ◌<◌}
-use mathlib.Core.Path.{◌≡◌, refl, ap, ◌∙◌}
+use mathlib.Core.Path.{◌≡◌, refl, sym, ap, ◌∙◌}
 use mathlib.Core.Bool.{Bool, true, false, cond, ◌&&◌}
 use mathlib.Core.Logic.{◌⊎◌, inl, inr}
 use mathlib.Core.List.{List, [], ◌∷◌}
@@ -9,13 +9,20 @@ use native.Mathlib.Omega.{arith}
 use borrow.Author.Tests.{eq-eqb, ne_eqb, le-leb, lt-leb, leb-true, eqb-true}
 use lib.Dec.{eqb, leb}
 use lib.ListN.{length, get_or}
-use Rattle.sets.specs.Sets.{Designation, from_designation, to_element, selects, read_designation}
+use Rattle.sets.specs.Sets.{Compared, Designation, from_designation, to_element, selects, read_designation}
 use Rattle.reading.specs.Controls.{locking_shift, designated, applied, applied_or}
 use Rattle.decode_controls.specs.declared.Effect.{Effect}
 use Rattle.decode_controls.specs.declared.Effect.TheVariants.{Gl, Gr, Designates, UnknownEscape}
 use Rattle.decode_controls.specs.Controls.{step_of, Means}
 
 -- ---- locking shifts
+
+-- what a comparison of ESC f with ESC x says of f
+pub not_final : {r : Bool} {l : List ℕ} (f x : ℕ) → l ≡ 0x1B ∷ f ∷ [] → Compared r l (0x1B ∷ x ∷ []) → r ≡ false → f ≡ x → ⊥
+not_final f x e c p q = c.unequal p (e ∙ ap (λ (y : ℕ). 0x1B ∷ y ∷ []) q)
+
+pub is_final_lem : {r : Bool} {l : List ℕ} (f x : ℕ) → l ≡ 0x1B ∷ f ∷ [] → Compared r l (0x1B ∷ x ∷ []) → r ≡ true → f ≡ x
+is_final_lem f x e c p = let q : 0x1B ∷ f ∷ [] ≡ 0x1B ∷ x ∷ [] = sym e ∙ c.equal p in cc
 
 module _ (f : ℕ) where
   pub shift_ls2 : f ≡ 0x6E → Means (locking_shift f) (Gl 2)

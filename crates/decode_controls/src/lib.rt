@@ -27,7 +27,7 @@ ghost use Rattle.reading.specs.Steps.{step};
 ghost use Rattle.decode_controls.specs.Controls.{Reads, Begins, Means, second};
 
 use control::{CDC, COL, CSI, ESC, LS0, LS1, MSZ, NSZ, RPC, SSZ, SZX, TIME};
-use sets::{CharSize, GraphicSet};
+use sets::{CharSize, GraphicSet, Shift};
 
 /// What a control does.
 #[derive(Clone, Copy, Debug, PartialEq, Eq)]
@@ -105,12 +105,12 @@ fn is_final(f: u8, low: u8) -> bool
 fn locking_shift(f: u8) -> Effect
     ensures { Means (locking_shift f) result }
 {
-    match f {
-        0x6E => Effect::Gl(2),
-        0x6F => Effect::Gl(3),
-        0x7E => Effect::Gr(1),
-        0x7D => Effect::Gr(2),
-        0x7C => Effect::Gr(3),
+    match [ESC, f] {
+        seq if Shift::Ls2.is(&seq) => Effect::Gl(2),
+        seq if Shift::Ls3.is(&seq) => Effect::Gl(3),
+        seq if Shift::Ls1r.is(&seq) => Effect::Gr(1),
+        seq if Shift::Ls2r.is(&seq) => Effect::Gr(2),
+        seq if Shift::Ls3r.is(&seq) => Effect::Gr(3),
         _ => Effect::UnknownEscape,
     }
 }

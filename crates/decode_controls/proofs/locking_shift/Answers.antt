@@ -1,23 +1,28 @@
--- `locking_shift` meets its contract. Assumes nothing.
-use Rattle.decode_controls.proofs.Escapes.{shift_ls2, shift_ls3, shift_ls1r, shift_ls2r, shift_ls3r, shift_none}
+-- `locking_shift` meets its contract: each comparison with a shift's bytes says whether f is its final byte. Assumes nothing.
+use mathlib.Core.Path.{refl}
+use Rattle.decode_controls.proofs.Escapes.{not_final, is_final_lem, shift_ls2, shift_ls3, shift_ls1r, shift_ls2r, shift_ls3r, shift_none}
 use Rattle.decode_controls.proofs.locking_shift.Goals as goal
 
-pub returns-in-110 : goal.returns-in-110
-returns-in-110 c = shift_ls2 _ c.in-110.is
+pub returns-then-is : goal.returns-then-is
+returns-then-is c = shift_ls2 _ (is_final_lem _ 0x6E refl c.is.ensures c.if-is.true)
 
-pub returns-in-111 : goal.returns-in-111
-returns-in-111 c = shift_ls3 _ c.in-111.is
+pub returns-then-is-2 : goal.returns-then-is-2
+returns-then-is-2 c = shift_ls3 _ (is_final_lem _ 0x6F refl c.is-2.ensures c.if-is-2.true)
 
-pub returns-in-126 : goal.returns-in-126
-returns-in-126 c = shift_ls1r _ c.in-126.is
+pub returns-then-is-3 : goal.returns-then-is-3
+returns-then-is-3 c = shift_ls1r _ (is_final_lem _ 0x7E refl c.is-3.ensures c.if-is-3.true)
 
-pub returns-in-125 : goal.returns-in-125
-returns-in-125 c = shift_ls2r _ c.in-125.is
+pub returns-then-is-4 : goal.returns-then-is-4
+returns-then-is-4 c = shift_ls2r _ (is_final_lem _ 0x7D refl c.is-4.ensures c.if-is-4.true)
 
-pub returns-in-124 : goal.returns-in-124
-returns-in-124 c = shift_ls3r _ c.in-124.is
+pub returns-then-is-5 : goal.returns-then-is-5
+returns-then-is-5 c = shift_ls3r _ (is_final_lem _ 0x7C refl c.is-5.ensures c.if-is-5.true)
 
-pub returns-in_default : goal.returns-in_default
-returns-in_default c =
-    let m = c.in_default.in_default-own.rest in
-    shift_none _ m.0.0.0.0.1 m.0.0.0.1 m.0.0.1 m.0.1 m.1
+pub returns-else-is-5 : goal.returns-else-is-5
+returns-else-is-5 c =
+    shift_none _
+    (not_final _ 0x6E refl c.is.ensures c.if-is.false)
+    (not_final _ 0x6F refl c.is-2.ensures c.if-is-2.false)
+    (not_final _ 0x7E refl c.is-3.ensures c.if-is-3.false)
+    (not_final _ 0x7D refl c.is-4.ensures c.if-is-4.false)
+    (not_final _ 0x7C refl c.is-5.ensures c.if-is-5.false)
