@@ -24,6 +24,13 @@ struct Reached {
     private_use: u32,
 }
 
+/// How far a run of characters goes: before the byte `to`, and whether what it writes fits.
+#[derive(Clone, Copy)]
+struct Limit {
+    to: usize,
+    fits: bool,
+}
+
 /// The bytes of a character of the Kanji set.
 const KANJI: usize = 2;
 
@@ -54,7 +61,7 @@ fn ascii<const FITS: bool>(text: &mut [u8], at: usize, c: u32) -> usize
 }
 
 /// A run of ideographs, kana and ASCII before the byte `to`, of which none is private-use. It is written where it fits, and
-/// behind the end of the text it is counted.
+/// behind the end of the text it is counted, there with the yen sign, the one letter of two bytes.
 fn run_from<const FITS: bool>(
     cells: &[u16],
     b: &[u8],
@@ -89,8 +96,10 @@ fn run_from<const FITS: bool>(
             m += wide::<FITS>(text, m, letter);
         } else if letter < 0x80 {
             m += ascii::<FITS>(text, m, letter);
-        } else {
+        } else if FITS {
             break;
+        } else {
+            m += utf8::width(letter);
         }
         i += 1;
     }
@@ -200,8 +209,27 @@ fn runs_to(
     }
 }
 
-/// Characters and controls that begin before the byte `end`. As many characters surely fit as have three bytes each in the
-/// rest of the text; where the text is at its end nothing does, and they are counted.
+/// How far characters are read before the byte `end` of a text with room for so many bytes: as many surely fit as have three
+/// bytes each in the rest of the text; where the text is at its end nothing does, and they are counted.
+fn limit_of(from: Reached, end: usize, room: usize) -> Limit
+    requires { (from.at ≤ end) × (from.len + 3 * (end - from.at) ≤ 0x10000000000) }
+    ensures { (result.to ≤ end) × Space result.fits from.len (result.to - from.at) room }
+{
+    if from.len < room {
+        let fit = (room - from.len) / 3;
+        return Limit {
+            to: from.at + fit.min(end - from.at),
+            fits: true,
+        };
+    }
+    Limit {
+        to: end,
+        fits: false,
+    }
+}
+
+/// Characters and controls that begin before the byte `end`. There is one call of `runs_to`, so that it is compiled into
+/// this: with two, for what fits and for what is counted, it is a call for each body of a macro.
 fn runs_from(
     cells: &[u16],
     b: &[u8],
@@ -216,13 +244,8 @@ fn runs_from(
     ensures { RunsTo cells.now b.now end from.at annex settings.old from.len from.private_use text.old result.at
         settings.new result.len result.private_use text.new }
 {
-    let room = text.len();
-    if from.len < room {
-        let fit = (room - from.len) / 3;
-        let to = from.at + fit.min(end - from.at);
-        return runs_to(cells, b, from, to, true, end, annex, settings, text);
-    }
-    runs_to(cells, b, from, end, false, end, annex, settings, text)
+    let Limit { to, fits } = limit_of(from, end, text.len());
+    runs_to(cells, b, from, to, fits, end, annex, settings, text)
 }
 
 /// Whether a run may begin: nothing waits, and the table has its cells.
