@@ -167,6 +167,15 @@ end_here b j e t = end_at (drop j b) (e ∙ ap starts (whole b j)) t
 pub end_past : {r : Bool} (b : List ℕ) (j : ℕ) → j < length b → r ≡ starts (take (length b - j) (drop j b)) → r ≡ false → end_of (drop j b) ≡ suc (end_of (drop (j + 1) b))
 end_past b j h e f = rw (drop_one b j h) (end_cons _ (drop (j + 1) b) (e ∙ ap starts (whole b j ∙ drop_one b j h)) f)
 
+end_other : (x : ℕ) (l : List ℕ) → (x ≡ 0x95 → ⊥) → end_of (x ∷ l) ≡ suc (end_of l)
+unfolding end_of
+end_other x [] n = refl
+end_other x (y ∷ r) n = end_one x y r (λ p q. n p)
+
+-- at a byte that is not 95
+pub end_not : (b : List ℕ) (j : ℕ) → j < length b → (get_or b j 0 ≡ 0x95 → ⊥) → end_of (drop j b) ≡ suc (end_of (drop (j + 1) b))
+end_not b j h n = rw (drop_one b j h) (end_other _ (drop (j + 1) b) n)
+
 end_last : (r : List ℕ) {n j : ℕ} → length r ≡ n - j → j ≤ n → n ≤ j + 1 → j + end_of r ≡ n
 unfolding end_of
 end_last [] e h p = omega arith
