@@ -7,11 +7,12 @@ use native.Mathlib.Decide.{ℕ_discrete}
 use native.Mathlib.Omega.{arith}
 use lib.Dec.{eqb, ltb}
 use lib.ListN.{length, get_or}
+use Rattle.std.specs.Prelude.{map}
 use Rattle.std.proofs.lemmas.List.{get_or_default}
 use borrow.Author.Tests.{ltb-true, ltb-false, eq-eqb, ne_eqb, lt-ltb, le-ltb}
-use Rattle.coding.specs.Candidates.{Size, code_length, shortest}
+use Rattle.coding.specs.Candidates.{Size, Cand, code_length, shortest}
 use Rattle.encode_candidates.specs.declared.candidate.Candidate.{Candidate}
-use Rattle.encode_candidates.specs.Packed.{size_of, cand_of, cand, cands_of}
+use Rattle.encode_candidates.specs.Packed.{size_of, cand_of, cand, OneOrTwo, one_or_two, cands_of}
 
 -- ---- a candidate's own length
 
@@ -32,27 +33,8 @@ module _ (x b : ℕ) (z : Size) where
   unfolding cand_of code_length
   of_bytes n h = rw (ne_eqb x 7 n, le-ltb b 256 h)
 
-  some : 1 ≤ code_length (cand_of x b z)
-  unfolding cand_of code_length
-  some = go (eqb x 7) (ltb b 256) refl refl
-    where
-      go : (d e : Bool) → eqb x 7 ≡ d → ltb b 256 ≡ e → 1 ≤ code_length (cand_of x b z)
-      go true e p q = rw p (omega arith)
-      go false true p q = rw (p, q) (omega arith)
-      go false false p q = rw (p, q) (omega arith)
-
-  few : code_length (cand_of x b z) ≤ 2
-  unfolding cand_of code_length
-  few = go (eqb x 7) (ltb b 256) refl refl
-    where
-      go : (d e : Bool) → eqb x 7 ≡ d → ltb b 256 ≡ e → code_length (cand_of x b z) ≤ 2
-      go true e p q = rw p (omega arith)
-      go false true p q = rw (p, q) (omega arith)
-      go false false p q = rw (p, q) (omega arith)
-
 pub few_length : (c : Candidate) → code_length (cand c) ≤ 2
-unfolding cand
-few_length c = few c.set c.code (size_of c.size)
+few_length c = (one_or_two c).1
 
 -- where there is no set
 pub plain_length : (c : Candidate) → 6 ≤ c.set → code_length (cand c) ≡ 1
@@ -64,52 +46,55 @@ plain_length c h = go (ℕ_discrete c.set 7)
     go (no e) = absurd (omega (arith, c.six e))
 
 pub some_length : (c : Candidate) → 1 ≤ code_length (cand c)
-unfolding cand
-some_length c = some c.set c.code (size_of c.size)
+some_length c = (one_or_two c).0
 
--- ---- the shortest of some candidates
+-- ---- the shortest of some, by what each stands for
 
-one_least : (c : Candidate) (l : List Candidate) → 1 ≤ shortest (cands_of (c ∷ l))
-unfolding shortest
-one_least c [] = some_length c
-one_least c (d ∷ l) = omega (arith, some_length c, one_least d l)
+module _ {X : Type 0} (f : X → Cand) where
+  -- the first i have two bytes each
+  abbrev pub Twos : List X → ℕ → Type 0
+  Twos l i = (d : X) (j : ℕ) → j < i → code_length (f (get_or l j d)) ≡ 2
 
--- the first i have two bytes each
-abbrev pub Twos : List Candidate → ℕ → Type 0
-Twos l i = (d : Candidate) (j : ℕ) → j < i → code_length (cand (get_or l j d)) ≡ 2
+  pub more : (l : List X) (c : X) (i n : ℕ) → Twos l i → c ≡ get_or l i c → i < length l → n ≡ code_length (f c) → OneOrTwo (f c) → (n ≡ 1 → ⊥) → Twos l (i + 1)
+  more l c i n t e h q b m d j k = go (ltb j i) refl
+    where
+      go : (b : Bool) → ltb j i ≡ b → code_length (f (get_or l j d)) ≡ 2
+      go true u = t d j (ltb-true j i u)
+      go false u =
+          let v = ltb-false j i u in
+          let z : i ≡ j = omega arith in
+          let y : get_or l j d ≡ c = ap (λ (x : ℕ). get_or l x d) (sym z) ∙ (get_or_default l i d c h ∙ sym e) in
+          ap (λ (x : X). code_length (f x)) y ∙ omega (arith, b.0, b.1)
 
-pub more : (l : List Candidate) (c : Candidate) (i n : ℕ) → Twos l i → c ≡ get_or l i c → i < length l → n ≡ code_length (cand c) → (n ≡ 1 → ⊥) → Twos l (i + 1)
-more l c i n t e h q m d j k = go (ltb j i) refl
-  where
-    go : (b : Bool) → ltb j i ≡ b → code_length (cand (get_or l j d)) ≡ 2
-    go true u = t d j (ltb-true j i u)
-    go false u =
-        let v = ltb-false j i u in
-        let z : i ≡ j = omega arith in
-        let y : get_or l j d ≡ c = ap (λ (x : ℕ). get_or l x d) (sym z) ∙ (get_or_default l i d c h ∙ sym e) in
-        ap (λ (x : Candidate). code_length (cand x)) y ∙ omega (arith, some_length c, few_length c)
+  pub is_two : (c : X) (l : List X) → Twos (c ∷ l) (suc (length l)) → 2 ≡ shortest (map f (c ∷ l))
+  unfolding shortest
+  is_two c [] t = sym (t c 0 (omega arith))
+  is_two c (b ∷ l) t = omega (arith, t c 0 (omega arith), is_two b l (λ d j h. t d (suc j) (omega arith)))
 
-pub is_one : (l : List Candidate) (d : Candidate) (j : ℕ) → j < length l → code_length (cand (get_or l j d)) ≡ 1 → 1 ≡ shortest (cands_of l)
-unfolding shortest
-is_one [] d j h e = absurd (omega arith)
-is_one (c ∷ []) d zero h e = sym e
-is_one (c ∷ []) d (suc j) h e = absurd (omega arith)
-is_one (c ∷ b ∷ l) d zero h e = omega (arith, e, one_least b l)
-is_one (c ∷ b ∷ l) d (suc j) h e = omega (arith, some_length c, is_one (b ∷ l) d j (omega arith) e)
+  pub all_two : (l : List X) (i : ℕ) → (length l ≡ 0 → ⊥) → length l ≤ i → Twos l i → 2 ≡ shortest (map f l)
+  all_two [] i n h t = absurd (n refl)
+  all_two (c ∷ l) i n h t = is_two c l (λ d j k. t d j (omega arith))
 
-pub is_two : (c : Candidate) (l : List Candidate) → Twos (c ∷ l) (suc (length l)) → 2 ≡ shortest (cands_of (c ∷ l))
-unfolding shortest
-is_two c [] t = sym (t c 0 (omega arith))
-is_two c (b ∷ l) t = omega (arith, t c 0 (omega arith), is_two b l (λ d j h. t d (suc j) (omega arith)))
+  pub none_short : (l : List X) → length l ≡ 0 → 0 ≡ shortest (map f l)
+  unfolding shortest
+  none_short [] e = refl
+  none_short (c ∷ l) e = absurd (omega arith)
 
-pub all_two : (l : List Candidate) (i : ℕ) → (length l ≡ 0 → ⊥) → length l ≤ i → Twos l i → 2 ≡ shortest (cands_of l)
-all_two [] i n h t = absurd (n refl)
-all_two (c ∷ l) i n h t = is_two c l (λ d j k. t d j (omega arith))
+  module _ (law : (c : X) → OneOrTwo (f c)) where
+    one_least : (c : X) (l : List X) → 1 ≤ shortest (map f (c ∷ l))
+    unfolding shortest
+    one_least c [] = (law c).0
+    one_least c (d ∷ l) = omega (arith, (law c).0, one_least d l)
 
-pub none_short : (l : List Candidate) → length l ≡ 0 → 0 ≡ shortest (cands_of l)
-unfolding shortest
-none_short [] e = refl
-none_short (c ∷ l) e = absurd (omega arith)
+    pub is_one : (l : List X) (d : X) (j : ℕ) → j < length l → code_length (f (get_or l j d)) ≡ 1 → 1 ≡ shortest (map f l)
+    unfolding shortest
+    is_one [] d j h e = absurd (omega arith)
+    is_one (c ∷ []) d zero h e = sym e
+    is_one (c ∷ []) d (suc j) h e = absurd (omega arith)
+    is_one (c ∷ b ∷ l) d zero h e = omega (arith, e, one_least b l)
+    is_one (c ∷ b ∷ l) d (suc j) h e = omega (arith, (law c).0, is_one (b ∷ l) d j (omega arith) e)
+
+-- ---- of candidates
 
 -- none has more than two bytes, and where there is none there is no candidate
 pub short : (l : List Candidate) → shortest (cands_of l) ≤ 2
@@ -120,4 +105,4 @@ short (c ∷ d ∷ l) = omega (arith, short (d ∷ l))
 
 pub nothing : (l : List Candidate) → shortest (cands_of l) ≡ 0 → cands_of l ≡ []
 nothing [] e = refl
-nothing (c ∷ l) e = absurd (omega (arith, one_least c l))
+nothing (c ∷ l) e = absurd (omega (arith, one_least cand one_or_two c l))

@@ -1,11 +1,13 @@
 -- The candidates of a character as the code holds them, and the list of `coding` that they stand for.
-use Rattle.std.specs.Prelude.{ℕ, ◌+◌, ◌*◌, ◌/◌, ◌%◌, ◌≤◌, ◌≡◌, Bool, cond, List, [], ◌∷◌, ◌++◌, map, eqb, ltb, length}
+use Rattle.std.specs.Prelude.{ℕ, zero, suc, ◌+◌, ◌*◌, ◌/◌, ◌%◌, ◌≤◌, ◌≡◌, Bool, true, false, cond, List, [], ◌∷◌, ◌++◌, map, eqb, ltb, length, take}
+use Rattle.std.proofs.Common.{zero-le, suc-le-suc}
 use Rattle.std.proofs.Math.Option.{Option, none, some}
 use Rattle.tables_reverse.specs.Reverse.{kanji_reverse, additional_reverse}
 use Rattle.coding.specs.Candidates as coding
-use Rattle.coding.specs.Candidates.{Cand, graphic, plain, of_place, candidates}
+use Rattle.coding.specs.Candidates.{Cand, graphic, plain, of_place, candidates, code_length}
 use Rattle.encode_states.specs.Packed.{set_of}
 use Rattle.encode_candidates.specs.declared.candidate.Candidate.{Candidate}
+use Rattle.encode_candidates.specs.declared.candidate.Cands.{Cands}
 use Rattle.encode_candidates.specs.declared.candidate.Size.{Size}
 use Rattle.encode_candidates.specs.declared.candidate.Size.TheVariants.{Either, Narrow, Wide}
 
@@ -24,6 +26,12 @@ size_of Either = coding.either
 size_of Narrow = coding.narrow
 size_of Wide = coding.wide
 
+-- that of a number: 0 either, 1 narrow, else wide
+unfoldable pub size_by_number : ℕ → coding.Size
+size_by_number zero = coding.either
+size_by_number (suc zero) = coding.narrow
+size_by_number (suc (suc z)) = coding.wide
+
 -- a candidate by its three numbers: 7 stands in the place of a set for SP and APR, which need none
 unfoldable pub cand_of : ℕ → ℕ → coding.Size → Cand
 unfolding set_of code_of
@@ -32,6 +40,27 @@ cand_of set code size = cond (eqb set 7) (plain code size) (graphic (set_of set)
 unfoldable pub cand : Candidate → Cand
 unfolding cand_of size_of
 cand c = cand_of c.set c.code (size_of c.size)
+
+-- its code is a byte, or a row's and a cell's
+abbrev pub OneOrTwo : Cand → Type 0
+OneOrTwo c = (1 ≤ code_length c) × (code_length c ≤ 2)
+
+pub numbers_one_or_two : (set code : ℕ) (size : coding.Size) → OneOrTwo (cand_of set code size)
+unfolding cand_of code_of code_length
+numbers_one_or_two set code size = go (eqb set 7) (ltb code 256)
+  where
+    go : (d e : Bool) → OneOrTwo (cond d (plain code size) (graphic (set_of set) (cond e (code ∷ []) ((code / 256) ∷ (code % 256) ∷ [])) size))
+    go true e = (suc-le-suc zero-le, suc-le-suc zero-le)
+    go false true = (suc-le-suc zero-le, suc-le-suc zero-le)
+    go false false = (suc-le-suc zero-le, suc-le-suc (suc-le-suc zero-le))
+
+pub one_or_two : (c : Candidate) → OneOrTwo (cand c)
+unfolding cand
+one_or_two c = numbers_one_or_two c.set c.code (size_of c.size)
+
+-- those that a list in a struct holds
+unfoldable pub items : Cands → List Candidate
+items k = take k.count k.all
 
 -- all of them
 abbrev pub cands_of : List Candidate → List Cand

@@ -47,3 +47,42 @@ impl Default for Candidate {
         }
     }
 }
+
+/// Candidates in the order of trial, nine at most: the first `count` of `all`.
+#[derive(Clone, Copy, Debug, PartialEq, Eq)]
+pub struct Cands {
+    all: [Candidate; 9],
+    count: usize,
+    ghost few: { count ≤ 9 },
+}
+
+#[tactic(auto, unfolding(crate::specs::Packed::items))]
+impl Cands {
+    ghost use Rattle.std.specs.Prelude.{[], ◌∷◌, ◌++◌, length};
+    ghost use Rattle.encode_candidates.specs.Packed.{items};
+
+    pub(crate) fn new() -> Self
+        ensures { items result ≡ [] }
+    {
+        Cands {
+            all: [Candidate::default(); 9],
+            count: 0,
+        }
+    }
+
+    /// One candidate more.
+    pub(crate) fn push(&mut self, candidate: Candidate)
+        requires { length (items self.old) < 9 }
+        ensures { items self.new ≡ items self.old ++ candidate ∷ [] }
+    {
+        self.all[self.count] = candidate;
+        self.count += 1;
+    }
+
+    pub fn as_slice(&self) -> &[Candidate]
+        ensures value { result.now ≡ items self.now }
+        ensures fits { length result.now ≤ 9 }
+    {
+        &self.all[..self.count]
+    }
+}

@@ -2,20 +2,21 @@
 // that they are done once a character.
 #![tactic(auto)]
 
-ghost use Rattle.std.specs.Prelude.{◌≡◌, cond, [], ◌∷◌, ◌++◌, ◌+◌, ◌≤◌, ◌<◌, eqb};
+ghost use Rattle.std.specs.Prelude.{◌≡◌, cond, [], ◌++◌, ◌<◌, map, eqb, length};
 ghost use Rattle.control.specs.Codes.{SP};
 ghost use Rattle.tables_onebyte.specs.Reverse.{one_byte_reverse};
 ghost use Rattle.tables.specs.Kanji.{place_value};
 ghost use Rattle.coding.specs.Candidates.{narrow, wide, plain, of_code, fullwidth, letters, shortest};
 ghost use Rattle.base.specs.Lists.{when};
 ghost use Rattle.encode_states.specs.Packed.{set_of};
-ghost use Rattle.encode_candidates.specs.Packed.{packed, size_of, cand, cands_of, Adds, AddsCell, StandsFor, StandsForCandidates};
-ghost use Rattle.arrayvec.specs.ArrayVec.{array_vec_len};
+ghost use Rattle.encode_candidates.specs.Packed.{packed, size_of, cand, items, Adds, AddsCell, StandsFor, StandsForCandidates};
 
 pub mod candidate;
+pub mod coded;
 
-use arrayvec::ArrayVec;
+pub use candidate::Cands;
 use candidate::{Candidate, Size};
+use coded::Coded;
 use control::{APR, SP};
 use tables_onebyte::OneByteTable;
 
@@ -31,10 +32,10 @@ pub fn pack(place: Option<(u8, u8)>) -> u16
 }
 
 /// The code of `c` in a one-byte table, where it has one, behind the candidates before.
-fn with_code(k: &mut ArrayVec<Candidate, 9>, table: OneByteTable, c: u32, set: u8, size: Size)
-    requires count_bound { array_vec_len k.old < 9 }
+fn with_code(k: &mut Cands, table: OneByteTable, c: u32, set: u8, size: Size)
+    requires count_bound { length (items k.old) < 9 }
     requires set_bound { set < 6 }
-    ensures { Adds k.old.items (of_code (set_of set) (size_of size) (one_byte_reverse table c)) 1 k.new.items }
+    ensures { Adds (items k.old) (of_code (set_of set) (size_of size) (one_byte_reverse table c)) 1 (items k.new) }
 {
     if let Some(code) = tables_onebyte::one_byte_reverse(table, c) {
         k.push(Candidate {
@@ -46,10 +47,10 @@ fn with_code(k: &mut ArrayVec<Candidate, 9>, table: OneByteTable, c: u32, set: u
 }
 
 /// A cell of a two-byte set, where there is one. Whatever its number, both bytes are below 128.
-fn with_cell(k: &mut ArrayVec<Candidate, 9>, cell: u16, set: u8, size: Size)
-    requires count_bound { array_vec_len k.old < 9 }
+fn with_cell(k: &mut Cands, cell: u16, set: u8, size: Size)
+    requires count_bound { length (items k.old) < 9 }
     requires set_bound { set < 6 }
-    ensures { AddsCell k.old.items set (size_of size) cell k.new.items }
+    ensures { AddsCell (items k.old) set (size_of size) cell (items k.new) }
 {
     if cell != 0 {
         let row = (cell / 256 + 0x20) % 128;
@@ -63,9 +64,9 @@ fn with_cell(k: &mut ArrayVec<Candidate, 9>, cell: u16, set: u8, size: Size)
 }
 
 /// The alphanumeric whose full-width form is `c`, in CharacterSize alone.
-fn with_half(k: &mut ArrayVec<Candidate, 9>, c: u32, annex: bool)
-    requires { array_vec_len k.old < 9 }
-    ensures { Adds k.old.items (fullwidth annex c) 1 k.new.items }
+fn with_half(k: &mut Cands, c: u32, annex: bool)
+    requires { length (items k.old) < 9 }
+    ensures { Adds (items k.old) (fullwidth annex c) 1 (items k.new) }
 {
     if !annex {
         with_code(k, OneByteTable::Fullwidth, c, 1, Size::Wide);
@@ -73,9 +74,9 @@ fn with_half(k: &mut ArrayVec<Candidate, 9>, c: u32, annex: bool)
 }
 
 /// SP, for U+0020 and, in CharacterSize, for U+3000.
-fn with_space(k: &mut ArrayVec<Candidate, 9>, c: u32, annex: bool)
-    requires { array_vec_len k.old < 9 }
-    ensures { Adds k.old.items (when (eqb c 0x20) (plain SP narrow) ++ cond annex [] (when (eqb c 0x3000) (plain SP wide))) 1 k.new.items }
+fn with_space(k: &mut Cands, c: u32, annex: bool)
+    requires { length (items k.old) < 9 }
+    ensures { Adds (items k.old) (when (eqb c 0x20) (plain SP narrow) ++ cond annex [] (when (eqb c 0x3000) (plain SP wide))) 1 (items k.new) }
 {
     if c == 0x20 {
         k.push(without_set(SP, Size::Narrow));
@@ -97,10 +98,10 @@ fn without_set(byte: u8, size: Size) -> Candidate
 }
 
 /// The candidates of a character that is neither newline nor mark.
-fn letters(c: u32, kanji: u16, symbol: u16, annex: bool) -> ArrayVec<Candidate, 9>
-    ensures { StandsFor (λ cells. letters cells annex c) c kanji symbol result.items }
+fn letters(c: u32, kanji: u16, symbol: u16, annex: bool) -> Cands
+    ensures { StandsFor (λ cells. letters cells annex c) c kanji symbol (items result) }
 {
-    let mut k = ArrayVec::new();
+    let mut k = Cands::new();
     with_code(&mut k, OneByteTable::Hiragana, c, 2, Size::Wide);
     with_code(&mut k, OneByteTable::Katakana, c, 3, Size::Wide);
     with_code(&mut k, OneByteTable::Alphanumeric, c, 1, Size::Narrow);
@@ -114,10 +115,10 @@ fn letters(c: u32, kanji: u16, symbol: u16, annex: bool) -> ArrayVec<Candidate, 
 
 /// The candidates of `c` in the order of trial, given its cells of the Kanji set and of the additional symbols, row × 256 +
 /// cell, 0 for none. A newline is APR, and a mark is coded by its own cell of the seven.
-pub fn candidates(c: u32, kanji: u16, symbol: u16, annex: bool) -> ArrayVec<Candidate, 9>
-    ensures { StandsForCandidates c kanji symbol annex result.items }
+pub fn candidates(c: u32, kanji: u16, symbol: u16, annex: bool) -> Cands
+    ensures { StandsForCandidates c kanji symbol annex (items result) }
 {
-    let mut k = ArrayVec::new();
+    let mut k = Cands::new();
     if c == 10 {
         k.push(without_set(APR, Size::Either));
         return k;
@@ -131,8 +132,8 @@ pub fn candidates(c: u32, kanji: u16, symbol: u16, annex: bool) -> ArrayVec<Cand
 }
 
 /// The bytes of the shortest one's code, 0 where there is none.
-pub fn shortest(candidates: &[Candidate]) -> usize
-    ensures { result ≡ shortest (cands_of candidates.now) }
+pub fn shortest<C: Coded>(candidates: &[C]) -> usize
+    ensures { result ≡ shortest (map C.stands_for candidates.now) }
 {
     if candidates.is_empty() {
         return 0;

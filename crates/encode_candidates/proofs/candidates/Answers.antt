@@ -15,7 +15,7 @@ pub returns-then-c-eq10 : goal.returns-then-c-eq10
 unfolding size_of
 returns-then-c-eq10 c =
     let z = c.args in
-    let a = likewise (one_more _ _ _ c.push.ensures.items) (ap (λ (y : Cand). y ∷ []) c.without_set.ensures) in
+    let a = likewise (one_more _ _ _ c.push.ensures) (ap (λ (y : Cand). y ∷ []) c.without_set.ensures) in
     record {
       few = omega (arith, a.count, ap length c.new-k.ensures);
       list = λ cells e f. alone c.new-k.ensures a ∙ at_newline cells z.annex z.c c.if-c-eq10.true;

@@ -3,4 +3,4 @@ use Rattle.encode_candidates.proofs.Lengths.{Twos}
 use Rattle.encode_candidates.proofs.shortest.Given as goal
 
 abbrev pub invariant-loop-candidate : goal.invariant-loop-candidate
-invariant-loop-candidate l = Twos l.candidates l.candidate-index
+invariant-loop-candidate g l = Twos g.C.Coded.stands_for l.candidates l.candidate-index

@@ -21,7 +21,7 @@ unfolding of_code cand
 returns-in-Some c =
     let e = sym c.one_byte_reverse.ensures ∙ ap code_value c.in-Some.is in
     let f = one_byte_found c.args.table c.args.c _ e in
-    likewise (one_more _ _ _ c.push.ensures.items)
+    likewise (one_more _ _ _ c.push.ensures)
     (ap (λ (y : Cand). y ∷ []) (byte_cand c.args.set _ (size_of c.args.size) c.requires.set_bound f.to)
     ∙ ap (of_code (set_of c.args.set) (size_of c.args.size)) (sym e))
 

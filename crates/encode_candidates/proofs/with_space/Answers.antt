@@ -32,13 +32,13 @@ no-space c annex n a m = rw (ne_eqb c 0x20 n, a, ne_eqb c 0x3000 m)
 pub returns-then-c-eq32 : goal.returns-then-c-eq32
 unfolding size_of
 returns-then-c-eq32 c =
-    likewise (one_more _ _ _ c.push.ensures.items)
+    likewise (one_more _ _ _ c.push.ensures)
     (ap (λ (y : Cand). y ∷ []) c.without_set.ensures ∙ narrow_space c.args.c c.args.annex c.if-c-eq32.true)
 
 pub returns-then-c-eq12288 : goal.returns-then-c-eq12288
 unfolding size_of
 returns-then-c-eq12288 c =
-    likewise (one_more _ _ _ c.push-then-c-eq12288.ensures.items)
+    likewise (one_more _ _ _ c.push-then-c-eq12288.ensures)
     (ap (λ (y : Cand). y ∷ []) c.without_set-then-c-eq12288.ensures ∙ wide_space c.args.c c.args.annex c.if-not-annex.true c.if-c-eq12288.true)
 
 pub returns-else-not-annex : goal.returns-else-not-annex
