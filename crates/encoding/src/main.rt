@@ -11,8 +11,8 @@ fn main(rt: HostRuntime) {
     let mut bytes = [0u8; 7282];
     let k = match read(&mut rt.stdin(), &mut bytes) {
         Ok(k) => k,
-        Err(why) => {
-            fail(&rt, b"standard input", why);
+        Err(failed) => {
+            fail(&rt, b"standard input", failed.why);
             return;
         }
     };

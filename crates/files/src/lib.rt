@@ -1,7 +1,7 @@
 // Standard input and the file `jis.tab`.
 #![tactic(auto)]
 
-ghost use Rattle.std.specs.Prelude.{◌≡◌, ◌≤◌, length, take, IfOk, IfSome};
+ghost use Rattle.std.specs.Prelude.{◌≡◌, ◌≤◌, length, take, IfSome, MatchResult};
 
 use std::fs::File;
 use std::io::{Error, ErrorKind, Read};
@@ -28,15 +28,25 @@ pub fn fail(rt: &(impl Eprint + AllocGlobal), what: &[u8], why: Error) {
     };
 }
 
+/// Why a read failed, and how many bytes stand at the start of the buffer by then.
+#[derive(Debug, Drop)]
+pub struct Failed {
+    pub len: usize,
+    pub why: Error,
+}
+
 /// Reads until the buffer is full or the input ends, in however many pieces it comes, and answers how many bytes stand at
-/// the start of the buffer.
-pub fn read(reader: &mut impl Read, buffer: &mut [u8]) -> Result<usize, Error>
-    ensures within { IfOk result (λ n. n ≤ length buffer.new) }
-    ensures prefix { IfOk result (λ n. n ≡ length (take n buffer.new)) }
+/// the start of the buffer, also where a read fails.
+pub fn read(reader: &mut impl Read, buffer: &mut [u8]) -> Result<usize, Failed>
+    ensures within { MatchResult result (λ n. n ≤ length buffer.new) (λ e. e.len ≤ length buffer.new) }
+    ensures prefix { MatchResult result (λ n. n ≡ length (take n buffer.new))
+        (λ e. e.len ≡ length (take e.len buffer.new)) }
 {
     let mut done = 0;
     while done < buffer.len() {
-        let n = reader.read(&mut buffer[done..])?;
+        let n = reader
+            .read(&mut buffer[done..])
+            .map_err(|why| Failed { len: done, why })?;
         if n == 0 {
             break;
         }
@@ -65,8 +75,8 @@ pub fn read_table(rt: &(impl Files + Eprint + AllocGlobal), buffer: &mut [u8]) -
     };
     match read(&mut opened, buffer) {
         Ok(n) => Some(n),
-        Err(why) => {
-            fail(rt, b"jis.tab", why);
+        Err(failed) => {
+            fail(rt, b"jis.tab", failed.why);
             Some(0)
         }
     }
