@@ -60,11 +60,10 @@ fn call<'a>(
         (λ g. graphic g 4 (below g 4) e (get_or given.entry.input.now i 0) (drop (i + 1) given.entry.input.now) at) d
         text.old issues.old result text.new issues.new }
 {
-    let macros = d.macros;
     let inputs = Inputs {
         cells: given.cells,
         input: given.input,
-        macros: &macros,
+        macros: &d.macros,
     };
     let p = Place {
         base: 0,
@@ -74,7 +73,7 @@ fn call<'a>(
     let core = decode_bodies::graphic(inputs, given.input[i], p, d.core, text, issues);
     Reached {
         at: i + 1,
-        decoder: Decoder { core, macros },
+        decoder: Decoder { core, ..d },
     }
 }
 
@@ -92,11 +91,10 @@ fn execute<'a>(
     ensures { Executed given.entry.cells.now given.entry.input.now (λ g. run_macro g 4 (below g 4) code at) d text.old issues.old
         result text.new issues.new }
 {
-    let macros = d.macros;
     let inputs = Inputs {
         cells: given.cells,
         input: given.input,
-        macros: &macros,
+        macros: &d.macros,
     };
     let p = Place {
         base: 0,
@@ -104,7 +102,7 @@ fn execute<'a>(
         left: MAX_MACRO_DEPTH,
     };
     let core = decode_bodies::run_macro(inputs, code, p, d.core, text, issues);
-    Decoder { core, macros }
+    Decoder { core, ..d }
 }
 
 /// MACRO 40 or 41 at the byte i, with a body of `len` bytes. Code, length and whether it runs are three arguments, as
@@ -152,14 +150,13 @@ fn macro_cmd<'a>(
         (λ g. macro_cmd g 4 (below g 4) (drop (i + 1) given.entry.input.now) i i) d text.old
         issues.old result text.new issues.new }
 {
-    let macros = d.macros;
     match decode_macros::read_command(given.input, i) {
         Command::Cut => {
             let r = decode_reports::truncated(given.input, i, i as u32, d.core, issues);
             let core = r.core;
             Reached {
                 at: i + r.used,
-                decoder: Decoder { core, macros },
+                decoder: Decoder { core, ..d },
             }
         }
         Command::Ends => Reached {
@@ -171,7 +168,7 @@ fn macro_cmd<'a>(
             let core = decode_characters::report(i as u32, kind, d.core, issues);
             Reached {
                 at: i + 2,
-                decoder: Decoder { core, macros },
+                decoder: Decoder { core, ..d },
             }
         }
         Command::Defines { code, len, runs } => {
