@@ -31,14 +31,22 @@ fn put_all(store: &mut [u32], at: usize, s: &[u32]) -> usize
 fn starts(macros: &Macros) -> [u32; 128]
     ensures { result ≡ map plus_one macros.now.starts }
 {
-    macros.starts.map(plus_one)
+    let mut numbers = [0; 128];
+    for code in 0..128 {
+        numbers[code] = plus_one(macros.starts[code]);
+    }
+    numbers
 }
 
 /// Their lengths.
 fn lens(macros: &Macros) -> [u32; 128]
     ensures { result ≡ macros.now.lens }
 {
-    macros.lens.map(u32::from)
+    let mut numbers = [0; 128];
+    for code in 0..128 {
+        numbers[code] = u32::from(macros.lens[code]);
+    }
+    numbers
 }
 
 /// The numbers before the marks.
