@@ -1,6 +1,6 @@
 -- Graphic sets and their designations, shifts, character sizes and initial states: document 01, "sets.rs", and ARIB STD-B24
 -- volume 1 part 2, Tables 7-1 (invocation), 7-2 (designation), 7-3 (sets and final bytes) and 7-16 (sizes).
-use Rattle.std.specs.Prelude.{ℕ, zero, suc, ◌+◌, ◌-◌, ◌%◌, Bool, true, false, cond, ◌&&◌, ◌||◌, not, List, [], ◌∷◌, ◌≡◌, eqb, ltb, leb, get_or, Some, None, Option as Answer}
+use Rattle.std.specs.Prelude.{ℕ, zero, suc, ◌+◌, ◌-◌, ◌%◌, Bool, true, false, cond, ◌&&◌, ◌||◌, not, List, [], ◌∷◌, ◌++◌, ◌≡◌, eqb, ltb, leb, length, get_or, replicate, Some, None, Option as Answer}
 use Rattle.std.proofs.Math.Option.{Option, none, some}
 use Rattle.control.specs.Codes.{ESC, LS0, LS1, SS2, SS3}
 use Rattle.sets.specs.declared.GraphicSet.{GraphicSet}
@@ -23,6 +23,7 @@ use Rattle.sets.specs.declared.GraphicSet.TheVariants.{
   Drcs,
   Macro,
 }
+use Rattle.sets.specs.declared.Sequence.TheInside.{Inside}
 use Rattle.sets.specs.declared.Shift.{Shift}
 use Rattle.sets.specs.declared.Shift.TheVariants.{Ls0, Ls1, Ls2, Ls3, Ls1r, Ls2r, Ls3r, Ss2, Ss3}
 use Rattle.sets.specs.declared.CharSize.{CharSize}
@@ -131,6 +132,11 @@ read_designation (a ∷ b ∷ c ∷ d ∷ e ∷ r) = none
 abbrev pub designated : Answer GraphicSet → Option ℕ
 designated (Some s) = some (set_number s)
 designated None = none
+
+-- the fields of a `Sequence` hold the bytes xs, at most five, and zeros after them
+pub record HoldsBytes (q : Inside) (xs : List ℕ) : Type 0 where
+  pub filled : q.bytes ≡ xs ++ replicate (5 - length xs) 0
+  pub counted : q.len ≡ length xs
 
 -- Table 7-1: the coded representation of a shift
 abbrev pub shift_bytes : Shift → List ℕ

@@ -21,8 +21,8 @@ ghost use Rattle.sets.specs.Sets.{
   initial_invocations,
 };
 
-use arrayvec::ArrayVec;
 use control::{ESC, LS0, LS1, SS2, SS3};
+use std::marker::Model;
 
 // A set has its number and its final byte, so `number` and `from_number` say which one is meant, as `From` would not.
 
@@ -186,32 +186,69 @@ impl GraphicSet {
 
     /// The escape sequence that designates the set to Gn, n modulo 4: a row of Table 7-2 for each form.
     #[tactic(auto, unfolding(crate::specs::Sets::designation, crate::specs::Sets::sequence))]
-    pub fn designation(self, n: u8) -> ArrayVec<u8, 5>
-        ensures { result.items ≡ designation (set_number self) (n % 4) }
+    pub fn designation(self, n: u8) -> Sequence
+        ensures { result ≡ designation (set_number self) (n % 4) }
     {
         let e = n % 4;
         let g = 0x28 + e;
         let f = self.final_byte();
         match (self.bytes_per_char(), self.is_drcs_form()) {
-            (2, true) => sequence(&[ESC, 0x24, g, 0x20, f]),
-            (2, false) if e == 0 => sequence(&[ESC, 0x24, f]),
-            (2, false) => sequence(&[ESC, 0x24, g, f]),
-            (_, true) => sequence(&[ESC, g, 0x20, f]),
-            (_, false) => sequence(&[ESC, g, f]),
+            (2, true) => Sequence {
+                bytes: [ESC, 0x24, g, 0x20, f],
+                len: 5,
+            },
+            (2, false) if e == 0 => Sequence {
+                bytes: [ESC, 0x24, f, 0, 0],
+                len: 3,
+            },
+            (2, false) => Sequence {
+                bytes: [ESC, 0x24, g, f, 0],
+                len: 4,
+            },
+            (_, true) => Sequence {
+                bytes: [ESC, g, 0x20, f, 0],
+                len: 4,
+            },
+            (_, false) => Sequence {
+                bytes: [ESC, g, f, 0, 0],
+                len: 3,
+            },
         }
     }
 }
 
-/// These bytes, at most five.
-fn sequence(bytes: &[u8]) -> ArrayVec<u8, 5>
-    requires { length bytes.now ≤ 5 }
-    ensures { result.items ≡ bytes.now }
-{
-    let mut sequence = ArrayVec::new();
-    for x in bytes {
-        sequence.push(*x);
+/// A short byte string: the first `len` of `bytes`, and zeros after them.
+#[derive(Clone, Copy, Debug, PartialEq, Eq)]
+pub struct Sequence {
+    bytes: [u8; 5],
+    len: usize,
+}
+
+impl Model for Sequence {
+    ghost use Rattle.std.specs.Prelude.{ℕ, ◌-◌, List, ◌++◌, length, take, replicate};
+    ghost use Rattle.std.proofs.Common.{sym};
+
+    ghost Value = { List ℕ };
+
+    ghost use Rattle.sets.specs.Sets.{HoldsBytes};
+
+    ghost view = { λ q. take q.len q.bytes };
+
+    ghost invariant = { λ q. HoldsBytes q (take q.len q.bytes) };
+
+    ghost inverse = { λ xs. record { bytes = xs ++ replicate (5 - length xs) 0; len = length xs } };
+
+    ghost inverse_ok = { λ q h i. record { bytes = sym h.filled i; len = sym h.counted i } };
+}
+
+impl Sequence {
+    /// The bytes, at most five.
+    pub fn as_slice(&self) -> &[u8]
+        ensures value { result.now ≡ self.now }
+        ensures fits { length result.now ≤ 5 }
+    {
+        &self.bytes[..self.len]
     }
-    sequence
 }
 
 /// The one-byte sets that are not in the DRCS form: Table 7-3.
