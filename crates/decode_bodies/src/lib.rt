@@ -40,17 +40,17 @@ pub struct Place {
 /// Runs a body one deeper, unless four are open or it charges too much.
 #[cycle(char1_graphic_run_run_body_run_macro_turn)]
 fn run_body<'a>(
-    inputs: Inputs<'a>,
+    inputs: &Inputs<'a>,
     body: &[u8],
     p: Place,
     s: Core,
     text: &mut [u8],
     issues: &mut [u32],
 ) -> Core
-    requires opens { Opens inputs.input.now inputs.macros.now p 1 s }
+    requires opens { Opens inputs.now.input.now inputs.now.macros.now p 1 s }
     requires body { Body body.now }
-    ensures { Ran inputs.entry.cells.now inputs.entry.input.now 1 (λ g. run_body g p.left (below g p.left) body.now p.base p.at)
-        (over s inputs.entry.macros.now) text.old issues.old (over result inputs.entry.macros.now) text.new
+    ensures { Ran inputs.now.cells.now inputs.now.input.now 1 (λ g. run_body g p.left (below g p.left) body.now p.base p.at)
+        (over s inputs.now.macros.now) text.old issues.old (over result inputs.now.macros.now) text.new
         issues.new }
 {
     if p.left == 0 {
@@ -76,17 +76,17 @@ fn run_body<'a>(
 /// A macro character: the body that was defined, else the built-in one. §7.1.1.6, Table 7-18.
 #[cycle(char1_graphic_run_run_body_run_macro_turn)]
 pub fn run_macro<'a>(
-    inputs: Inputs<'a>,
+    inputs: &Inputs<'a>,
     code: usize,
     p: Place,
     s: Core,
     text: &mut [u8],
     issues: &mut [u32],
 ) -> Core
-    requires opens { Opens inputs.input.now inputs.macros.now p 1 s }
+    requires opens { Opens inputs.now.input.now inputs.now.macros.now p 1 s }
     requires code_bound { code < 128 }
-    ensures { Ran inputs.entry.cells.now inputs.entry.input.now 1 (λ g. run_macro g p.left (below g p.left) code p.at)
-        (over s inputs.entry.macros.now) text.old issues.old (over result inputs.entry.macros.now) text.new
+    ensures { Ran inputs.now.cells.now inputs.now.input.now 1 (λ g. run_macro g p.left (below g p.left) code p.at)
+        (over s inputs.now.macros.now) text.old issues.old (over result inputs.now.macros.now) text.new
         issues.new }
 {
     let start = inputs.macros.starts[code] as usize;
@@ -117,17 +117,17 @@ pub fn run_macro<'a>(
 /// `decode_characters`.
 #[cycle(char1_graphic_run_run_body_run_macro_turn)]
 fn char1<'a>(
-    inputs: Inputs<'a>,
+    inputs: &Inputs<'a>,
     c: u8,
     p: Place,
     s: Core,
     text: &mut [u8],
     issues: &mut [u32],
 ) -> Core
-    requires opens { Opens inputs.input.now inputs.macros.now p 1 s }
+    requires opens { Opens inputs.now.input.now inputs.now.macros.now p 1 s }
     requires c_bound { c < 128 }
-    ensures { Ran inputs.entry.cells.now inputs.entry.input.now 1 (λ g. char1 g p.left (below g p.left) 15 c p.at)
-        (over s inputs.entry.macros.now) text.old issues.old (over result inputs.entry.macros.now) text.new
+    ensures { Ran inputs.now.cells.now inputs.now.input.now 1 (λ g. char1 g p.left (below g p.left) 15 c p.at)
+        (over s inputs.now.macros.now) text.old issues.old (over result inputs.now.macros.now) text.new
         issues.new }
 {
     run_macro(inputs, c as usize, p, s, text, issues)
@@ -136,17 +136,17 @@ fn char1<'a>(
 /// A character x through a code element that has the macro set, wherever it stands: a step of one byte.
 #[cycle(char1_graphic_run_run_body_run_macro_turn)]
 pub fn graphic<'a>(
-    inputs: Inputs<'a>,
+    inputs: &Inputs<'a>,
     x: u8,
     p: Place,
     s: Core,
     text: &mut [u8],
     issues: &mut [u32],
 ) -> Core
-    requires opens { Opens inputs.input.now inputs.macros.now p 1 s }
+    requires opens { Opens inputs.now.input.now inputs.now.macros.now p 1 s }
     ensures { (e : ℕ) (b : List ℕ) (i : ℕ) → get_or s.sets e 0 ≡ 15 → i < length b → get_or b i 0 ≡ x →
-        RanStep inputs.entry.cells.now inputs.entry.input.now b i (λ g. graphic g p.left (below g p.left) e x (drop (i + 1) b) p.at)
-        (over s inputs.entry.macros.now) text.old issues.old 1 (over result inputs.entry.macros.now)
+        RanStep inputs.now.cells.now inputs.now.input.now b i (λ g. graphic g p.left (below g p.left) e x (drop (i + 1) b) p.at)
+        (over s inputs.now.macros.now) text.old issues.old 1 (over result inputs.now.macros.now)
         text.new issues.new }
 {
     char1(inputs, x % 128, p, s, text, issues)
@@ -178,7 +178,7 @@ fn macro_cmd(b: &[u8], i: usize, at: u32, s: Core, issues: &mut [u32]) -> Steppe
 /// The step at which plain steps stopped. The stop is an argument beside f, since that of f may be none.
 #[cycle(char1_graphic_run_run_body_run_macro_turn)]
 fn turn<'a>(
-    inputs: Inputs<'a>,
+    inputs: &Inputs<'a>,
     b: &[u8],
     f: Stretched,
     stop: Stop,
@@ -186,11 +186,11 @@ fn turn<'a>(
     text: &mut [u8],
     issues: &mut [u32],
 ) -> Stepped
-    requires opens { Opens inputs.input.now inputs.macros.now p 1 f.core }
+    requires opens { Opens inputs.now.input.now inputs.now.macros.now p 1 f.core }
     requires body { Body b.now }
     requires stops_at { StopsAt stop b.now f.at f.core }
-    ensures { RanStep inputs.entry.cells.now inputs.entry.input.now b.now f.at (step_in b.now f.at p) (over f.core inputs.entry.macros.now)
-        text.old issues.old result.used (over result.core inputs.entry.macros.now) text.new issues.new }
+    ensures { RanStep inputs.now.cells.now inputs.now.input.now b.now f.at (step_in b.now f.at p) (over f.core inputs.now.macros.now)
+        text.old issues.old result.used (over result.core inputs.now.macros.now) text.new issues.new }
 {
     let i = f.at;
     let s = f.core;
@@ -210,17 +210,17 @@ fn turn<'a>(
 /// All steps of a body, up to an issue that ends the reading.
 #[cycle(char1_graphic_run_run_body_run_macro_turn)]
 fn run<'a>(
-    inputs: Inputs<'a>,
+    inputs: &Inputs<'a>,
     b: &[u8],
     p: Place,
     core: Core,
     text: &mut [u8],
     issues: &mut [u32],
 ) -> Core
-    requires opens { Opens inputs.input.now inputs.macros.now p (length b.now) core }
+    requires opens { Opens inputs.now.input.now inputs.now.macros.now p (length b.now) core }
     requires body { Body b.now }
-    ensures { Ran inputs.entry.cells.now inputs.entry.input.now (length b.now) (λ g. run g p.left b.now p.base (p.at + 1))
-        (over core inputs.entry.macros.now) text.old issues.old (over result inputs.entry.macros.now) text.new
+    ensures { Ran inputs.now.cells.now inputs.now.input.now (length b.now) (λ g. run g p.left b.now p.base (p.at + 1))
+        (over core inputs.now.macros.now) text.old issues.old (over result inputs.now.macros.now) text.new
         issues.new }
 {
     let mut s = core;

@@ -5,6 +5,7 @@ use mathlib.Core.Bool.{Bool, true, false, not, ◌||◌}
 use lib.Dec.{eqb}
 use mathlib.Core.List.{List, [], ◌∷◌}
 use native.Mathlib.Omega.{arith}
+use borrow.Author.Tests.{le-ltb, lt-ltb}
 use lib.ListN.{length, take, drop, get_or}
 use lib.Seq.{sets, length-sets, get_or-take}
 use Rattle.private_use.specs.PrivateUse.{is_private_use, private_use}
@@ -26,6 +27,11 @@ use Rattle.decode_letters.specs.declared.Invoked.{Invoked}
 use Rattle.decode_letters.specs.Promises.{Sees, Spells, Reads}
 use Rattle.decode_runs.specs.Promises.{Space, with_text, Plain, Letters, Behind, core_at, RunsTo, Begins}
 use Rattle.decode_runs.specs.declared.Reached.{Reached}
+
+-- a letter of two bytes
+pub yen_bytes : (c : ℕ) → 0x80 ≤ c → c < 0x800 → 2 ≡ length (utf8 c)
+unfolding utf8
+yen_bytes c l h = simp (le-ltb c 0x80 l, lt-ltb c 0x800 h)
 
 -- a const parameter as a clause has it
 abbrev pub flag : ℕ → Bool

@@ -34,6 +34,9 @@ struct Limit {
 /// The bytes of a character of the Kanji set.
 const KANJI: usize = 2;
 
+/// The bytes of text of the yen sign, the one letter of two.
+const YEN: usize = 2;
+
 /// Writes a character of three bytes where it fits, and answers how many it takes. Behind the end of the text it is counted.
 fn wide<const FITS: bool>(text: &mut [u8], at: usize, c: u32) -> usize
     requires fits { (FITS ≡ true → at + 3 ≤ length text.old) × (FITS ≡ false → length text.old ≤ at) }
@@ -61,7 +64,7 @@ fn ascii<const FITS: bool>(text: &mut [u8], at: usize, c: u32) -> usize
 }
 
 /// A run of ideographs, kana and ASCII before the byte `to`, of which none is private-use. It is written where it fits, and
-/// behind the end of the text it is counted, there with the yen sign, the one letter of two bytes.
+/// behind the end of the text it is counted, there with the yen sign.
 fn run_from<const FITS: bool>(
     cells: &[u16],
     b: &[u8],
@@ -99,7 +102,7 @@ fn run_from<const FITS: bool>(
         } else if FITS {
             break;
         } else {
-            m += utf8::width(letter);
+            m += YEN;
         }
         i += 1;
     }
@@ -252,7 +255,7 @@ fn runs_from(
 fn may_begin(out: Out, cells: usize) -> bool
     ensures { result ≡ true → Begins out cells }
 {
-    out.repeat == 0 && out.first == 0 && out.len == out.end && cells >= 8836
+    out.repeat as u64 + out.first as u64 == 0 && out.len == out.end && cells >= 8836
 }
 
 /// The settings that controls change.

@@ -38,22 +38,22 @@ graphic-returns t c =
 -- `run_macro`: the body that was defined, the built-in one, or none.
 
 pub run_macro-overflow_add-end : goal.run_macro-overflow_add-end
-run_macro-overflow_add-end t c = omega (arith, body_within c.args.inputs.macros.now c.args.code c.requires.opens.inside, c.requires.opens.input_short)
+run_macro-overflow_add-end t c = omega (arith, body_within c.args.inputs.now.macros.now c.args.code c.requires.opens.inside, c.requires.opens.input_short)
 
 pub run_macro-slice_bounds-run_body-count : goal.run_macro-slice_bounds-run_body-count
-run_macro-slice_bounds-run_body-count t c = omega (arith, body_within c.args.inputs.macros.now c.args.code c.requires.opens.inside, c.requires.opens.input_short)
+run_macro-slice_bounds-run_body-count t c = omega (arith, body_within c.args.inputs.now.macros.now c.args.code c.requires.opens.inside, c.requires.opens.input_short)
 
 pub run_macro-slice_bounds-run_body-start : goal.run_macro-slice_bounds-run_body-start
-run_macro-slice_bounds-run_body-start t c = omega (arith, body_within c.args.inputs.macros.now c.args.code c.requires.opens.inside, c.requires.opens.input_short)
+run_macro-slice_bounds-run_body-start t c = omega (arith, body_within c.args.inputs.now.macros.now c.args.code c.requires.opens.inside, c.requires.opens.input_short)
 
 pub run_macro-slice_bounds-run_body-end : goal.run_macro-slice_bounds-run_body-end
-run_macro-slice_bounds-run_body-end t c = omega (arith, body_within c.args.inputs.macros.now c.args.code c.requires.opens.inside, c.requires.opens.input_short)
+run_macro-slice_bounds-run_body-end t c = omega (arith, body_within c.args.inputs.now.macros.now c.args.code c.requires.opens.inside, c.requires.opens.input_short)
 
 pub run_macro-run_body-requires : goal.run_macro-run_body-requires
 run_macro-run_body-requires t c =
     let a = c.args in
     let opens = c.requires.opens in
-    let macros = a.inputs.macros.now in
+    let macros = a.inputs.now.macros.now in
     let base : get_or macros.starts a.code 0 ≤ 65535 = omega (arith, body_within macros a.code opens.inside, opens.input_short) in (
       omega arith,
       (opens_to _ base opens.at opens.ready opens, body_bare macros a.code opens.input_short opens.inside),
@@ -62,7 +62,7 @@ run_macro-run_body-requires t c =
 pub run_macro-returns-then-start-gt0 : goal.run_macro-returns-then-start-gt0
 run_macro-returns-then-start-gt0 t c =
     let a = c.args in
-    let macros = a.inputs.macros.now in
+    let macros = a.inputs.now.macros.now in
     let start = get_or macros.starts a.code 0 in
     let len = get_or macros.lens a.code 0 in
     let k : start + len - start ≡ len = omega arith in
@@ -96,18 +96,18 @@ run_macro-returns-then-n-gt0 t c =
     let a = c.args in
     let built = c.default_macro-n.ensures in
     let test = built_test built c.if-n-gt0.true in
-    let none : get_or a.inputs.macros.now.starts a.code 0 ≡ 0 = omega (arith, c.if-start-gt0.false) in
+    let none : get_or a.inputs.now.macros.now.starts a.code 0 ≡ 0 = omega (arith, c.if-start-gt0.false) in
     let at_code : List ℕ → ℕ = λ l. get_or l a.code 0 in
     ran_as (λ g y s h. macro_built_in g _ _ _ _ s (ap at_code h.starts ∙ none) test ∙ rw (← built.has test)) c.run_body-then-n-gt0.ensures
 
 pub run_macro-returns-else-n-gt0 : goal.run_macro-returns-else-n-gt0
 run_macro-returns-else-n-gt0 t c =
     let a = c.args in
-    let none : get_or a.inputs.macros.now.starts a.code 0 ≡ 0 = omega (arith, c.if-start-gt0.false) in
+    let none : get_or a.inputs.now.macros.now.starts a.code 0 ≡ 0 = omega (arith, c.if-start-gt0.false) in
     let empty : c.default_macro-n.result ≡ 0 = omega (arith, c.if-n-gt0.false) in
     let at_code : List ℕ → ℕ = λ l. get_or l a.code 0 in
     ran_as (λ g y s h. macro_none g _ _ _ _ s (ap at_code h.starts ∙ none) (built_none c.default_macro-n.ensures empty))
-    (did_ran c.requires.opens.ready.within (c.report.ensures a.inputs.cells.now _))
+    (did_ran c.requires.opens.ready.within (c.report.ensures a.inputs.now.cells.now _))
 
 -- `run_body`: MacroLimit, an empty body, or a body that runs one deeper.
 
@@ -118,12 +118,12 @@ run_body-report-requires t c =
 pub run_body-returns-then-p-eq0 : goal.run_body-returns-then-p-eq0
 run_body-returns-then-p-eq0 t c =
     ran_as (λ g y s h. body_deep g _ _ _ _ _ s c.if-p-eq0.true)
-    (did_ran c.requires.opens.ready.within (c.report.ensures c.args.inputs.cells.now _))
+    (did_ran c.requires.opens.ready.within (c.report.ensures c.args.inputs.now.cells.now _))
 
 pub run_body-overflow_add-after : goal.run_body-overflow_add-after
 run_body-overflow_add-after t c =
     let opens = c.requires.opens in
-    omega (arith, limit_is c.args.inputs.input.now, opens.ready.within, opens.input_short, c.requires.body.short)
+    omega (arith, limit_is c.args.inputs.now.input.now, opens.ready.within, opens.input_short, c.requires.body.short)
 
 pub run_body-overflow_mul-inputs : goal.run_body-overflow_mul-inputs
 run_body-overflow_mul-inputs t c =
@@ -140,9 +140,9 @@ run_body-report-requires-then-after-inputs t c =
 pub run_body-returns-then-after-inputs : goal.run_body-returns-then-after-inputs
 run_body-returns-then-after-inputs t c =
     let a = c.args in
-    let over : limit a.inputs.input.now < a.s.charged + length a.body.now = omega (arith, limit_is a.inputs.input.now, c.if-after-inputs.true) in
+    let over : limit a.inputs.now.input.now < a.s.charged + length a.body.now = omega (arith, limit_is a.inputs.now.input.now, c.if-after-inputs.true) in
     ran_as (λ g y s h. body_dear g _ _ _ _ _ s c.if-p-eq0.false (rw (h.charged, y) over))
-    (did_ran c.requires.opens.ready.within (c.report-then-after-inputs.ensures a.inputs.cells.now _))
+    (did_ran c.requires.opens.ready.within (c.report-then-after-inputs.ensures a.inputs.now.cells.now _))
 
 pub run_body-returns-then-body-eq0 : goal.run_body-returns-then-body-eq0
 run_body-returns-then-body-eq0 t c =
@@ -160,7 +160,7 @@ pub run_body-run-requires : goal.run_body-run-requires
 run_body-run-requires t c =
     let a = c.args in
     let opens = c.requires.opens in
-    let fits : a.s.charged + length a.body.now ≤ limit a.inputs.input.now = omega (arith, limit_is a.inputs.input.now, c.if-after-inputs.false) in (
+    let fits : a.s.charged + length a.body.now ≤ limit a.inputs.now.input.now = omega (arith, limit_is a.inputs.now.input.now, c.if-after-inputs.false) in (
       omega (arith, c.if-p-eq0.false),
       (opens_to (deeper a.p) opens.base opens.at (ready_body opens.ready fits) opens, c.requires.body),
     )
@@ -168,7 +168,7 @@ run_body-run-requires t c =
 pub run_body-returns : goal.run_body-returns
 run_body-returns t c =
     let a = c.args in
-    let fits : a.s.charged + length a.body.now ≤ limit a.inputs.input.now = omega (arith, limit_is a.inputs.input.now, c.if-after-inputs.false) in
+    let fits : a.s.charged + length a.body.now ≤ limit a.inputs.now.input.now = omega (arith, limit_is a.inputs.now.input.now, c.if-after-inputs.false) in
     ran_body _ _ _ a.p _ _ _ c.if-p-eq0.false fits c.run.ensures
 
 -- `turn`: a character, a shifted one, or MACRO.
@@ -207,7 +207,7 @@ turn-returns-in-Macro t c =
     let h = told _ _ _ c.in-Macro.is c.requires.stops_at in
     step_as (λ g s k. step_macro g _ _ _ _ _ _ s h.1)
     (took_ran (λ g. below g a.p.left) c.requires.opens.ready.within
-    (λ R. c.macro_cmd.ensures a.p.left R (a.p.base + a.f.at) a.inputs.cells.now _))
+    (λ R. c.macro_cmd.ensures a.p.left R (a.p.base + a.f.at) a.inputs.now.cells.now _))
 
 -- `run`: the loop goes along the body; the measure of the loop is what is left unread of it.
 

@@ -1,12 +1,12 @@
 -- `run_from` meets its contract. The invariant: what is spelt so far. Assumes nothing.
-use Prim.Native.Nat.{◌+◌, ◌*◌, ◌%◌, ◌≤◌, ◌<◌}
+use Prim.Native.Nat.{◌+◌, ◌%◌, ◌≤◌, ◌<◌}
 use mathlib.Core.Path.{◌≡◌, sym, ap, ◌∙◌}
 use native.Mathlib.Omega.{arith}
 use lib.ListN.{length, get_or}
 use Rattle.utf8.specs.Utf8.{utf8}
 use Rattle.lent.proofs.Stores.{sets_out}
-use Rattle.decode_letters.proofs.Spelling.{letter_of_lem, letter_plain, three_bytes, three_most, one_byte, spells_letter, kanji_two, spells_pair}
-use Rattle.decode_runs.proofs.Runs.{flag, space_sum, spelt_more}
+use Rattle.decode_letters.proofs.Spelling.{letter_of_lem, letter_plain, three_bytes, one_byte, spells_letter, kanji_two, spells_pair}
+use Rattle.decode_runs.proofs.Runs.{flag, yen_bytes, space_sum, spelt_more}
 use Rattle.decode_runs.proofs.run_from.Goals as goal
 use Rattle.decode_runs.proofs.run_from.Goals.{then-letter-ge2048, else-letter-ge2048+then-letter-lt128, else-letter-ge2048+else-letter-lt128+else-this-ne0}
 
@@ -44,9 +44,7 @@ overflow_add-m-then-letter-lt128 g c =
 
 pub overflow_add-m-else-this-ne0 : goal.overflow_add-m-else-this-ne0
 overflow_add-m-else-this-ne0 g c =
-    let e = c.in-Some-initial_at.ensures in
-    let small = (letter_of_lem c.args.sets.narrow e.0 (λ q. omega (arith, e.1, q)) (omega arith)).small in
-    omega (arith, space_sum c.loop-i.invariant.room (omega (arith, c.well_formed)), c.loop-i-test.true, c.width-m.ensures, three_most _ small)
+    omega (arith, space_sum c.loop-i.invariant.room (omega (arith, c.well_formed)), c.loop-i-test.true)
 
 pub loop-i-preserved : goal.loop-i-preserved
 loop-i-preserved g c =
@@ -75,11 +73,10 @@ loop-i-preserved g c =
           (spelt_more 1 l c.loop-i.invariant (omega arith) c.loop-i-test.true within spells plain m.count (omega (arith, m.count))
           (omega (arith, m.count, c.loop-i-test.true)) m.bytes)
       | else-letter-ge2048+else-letter-lt128+else-this-ne0 v ↦
-          let most : length (utf8 l) ≤ 3 * 1 = three_most l w.small in
-          let count = v.width-m.ensures in
+          let two : 2 ≡ length (utf8 l) = yen_bytes l v.if-letter-lt128.false v.if-letter-ge2048.false in
           let behind : length c.loop-i.text ≤ c.loop-i.m =
           omega (arith, c.loop-i.invariant.as_long, c.loop-i.invariant.room.behind (ap flag v.if-this-ne0.false)) in
           rw (v.m-is, v.text-is)
-          (spelt_more 1 l c.loop-i.invariant (omega arith) c.loop-i-test.true within spells plain count (omega (arith, most, count))
-          (omega (arith, most, count, c.loop-i-test.true)) (sym (sets_out (utf8 l) c.loop-i.text c.loop-i.m behind)))
+          (spelt_more 1 l c.loop-i.invariant (omega arith) c.loop-i-test.true within spells plain two (omega arith)
+          (omega (arith, c.loop-i-test.true)) (sym (sets_out (utf8 l) c.loop-i.text c.loop-i.m behind)))
     ]
