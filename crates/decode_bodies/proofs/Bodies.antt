@@ -1,6 +1,6 @@
 -- `run_body`, `run_macro`, `char1` and `graphic` of the definition, by case.
 use Prim.Native.Nat.{ℕ, suc, ◌+◌, ◌-◌, ◌%◌, ◌≤◌, ◌<◌}
-use mathlib.Core.Path.{◌≡◌, refl, sym, ap₂, ◌∙◌, subst}
+use mathlib.Core.Path.{◌≡◌, refl, sym, ◌∙◌, subst}
 use mathlib.Core.Bool.{Bool, true, false, ◌&&◌, false≢true}
 use mathlib.Core.List.{List}
 use native.Mathlib.Omega.{arith}
@@ -9,7 +9,6 @@ use borrow.Author.Tests.{eq-eqb, ne_eqb, lt-ltb, le-ltb, leb-true}
 use lib.Dec.{leb}
 use lib.ListN.{length, take, drop, get_or, length-drop}
 use lib.Seq.{length-take-le}
-use Rattle.std.proofs.Math.ListN.{get_or-map}
 use Rattle.sets.specs.Sets.{bytes_per_char}
 use Rattle.issues.specs.declared.IssueKind.TheVariants.{UndefinedMacro, MacroLimit}
 use Rattle.reading.specs.State.{Given, State, took, issue, charge}

@@ -70,7 +70,7 @@ fn call<'a>(
         at,
         left: MAX_MACRO_DEPTH,
     };
-    let core = decode_bodies::graphic(inputs, given.input[i], p, d.core, text, issues);
+    let core = decode_bodies::graphic(&inputs, given.input[i], p, d.core, text, issues);
     Reached {
         at: i + 1,
         decoder: Decoder { core, ..d },
@@ -101,7 +101,7 @@ fn execute<'a>(
         at,
         left: MAX_MACRO_DEPTH,
     };
-    let core = decode_bodies::run_macro(inputs, code, p, d.core, text, issues);
+    let core = decode_bodies::run_macro(&inputs, code, p, d.core, text, issues);
     Decoder { core, ..d }
 }
 
