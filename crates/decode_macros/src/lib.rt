@@ -10,7 +10,6 @@ ghost use Rattle.reading.specs.Macros.{Run, builtin_of, end_of, macro_cmd};
 ghost use Rattle.reading.specs.Macros.{definition as defines};
 ghost use Rattle.decode_macros.specs.Promises.{Built, commanded, Within};
 
-use control::MACRO;
 use sets::GraphicSet;
 
 /// Table 7-18, codes 60 to 6F: the sets that go to G0, G1 and G2, by 01's numbers. G3 is always the
@@ -87,12 +86,9 @@ pub fn body_end(b: &[u8], from: usize) -> usize
     requires { from ≤ length b.now }
     ensures { result ≡ from + end_of (drop from b.now) }
 {
-    for j in from..b.len() {
-        // the string is compared at a byte that begins it alone: at each byte it is half as dear again
-        if b[j] != MACRO {
-            continue;
-        }
-        let ends = b[j..].starts_with(b"\x95\x4F");
+    // two bytes are held against the string, and not all that are left: so the test of their number falls away
+    for j in from..b.len().saturating_sub(1) {
+        let ends = b[j..j + 2].starts_with(b"\x95\x4F");
         if ends {
             return j;
         }
