@@ -42,15 +42,15 @@ pub fn is_narrow(annex: bool, narrow: bool) -> bool
     annex || narrow
 }
 
-/// An alphanumeric, full-width unless narrow. Table 7-5.
+/// An alphanumeric, full-width unless narrow. Table 7-5. Whether it is narrow is tested first and not of
+/// what the table answers, so that the loop of a run tests each letter's Option once.
 pub fn alphanumeric_at(narrow: bool, c: u8) -> Option<u32>
     ensures { OneByteReads result (letter narrow 1 c) }
 {
-    let half = tables_onebyte::alphanumeric(c);
     if narrow {
-        return half;
+        return tables_onebyte::alphanumeric(c);
     }
-    half.map(tables_onebyte::fullwidth)
+    tables_onebyte::alphanumeric(c).map(tables_onebyte::fullwidth)
 }
 
 /// The character of a one-byte set other than mosaic, macro and DRCS. Tables 7-5, 7-6, 7-7 and 7-9.

@@ -1,7 +1,8 @@
 -- The functions that call each other through macro bodies meet their contracts together, over the measure that falls.
 use native.Mathlib.Omega.{arith}
 use Rattle.decode_bodies.proofs.Steps.{ran_as, step_as, one_step, did_ran, shift_step, took_ran}
-use Rattle.decode_bodies.proofs.Bodies.{char1_macro, graphic_macro, macro_defined, macro_built_in, macro_none, body_within, body_bare, built_test, built_none, built_body, deeper, body_deep, body_dear, ran_body, ran_empty}
+use Rattle.decode_bodies.proofs.Bodies.{char1_macro, graphic_macro, macro_defined, macro_built_in, macro_none, body_within, body_bare}
+use Rattle.decode_bodies.proofs.Bodies.{built_test, built_none, built_body, deeper, body_deep, body_dear, ran_body, ran_empty}
 use Prim.Native.Nat.{ℕ, ◌+◌, ◌-◌, ◌≤◌, ◌<◌}
 use mathlib.Core.Path.{◌≡◌, refl, sym, ap, ◌∙◌}
 use mathlib.Core.List.{List}

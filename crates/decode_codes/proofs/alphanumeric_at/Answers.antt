@@ -28,8 +28,8 @@ wide (Some v) None x e q = absurd q
 wide (Some v) (Some w) x e q = (ap fullwidth_of e.0 ∙ sym q, rw q (fullwidth_some v e.1))
 
 pub returns-then-narrow : goal.returns-then-narrow
-returns-then-narrow c = subst (OneByteReads c.alphanumeric-half.result) (letter_narrow _ _ c.if-narrow.true) c.alphanumeric-half.ensures
+returns-then-narrow c = subst (OneByteReads c.alphanumeric.result) (letter_narrow _ _ c.if-narrow.true) c.alphanumeric.ensures
 
 pub returns : goal.returns
 returns c = subst (OneByteReads c.map.result) (letter_wide _ _ c.if-narrow.false)
-    (wide c.alphanumeric-half.result c.map.result _ c.alphanumeric-half.ensures c.map.ensures.cases)
+    (wide c.alphanumeric-2.result c.map.result _ c.alphanumeric-2.ensures c.map.ensures.cases)
