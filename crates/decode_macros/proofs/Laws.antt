@@ -9,7 +9,7 @@ use native.Mathlib.Omega.{arith}
 use borrow.Author.Tests.{eq-eqb, ne_eqb, eqb-true, eqb-false, lt-ltb, le-ltb, le-leb, leb-true}
 use lib.Dec.{T, eqb, leb, eqb→eq}
 use lib.ListN.{length, take, drop, get_or, length-append, length-drop, drop_of_length-le}
-use lib.Seq.{sets, drop-drop, sets-eq, length-sets, length-take-le, take-append_seam, drop-append_seam, drop-cons}
+use lib.Seq.{sets, drop-drop, take_all, sets-eq, length-sets, length-take-le, take-append_seam, drop-append_seam, drop-cons}
 use Rattle.base.proofs.Table.{at}
 use Rattle.std.specs.List.{starts_with}
 use Rattle.lent.specs.Put.{Put}
@@ -157,24 +157,33 @@ end_cons x (y ∷ r) e f = end_one x y r (λ p q. go (sym f ∙ e) (eq-eqb 0x95 
     go : false ≡ (eqb 0x95 x && (eqb 0x4F y && true)) → eqb 0x95 x ≡ true → eqb 0x4F y ≡ true → ⊥
     go z p q = let w : false ≡ true = rw (p, q) at z in subst T (sym w) tt
 
--- the first two bytes decide
+-- all that stands from j on
+whole : (b : List ℕ) (j : ℕ) → take (length b - j) (drop j b) ≡ drop j b
+whole b j = take_all (length b - j) (drop j b) (omega (arith, length-drop j b))
+
+pub end_here : {r : Bool} (b : List ℕ) (j : ℕ) → r ≡ starts (take (length b - j) (drop j b)) → r ≡ true → end_of (drop j b) ≡ 0
+end_here b j e t = end_at (drop j b) (e ∙ ap starts (whole b j)) t
+
+pub end_past : {r : Bool} (b : List ℕ) (j : ℕ) → j < length b → r ≡ starts (take (length b - j) (drop j b)) → r ≡ false → end_of (drop j b) ≡ suc (end_of (drop (j + 1) b))
+end_past b j h e f = rw (drop_one b j h) (end_cons _ (drop (j + 1) b) (e ∙ ap starts (whole b j ∙ drop_one b j h)) f)
+
+-- the first two bytes decide, so that they alone may be held against it
 of_two : (l : List ℕ) → 2 ≤ length l → starts (take 2 l) ≡ starts l
 of_two [] h = absurd (omega arith)
 of_two (x ∷ []) h = absurd (omega arith)
 of_two (x ∷ (y ∷ r)) h = refl
 
-two_left : (b : List ℕ) (j : ℕ) → j + 1 < length b → 2 ≤ length (drop j b)
-two_left b j h = omega (arith, length-drop j b, h)
+for_all : {r : Bool} {n : ℕ} (b : List ℕ) (j : ℕ) → j + 1 < length b → n ≡ 2 → r ≡ starts (take n (drop j b)) → r ≡ starts (take (length b - j) (drop j b))
+for_all b j h q e =
+    let two : 2 ≤ length (drop j b) = omega (arith, length-drop j b, h) in
+    e ∙ (ap (λ (n : ℕ). starts (take n (drop j b))) q ∙ (of_two (drop j b) two ∙ ap starts (sym (whole b j))))
 
-pub end_here : {r : Bool} {n : ℕ} (b : List ℕ) (j : ℕ) → j + 1 < length b → n ≡ 2 → r ≡ starts (take n (drop j b)) → r ≡ true → end_of (drop j b) ≡ 0
-end_here b j h q e t = end_at (drop j b) (e ∙ ap (λ (n : ℕ). starts (take n (drop j b))) q ∙ of_two (drop j b) (two_left b j h)) t
+pub end_here_two : {r : Bool} {n : ℕ} (b : List ℕ) (j : ℕ) → j + 1 < length b → n ≡ 2 → r ≡ starts (take n (drop j b)) → r ≡ true → end_of (drop j b) ≡ 0
+end_here_two b j h q e t = end_here b j (for_all b j h q e) t
 
-pub end_past : {r : Bool} {n : ℕ} (b : List ℕ) (j : ℕ) → j + 1 < length b → n ≡ 2 → r ≡ starts (take n (drop j b)) → r ≡ false
+pub end_past_two : {r : Bool} {n : ℕ} (b : List ℕ) (j : ℕ) → j + 1 < length b → n ≡ 2 → r ≡ starts (take n (drop j b)) → r ≡ false
     → end_of (drop j b) ≡ suc (end_of (drop (j + 1) b))
-end_past b j h q e f =
-    let l : j < length b = omega arith in
-    let two = ap (λ (n : ℕ). starts (take n (drop j b))) q ∙ of_two (drop j b) (two_left b j h) in
-    rw (drop_one b j l) (end_cons _ (drop (j + 1) b) (e ∙ two ∙ ap starts (drop_one b j l)) f)
+end_past_two b j h q e f = end_past b j (omega arith) (for_all b j h q e) f
 
 end_last : (r : List ℕ) {n j : ℕ} → length r ≡ n - j → j ≤ n → n ≤ j + 1 → j + end_of r ≡ n
 unfolding end_of
