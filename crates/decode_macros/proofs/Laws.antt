@@ -173,10 +173,11 @@ of_two [] h = absurd (omega arith)
 of_two (x ∷ []) h = absurd (omega arith)
 of_two (x ∷ (y ∷ r)) h = refl
 
+two_left : (b : List ℕ) (j : ℕ) → j + 1 < length b → 2 ≤ length (drop j b)
+two_left b j h = omega (arith, length-drop j b, h)
+
 for_all : {r : Bool} {n : ℕ} (b : List ℕ) (j : ℕ) → j + 1 < length b → n ≡ 2 → r ≡ starts (take n (drop j b)) → r ≡ starts (take (length b - j) (drop j b))
-for_all b j h q e =
-    let two : 2 ≤ length (drop j b) = omega (arith, length-drop j b, h) in
-    e ∙ (ap (λ (n : ℕ). starts (take n (drop j b))) q ∙ (of_two (drop j b) two ∙ ap starts (sym (whole b j))))
+for_all b j h q e = e ∙ (ap (λ (n : ℕ). starts (take n (drop j b))) q ∙ (of_two (drop j b) (two_left b j h) ∙ ap starts (sym (whole b j))))
 
 pub end_here_two : {r : Bool} {n : ℕ} (b : List ℕ) (j : ℕ) → j + 1 < length b → n ≡ 2 → r ≡ starts (take n (drop j b)) → r ≡ true → end_of (drop j b) ≡ 0
 end_here_two b j h q e t = end_here b j (for_all b j h q e) t
